@@ -1,0 +1,57 @@
+-- The judge of a data field accepts exactly what keeps the rules.
+use Prim.Native.Nat.{ℕ, _+_, _≤_, _<_}
+use native.Mathlib.Omega.{arith}
+use mathlib.Core.Path.{_≡_, refl, sym, ap, ap₂, _∙_, subst}
+use mathlib.Core.Logic.{_↔_}
+use mathlib.Core.List.{List, []}
+use lib.ListN.{length}
+use lib.Dec.{eqb, leb}
+use borrow.Author.Tests.{le-leb, leb-true, eq-eqb, eqb-true}
+use Rattle.wire.specs.Numbers.{Bytes}
+use Rattle.wire.specs.Sequences.{joined, All}
+use Rattle.wire.specs.Envelope.{enclosed, codecOf, firstCount, lastCount, inner}
+use Rattle.wire.specs.Reading.{got}
+use Rattle.wire.specs.Answers.{Answer, accepted, refused, check, told, onAccepted}
+use Rattle.wire.proofs.Enclosed.{enclosed-parts, length-enclosed, codec-enclosed, first-enclosed, last-enclosed, inner-enclosed, bytes-inner, first-lt}
+use Rattle.wire.proofs.Accepting.{check-accepted, check-passed, onAccepted-accepted, onAccepted-passed, told-accepted, told-got}
+use Rattle.avl.specs.Codecs.{widthsOf, isDataCodec}
+use Rattle.avl.specs.Records.{AvlRecord, recordBytes, RecordRules}
+use Rattle.avl.specs.RecordReader.{allRecords}
+use Rattle.avl.specs.DataField.{AvlData, dataBytes, DataRules, readData}
+use Rattle.avl.proofs.RecordLaws.{all-sound, all-complete}
+
+data-sound : (longest : ℕ) (d : List ℕ) (a : AvlData) → Bytes d → 3 ≤ length d → readData longest d ≡ accepted a → DataRules longest a × (d ≡ dataBytes a)
+unfolding readData dataBytes
+data-sound longest d a h l e =
+    let c₁ = check-accepted (isDataCodec (codecOf d)) 6 _ e in
+    let c₂ = check-accepted (leb 1 (firstCount d)) 7 _ (c₁ .1) in
+    let c₃ = check-accepted (eqb (firstCount d) (lastCount d)) 7 _ (c₂ .1) in
+    let c₄ = onAccepted-accepted _ _ (c₃ .1) in
+    let c₅ = told-accepted _ (c₄ .1) in
+    let rs = c₄ .0 in
+    let w = all-sound longest (widthsOf (codecOf d)) (firstCount d) (inner d) (bytes-inner d h) .if-got _ _ (c₅ .1) in
+    let small : firstCount d < 256 = first-lt d h in
+    let positive : 1 ≤ firstCount d = leb-true _ _ (c₂ .0) in
+    let result : _≡_ {A = AvlData} (record { codec = codecOf d; records = rs }) a = cc in
+    subst (λ (x : AvlData). DataRules longest x × (d ≡ enclosed (x .codec) (length (x .records)) (joined (recordBytes (widthsOf (x .codec))) (x .records)))) result (
+      record { codecKnown = c₁ .0; someRecords = omega (arith, w .1); countFits = omega (arith, w .1); each = w .2 },
+      enclosed-parts d l (eqb-true _ _ (c₃ .0)) ∙ ap₂ (enclosed (codecOf d)) (sym (w .1)) (w .0),
+    )
+
+pub data-complete : (longest : ℕ) (a : AvlData) → DataRules longest a → readData longest (dataBytes a) ≡ accepted a
+unfolding readData dataBytes
+data-complete longest a h =
+    let w = widthsOf (a .codec) in
+    let n = length (a .records) in
+    let b = joined (recordBytes w) (a .records) in
+    simp (codec-enclosed (a .codec) n b, first-enclosed (a .codec) n b, last-enclosed (a .codec) n b, inner-enclosed (a .codec) n b)
+    (check-passed _ 6 _ (h .codecKnown)
+    ∙ check-passed _ 7 _ (le-leb 1 n (h .someRecords))
+    ∙ check-passed _ 7 _ (eq-eqb n n refl)
+    ∙ onAccepted-passed _ _ (told-got _ (all-complete longest w (a .records) (h .each))))
+
+-- the judge accepts exactly what keeps the rules
+pub data-exact : (longest : ℕ) (d : List ℕ) (a : AvlData) → Bytes d → 3 ≤ length d
+    → (readData longest d ≡ accepted a) ↔ (DataRules longest a × (d ≡ dataBytes a))
+data-exact longest d a h l =
+    (data-sound longest d a h l, λ k. ap (readData longest) (k .1) ∙ data-complete longest a (k .0))

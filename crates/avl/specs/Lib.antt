@@ -1,0 +1,4 @@
+pub mod Codecs
+pub mod Records
+pub mod RecordReader
+pub mod DataField

@@ -1,0 +1,111 @@
+-- The rules of a record and its IO elements: what one is, the bytes it is written as, and what it has to keep.
+use Prim.Native.Nat.{ℕ, zero, suc, _+_, _^_, _≤_, _<_}
+use mathlib.Core.Path.{_≡_}
+use mathlib.Core.List.{List, [], _∷_, _++_}
+use lib.ListN.{length, take}
+use lib.Dec.{eqb}
+use Rattle.wire.specs.Numbers.{Bytes, be, pick}
+use Rattle.wire.specs.Sequences.{fields, joined, All}
+use Rattle.avl.specs.declared.Widths.{Widths}
+use Rattle.avl.specs.Codecs.{kinds}
+
+-- an IO element; its kind is that of its group
+pub record Element : Type 0 where
+  pub id : ℕ
+  pub value : List ℕ
+
+-- an AVL record; coordinates and altitude as unsigned numbers of their bytes; a group of elements for each kind
+pub record AvlRecord : Type 0 where
+  pub timestamp : ℕ
+  pub priority : ℕ
+  pub longitude : ℕ
+  pub latitude : ℕ
+  pub altitude : ℕ
+  pub angle : ℕ
+  pub satellites : ℕ
+  pub speed : ℕ
+  pub event : ℕ
+  pub generation : ℕ
+  pub groups : List (List Element)
+
+-- how many elements the groups have
+unfoldable pub elementCount : List (List Element) → ℕ
+elementCount [] = 0
+elementCount (g ∷ gs) = length g + elementCount gs
+
+-- the total: the sum of the first four group counts
+unfoldable pub total : List (List Element) → ℕ
+total gs = elementCount (take 4 gs)
+
+-- ---- the bytes
+
+-- a variable value has its length before it
+unfoldable pub lengthBytes : ℕ → List ℕ → List ℕ
+lengthBytes kind value = pick (eqb kind 9) (be 2 (length value)) []
+
+unfoldable pub elementBytes : Widths → ℕ → Element → List ℕ
+elementBytes w kind e = fields (be (w .id) (e .id) ∷ lengthBytes kind (e .value) ∷ e .value ∷ [])
+
+unfoldable pub groupBytes : Widths → ℕ → List Element → List ℕ
+groupBytes w kind g = be (w .count) (length g) ++ joined (elementBytes w kind) g
+
+unfoldable pub groupsBytes : Widths → List ℕ → List (List Element) → List ℕ
+groupsBytes w [] gs = []
+groupsBytes w (k ∷ ks) [] = []
+groupsBytes w (k ∷ ks) (g ∷ gs) = groupBytes w k g ++ groupsBytes w ks gs
+
+unfoldable pub recordBytes : Widths → AvlRecord → List ℕ
+recordBytes w r =
+    fields
+    (be 8 (r .timestamp)
+    ∷ be 1 (r .priority)
+    ∷ be 4 (r .longitude)
+    ∷ be 4 (r .latitude)
+    ∷ be 2 (r .altitude)
+    ∷ be 2 (r .angle)
+    ∷ be 1 (r .satellites)
+    ∷ be 2 (r .speed)
+    ∷ be (w .event) (r .event)
+    ∷ be (w .generation) (r .generation)
+    ∷ be (w .count) (total (r .groups))
+    ∷ groupsBytes w (kinds w) (r .groups)
+    ∷ [])
+
+-- ---- the rules
+
+-- a fixed value has as many bytes as its kind says, a variable one as many as two bytes can count
+abbrev pub ValueSize : ℕ → ℕ → Type 0
+ValueSize kind size = pick (eqb kind 9) (size < 256 ^ 2) (size ≡ kind)
+
+pub record ElementRules (w : Widths) (kind : ℕ) (e : Element) : Type 0 where
+  pub idFits : e .id < 256 ^ w .id
+  pub size : ValueSize kind (length (e .value))
+  pub bytes : Bytes (e .value)
+
+pub record GroupRules (w : Widths) (kind : ℕ) (g : List Element) : Type 0 where
+  pub countFits : length g < 256 ^ w .count
+  pub each : All (ElementRules w kind) g
+
+-- a group for each kind, in order
+abbrev pub GroupsRules : Widths → List ℕ → List (List Element) → Type 0
+GroupsRules w [] [] = Unit {0}
+GroupsRules w [] (g ∷ gs) = ⊥
+GroupsRules w (k ∷ ks) [] = ⊥
+GroupsRules w (k ∷ ks) (g ∷ gs) = GroupRules w k g × GroupsRules w ks gs
+
+-- `longest` is the most bytes that a record may have
+pub record RecordRules (longest : ℕ) (w : Widths) (r : AvlRecord) : Type 0 where
+  pub timestampFits : r .timestamp < 256 ^ 8
+  pub priorityRange : r .priority ≤ 2
+  pub longitudeFits : r .longitude < 256 ^ 4
+  pub latitudeFits : r .latitude < 256 ^ 4
+  pub altitudeFits : r .altitude < 256 ^ 2
+  pub angleFits : r .angle < 256 ^ 2
+  pub satellitesFit : r .satellites < 256 ^ 1
+  pub speedFits : r .speed < 256 ^ 2
+  pub eventFits : r .event < 256 ^ w .event
+  pub generationFits : r .generation < 256 ^ w .generation
+  pub generationRange : r .generation ≤ 7
+  pub totalFits : total (r .groups) < 256 ^ w .count
+  pub groupsKeep : GroupsRules w (kinds w) (r .groups)
+  pub size : length (recordBytes w r) ≤ longest

@@ -1,0 +1,3 @@
+pub mod XorLaws
+pub mod CrcLaws
+pub mod BitLaws

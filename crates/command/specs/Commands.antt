@@ -1,0 +1,70 @@
+-- Command packets: codec, quantity 1, type, size, IMEI, text, quantity 1.
+use Prim.Native.Nat.{ℕ, _+_, _-_, _*_, _^_, _≤_, _<_}
+use mathlib.Core.Path.{_≡_}
+use mathlib.Core.Bool.{Bool, true, false}
+use mathlib.Core.List.{List, [], _∷_}
+use lib.ListN.{length}
+use lib.Dec.{eqb, leb}
+use Rattle.wire.specs.Numbers.{Bytes, be, pick}
+use Rattle.wire.specs.Sequences.{fields}
+use Rattle.wire.specs.Envelope.{enclosed, codecOf, firstCount, lastCount, inner}
+use Rattle.wire.specs.Reading.{Reader, _>>=_, _>>_, pure, here, require, number, bytes}
+use Rattle.wire.specs.Answers.{Answer, accepted, check, told, onAccepted}
+use Rattle.wire.specs.Imei.{packed, readPacked}
+use Rattle.frame.specs.Frame.{framed, FrameRules, unframe}
+use Rattle.command.specs.Layouts.{Layout, layoutOf, member}
+
+pub record Command : Type 0 where
+  pub codec : ℕ
+  pub type : ℕ
+  pub imei : ℕ
+  pub text : List ℕ
+
+-- ---- the rules
+
+unfoldable pub commandField : Layout → Command → List ℕ
+commandField l c =
+    enclosed (c .codec) 1 (fields (be 1 (c .type) ∷ be 4 (l .imeiWidth + length (c .text)) ∷ packed (l .imeiWidth) (c .imei) ∷ c .text ∷ []))
+
+pub record CommandRules (l : Layout) (c : Command) : Type 0 where
+  pub layout : layoutOf (c .codec) ≡ accepted l
+  pub typeAllowed : member (c .type) (l .types) ≡ true
+  pub imeiRange : c .imei < 10 ^ (2 * l .imeiWidth - 1)
+  pub textBytes : Bytes (c .text)
+  pub mismatchEmpty : c .type ≡ 0x11 → c .text ≡ []
+
+-- the packet `p` carries the command `c`
+pub record CommandPacket (largest : ℕ) (c : Command) (p : List ℕ) : Type 0 where
+  pub row : Layout
+  pub rules : CommandRules row c
+  pub frame : FrameRules largest (commandField row c)
+  pub whole : p ≡ framed (commandField row c)
+
+-- ---- the judge
+
+-- type (8, 13), size (8, 14), IMEI (15), text with type 11 (14)
+unfoldable pub commandBody : Layout → ℕ → Reader Command
+commandBody l space = do
+  typeAt ← here
+  type ← number 1
+  require (member type (l .types)) 13 typeAt
+  sizeAt ← here
+  size ← number 4
+  start ← here
+  require (eqb (start + size) space) 14 sizeAt
+  require (leb (l .imeiWidth) size) 14 sizeAt
+  imei ← readPacked (l .imeiWidth)
+  textAt ← here
+  text ← bytes (size - l .imeiWidth)
+  require (pick (eqb type 0x11) (eqb (length text) 0) true) 14 textAt
+  pure (record { codec = l .codec; type = type; imei = imei; text = text })
+
+-- 6, 7, then the walk
+unfoldable pub readField : List ℕ → Answer Command
+readField d =
+    onAccepted (layoutOf (codecOf d))
+    (λ l. check (eqb (firstCount d) 1) 7 (check (eqb (lastCount d) 1) 7 (told (commandBody l (length (inner d)) (inner d) 0))))
+
+-- 1 to 5, then 6, 7 and the walk
+unfoldable pub readCommand : ℕ → List ℕ → Answer Command
+readCommand largest p = onAccepted (unframe largest p) readField

@@ -1,0 +1,67 @@
+-- UDP datagrams: length, packet ID, unused byte, AVL packet ID, IMEI, then the data field as in TCP without a CRC.
+use Prim.Native.Nat.{ℕ, _+_, _^_, _≤_, _<_}
+use mathlib.Core.Path.{_≡_}
+use mathlib.Core.List.{List, [], _∷_}
+use lib.ListN.{length, drop}
+use lib.Dec.{eqb, leb}
+use Rattle.wire.specs.Numbers.{numberAt, be}
+use Rattle.wire.specs.Sequences.{fields}
+use Rattle.wire.specs.Reading.{Reader, _>>=_, pure, number}
+use Rattle.wire.specs.Answers.{Answer, accepted, check, told, onAccepted}
+use Rattle.wire.specs.Imei.{imeiText, readImei}
+use Rattle.avl.specs.DataField.{AvlData, dataBytes, DataRules, readData}
+
+pub record Header : Type 0 where
+  pub packetId : ℕ
+  pub unused : ℕ
+  pub avlId : ℕ
+  pub imei : ℕ
+
+pub record Datagram : Type 0 where
+  pub header : Header
+  pub payload : AvlData
+
+-- ---- the rules
+
+unfoldable pub headerBytes : Header → List ℕ
+headerBytes h = fields (be 2 (h .packetId) ∷ be 1 (h .unused) ∷ be 1 (h .avlId) ∷ imeiText (h .imei) ∷ [])
+
+-- all that follows the length
+unfoldable pub contentBytes : Datagram → List ℕ
+contentBytes g = fields (headerBytes (g .header) ∷ dataBytes (g .payload) ∷ [])
+
+unfoldable pub datagramBytes : Datagram → List ℕ
+datagramBytes g = fields (be 2 (length (contentBytes g)) ∷ contentBytes g ∷ [])
+
+pub record HeaderRules (h : Header) : Type 0 where
+  pub packetIdFits : h .packetId < 256 ^ 2
+  pub unusedFits : h .unused < 256 ^ 1
+  pub avlIdFits : h .avlId < 256 ^ 1
+  pub imeiRange : h .imei < 10 ^ 15
+
+-- the datagram `p` carries `g`; `largest` is the most bytes that it may have
+pub record UdpPacket (largest longest : ℕ) (g : Datagram) (p : List ℕ) : Type 0 where
+  pub header : HeaderRules (g .header)
+  pub payload : DataRules longest (g .payload)
+  pub most : length (datagramBytes g) ≤ largest
+  pub counted : length (contentBytes g) < 256 ^ 2
+  pub whole : p ≡ datagramBytes g
+
+-- ---- the judge: 1, 3, 4, 15, 6, 7, walk
+
+unfoldable pub readHeader : Reader Header
+readHeader = do
+  packetId ← number 2
+  unused ← number 1
+  avlId ← number 1
+  imei ← readImei
+  pure (record { packetId = packetId; unused = unused; avlId = avlId; imei = imei })
+
+unfoldable pub readDatagram : ℕ → ℕ → List ℕ → Answer Datagram
+readDatagram largest longest p =
+    check (leb 26 (length p)) 1
+    (check (leb (length p) largest) 3
+    (check (eqb (length p) (numberAt p 0 2 + 2)) 4
+    (onAccepted (told (readHeader p 2))
+    (λ h. onAccepted (readData longest (drop 23 p))
+    (λ a. accepted (record { header = h; payload = a }))))))

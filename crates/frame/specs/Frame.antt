@@ -1,0 +1,54 @@
+-- The TCP packet around a data field: four zero bytes, the field's length, the field, its CRC.
+use Prim.Native.Nat.{ℕ, _+_, _-_, _^_, _≤_, _<_}
+use mathlib.Core.Path.{_≡_}
+use mathlib.Core.List.{List, [], _∷_}
+use lib.ListN.{length, take, drop}
+use lib.Dec.{eqb, leb}
+use Rattle.wire.specs.Numbers.{Bytes, numberAt, be}
+use Rattle.wire.specs.Sequences.{fields}
+use Rattle.wire.specs.Answers.{Answer, accepted, check}
+use Rattle.checksum.specs.Crc.{crc}
+
+-- ---- the rules
+
+unfoldable pub framed : List ℕ → List ℕ
+framed d = fields (be 4 0 ∷ be 4 (length d) ∷ d ∷ be 4 (crc d) ∷ [])
+
+-- `largest` is the most bytes that the whole packet may have
+pub record FrameRules (largest : ℕ) (d : List ℕ) : Type 0 where
+  pub bytes : Bytes d
+  pub least : 3 ≤ length d
+  pub most : length d + 12 ≤ largest
+  pub counted : length d < 256 ^ 4
+
+-- some frame, whatever the limit on its length
+pub record IsFrame (p : List ℕ) : Type 0 where
+  pub field : List ℕ
+  pub bytes : Bytes field
+  pub counted : length field < 256 ^ 4
+  pub whole : p ≡ framed field
+
+-- ---- the judge
+
+-- the length field, and the data field that it gives
+unfoldable pub fieldLength : List ℕ → ℕ
+fieldLength p = numberAt p 4 4
+
+unfoldable pub fieldOf : List ℕ → List ℕ
+fieldOf p = take (fieldLength p) (drop 8 p)
+
+-- the data field, or 1 to 5
+unfoldable pub unframe : ℕ → List ℕ → Answer (List ℕ)
+unframe largest p =
+    check (leb 8 (length p)) 1
+    (check (eqb (numberAt p 0 4) 0) 2
+    (check (leb 3 (fieldLength p)) 3
+    (check (leb (fieldLength p + 12) largest) 3
+    (check (eqb (length p) (fieldLength p + 12)) 4
+    (check (eqb (numberAt p (8 + fieldLength p) 4) (crc (fieldOf p))) 5
+    (accepted (fieldOf p)))))))
+
+-- ---- what two packets are compared by
+
+unfoldable pub lastFour : List ℕ → List ℕ
+lastFour p = drop (length p - 4) p

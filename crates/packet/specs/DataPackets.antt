@@ -1,0 +1,34 @@
+-- TCP data packets: a frame around a data field, and its acknowledgement (the paper's receipt).
+use Prim.Native.Nat.{ℕ}
+use mathlib.Core.Path.{_≡_}
+use mathlib.Core.List.{List}
+use lib.ListN.{length}
+use Rattle.wire.specs.Numbers.{be}
+use Rattle.wire.specs.Answers.{Answer, accepted, refused, onAccepted}
+use Rattle.avl.specs.DataField.{AvlData, dataBytes, DataRules, readData}
+use Rattle.frame.specs.Frame.{framed, FrameRules, unframe}
+
+-- ---- the rules
+
+unfoldable pub packetBytes : AvlData → List ℕ
+packetBytes a = framed (dataBytes a)
+
+-- the packet `p` carries the records of `a`
+pub record DataPacket (largest longest : ℕ) (a : AvlData) (p : List ℕ) : Type 0 where
+  pub rules : DataRules longest a
+  pub frame : FrameRules largest (dataBytes a)
+  pub whole : p ≡ packetBytes a
+
+-- ---- the judge: 1 to 5, 6, 7, then the walk
+
+unfoldable pub readPacket : ℕ → ℕ → List ℕ → Answer AvlData
+readPacket largest longest p = onAccepted (unframe largest p) (readData longest)
+
+-- ---- the acknowledgement: the number of records in four bytes, 0 for a refused packet
+
+unfoldable pub acknowledged : Answer AvlData → ℕ
+acknowledged (accepted a) = length (a .records)
+acknowledged (refused number index) = 0
+
+unfoldable pub tcpAcknowledgement : ℕ → ℕ → List ℕ → List ℕ
+tcpAcknowledgement largest longest p = be 4 (acknowledged (readPacket largest longest p))

@@ -1,0 +1,35 @@
+-- What an accepted answer tells of the tests on the way.
+use Prim.Native.Nat.{ℕ}
+use native.Mathlib.Omega.{arith}
+use mathlib.Core.Path.{_≡_, refl, ap}
+use mathlib.Core.Bool.{Bool, true, false}
+use Rattle.wire.specs.Numbers.{pick}
+use Rattle.wire.specs.Reading.{Read, got, bad}
+use Rattle.wire.specs.Answers.{Answer, accepted, refused, onAccepted, told, check}
+
+pub check-accepted : {A : Type 0} (test : Bool) (number : ℕ) (rest : Answer A) {a : A} → check test number rest ≡ accepted a → (test ≡ true) × (rest ≡ accepted a)
+unfolding check
+check-accepted true number rest e = (refl, e)
+check-accepted false number rest e = absurd (let z : _≡_ {A = ℕ} 0 1 = cc in omega arith)
+
+pub check-passed : {A : Type 0} (test : Bool) (number : ℕ) (rest : Answer A) → test ≡ true → check test number rest ≡ rest
+unfolding check
+check-passed test number rest e = simp e
+
+pub onAccepted-accepted : {A B : Type 0} (r : Answer A) (f : A → Answer B) {b : B} → onAccepted r f ≡ accepted b → (a : A) × (r ≡ accepted a) × (f a ≡ accepted b)
+unfolding onAccepted
+onAccepted-accepted (accepted a) f e = (a, refl, e)
+onAccepted-accepted (refused n i) f e = absurd (let z : _≡_ {A = ℕ} 0 1 = cc in omega arith)
+
+pub onAccepted-passed : {A B : Type 0} (r : Answer A) (f : A → Answer B) {a : A} → r ≡ accepted a → onAccepted r f ≡ f a
+unfolding onAccepted
+onAccepted-passed r f e = ap (λ x. onAccepted x f) e
+
+pub told-accepted : {A : Type 0} (r : Read A) {a : A} → told r ≡ accepted a → (n : ℕ) × (r ≡ got a n)
+unfolding told
+told-accepted (got b n) e = (n, ap (λ x. got x n) (cc))
+told-accepted (bad x) e = absurd (let z : _≡_ {A = ℕ} 0 1 = cc in omega arith)
+
+pub told-got : {A : Type 0} (r : Read A) {a : A} {n : ℕ} → r ≡ got a n → told r ≡ accepted a
+unfolding told
+told-got r e = ap told e

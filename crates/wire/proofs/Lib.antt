@@ -1,0 +1,5 @@
+pub mod Widths
+pub mod Placed
+pub mod Enclosed
+pub mod Exactness
+pub mod Accepting

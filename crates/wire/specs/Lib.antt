@@ -1,0 +1,6 @@
+pub mod Numbers
+pub mod Sequences
+pub mod Envelope
+pub mod Reading
+pub mod Answers
+pub mod Imei
