@@ -9,7 +9,7 @@ use Rattle.wire.specs.Numbers.{Bytes, be, pick}
 use Rattle.wire.specs.Sequences.{fields}
 use Rattle.wire.specs.Envelope.{enclosed, codecOf, firstCount, lastCount, inner}
 use Rattle.wire.specs.Reading.{Reader, _>>=_, _>>_, pure, here, require, number, bytes}
-use Rattle.wire.specs.Answers.{Answer, accepted, check, told, onAccepted}
+use Rattle.wire.specs.Answers.{Answer, accepted, refused, check, told, onAccepted}
 use Rattle.wire.specs.Imei.{packed, readPacked}
 use Rattle.frame.specs.Frame.{framed, FrameRules, unframe}
 use Rattle.command.specs.Layouts.{Layout, layoutOf, member}
@@ -22,9 +22,12 @@ pub record Command : Type 0 where
 
 -- ---- the rules
 
+-- what stands between the quantities
+abbrev pub bodyBytes : Layout → Command → List ℕ
+bodyBytes l c = fields (be 1 (c .type) ∷ be 4 (l .imeiWidth + length (c .text)) ∷ packed (l .imeiWidth) (c .imei) ∷ c .text ∷ [])
+
 unfoldable pub commandField : Layout → Command → List ℕ
-commandField l c =
-    enclosed (c .codec) 1 (fields (be 1 (c .type) ∷ be 4 (l .imeiWidth + length (c .text)) ∷ packed (l .imeiWidth) (c .imei) ∷ c .text ∷ []))
+commandField l c = enclosed (c .codec) 1 (bodyBytes l c)
 
 pub record CommandRules (l : Layout) (c : Command) : Type 0 where
   pub layout : layoutOf (c .codec) ≡ accepted l
@@ -42,6 +45,10 @@ pub record CommandPacket (largest : ℕ) (c : Command) (p : List ℕ) : Type 0 w
 
 -- ---- the judge
 
+-- type 11 has no text
+abbrev pub mismatch : ℕ → List ℕ → Bool
+mismatch type text = pick (eqb type 0x11) (eqb (length text) 0) true
+
 -- type (8, 13), size (8, 14), IMEI (15), text with type 11 (14)
 unfoldable pub commandBody : Layout → ℕ → Reader Command
 commandBody l space = do
@@ -56,7 +63,7 @@ commandBody l space = do
   imei ← readPacked (l .imeiWidth)
   textAt ← here
   text ← bytes (size - l .imeiWidth)
-  require (pick (eqb type 0x11) (eqb (length text) 0) true) 14 textAt
+  require (mismatch type text) 14 textAt
   pure (record { codec = l .codec; type = type; imei = imei; text = text })
 
 -- 6, 7, then the walk
@@ -68,3 +75,24 @@ readField d =
 -- 1 to 5, then 6, 7 and the walk
 unfoldable pub readCommand : ℕ → List ℕ → Answer Command
 readCommand largest p = onAccepted (unframe largest p) readField
+
+-- ---- the result: codec, type, IMEI, and the text's length and offset from the input's start
+
+pub record CommandResult : Type 0 where
+  pub codec : ℕ
+  pub type : ℕ
+  pub imei : ℕ
+  pub textLength : ℕ
+  pub textOffset : ℕ
+
+unfoldable pub answerCommand : ℕ → List ℕ → Answer CommandResult
+answerCommand largest p =
+    onAccepted (readCommand largest p)
+    (λ c. onAccepted (layoutOf (c .codec))
+    (λ l. accepted
+    (record { codec = c .codec; type = c .type; imei = c .imei; textLength = length (c .text); textOffset = 15 + l .imeiWidth })))
+
+-- the view of the text, empty on every refusal
+unfoldable pub textView : Answer Command → List ℕ
+textView (accepted c) = c .text
+textView (refused number index) = []

@@ -1,2 +1,3 @@
 pub mod Layouts
 pub mod Commands
+pub mod Writing

@@ -65,3 +65,17 @@ readDatagram largest longest p =
     (onAccepted (told (readHeader p 2))
     (λ h. onAccepted (readData longest (drop 23 p))
     (λ a. accepted (record { header = h; payload = a }))))))
+
+-- ---- the acknowledgement (the paper's receipt): the length 5, the IDs and the unused byte as received, the number of records
+
+unfoldable pub udpAcknowledgement : ℕ → ℕ → List ℕ → Answer (List ℕ)
+udpAcknowledgement largest longest p =
+    onAccepted (readDatagram largest longest p)
+    (λ g. accepted
+    (fields
+    (be 2 5
+    ∷ be 2 (g .header .packetId)
+    ∷ be 1 (g .header .unused)
+    ∷ be 1 (g .header .avlId)
+    ∷ be 1 (length (g .payload .records))
+    ∷ [])))

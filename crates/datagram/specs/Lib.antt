@@ -1,2 +1,1 @@
-pub mod Login
 pub mod Datagrams

@@ -1,4 +1,4 @@
--- What an accepted answer tells of the tests on the way.
+-- Which way a test goes, and what an accepted answer tells of the tests on the way.
 use Prim.Native.Nat.{ℕ}
 use native.Mathlib.Omega.{arith}
 use mathlib.Core.Path.{_≡_, refl, ap}
@@ -6,6 +6,16 @@ use mathlib.Core.Bool.{Bool, true, false}
 use Rattle.wire.specs.Numbers.{pick}
 use Rattle.wire.specs.Reading.{Read, got, bad}
 use Rattle.wire.specs.Answers.{Answer, accepted, refused, onAccepted, told, check}
+
+pub pick-true : {A : Type 0} (test : Bool) (a b : A) → test ≡ true → pick test a b ≡ a
+pick-true test a b e = simp e
+
+pub pick-false : {A : Type 0} (test : Bool) (a b : A) → test ≡ false → pick test a b ≡ b
+pick-false test a b e = simp e
+
+pub both-true : (a b : Bool) → pick a b false ≡ true → (a ≡ true) × (b ≡ true)
+both-true true b e = (refl, e)
+both-true false b e = absurd (let z : _≡_ {A = ℕ} 0 1 = cc in omega arith)
 
 pub check-accepted : {A : Type 0} (test : Bool) (number : ℕ) (rest : Answer A) {a : A} → check test number rest ≡ accepted a → (test ≡ true) × (rest ≡ accepted a)
 unfolding check

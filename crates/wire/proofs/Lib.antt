@@ -3,3 +3,5 @@ pub mod Placed
 pub mod Enclosed
 pub mod Exactness
 pub mod Accepting
+pub mod ImeiText
+pub mod ImeiPacked

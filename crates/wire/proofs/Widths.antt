@@ -1,6 +1,6 @@
 -- The laws of numbers as bytes, each once for every width.
 use Prim.Native.Nat.{ℕ, zero, suc, _+_, _-_, _*_, _/_, _%_, _^_, _≤_, _<_}
-use native.Mathlib.Nat.{add-zero, zero-add, add-suc, add-assoc, div-add-mod', mod-lt, div-lt-iff-lt-mul, pow-zero, pow-suc, mul-one, mul-assoc, mul-comm, mul-le-mul-right, suc-add, le-refl, le-trans}
+use native.Mathlib.Nat.{add-zero, zero-add, add-suc, add-assoc, div-add-mod', mod-lt, mod-eq-of-lt, div-lt-iff-lt-mul, pow-zero, pow-suc, mul-one, mul-assoc, mul-comm, mul-le-mul-right, suc-add, le-refl, le-trans}
 use native.Mathlib.Numerals.{add-one}
 use native.Mathlib.Omega.{arith}
 use mathlib.Core.Path.{_≡_, refl, sym, ap, ap₂, _∙_, subst}
@@ -109,6 +109,10 @@ pub value-lt : (base : ℕ) (ds : List ℕ) → All (λ d. d < base) ds → valu
 value-lt base ds h = omega (arith, value-below base 0 ds h)
 
 -- ---- big-endian
+
+pub one-byte : (b : ℕ) → b < 256 → be 1 b ≡ b ∷ []
+unfolding digits
+one-byte b h = ap (λ (x : ℕ). x ∷ []) (mod-eq-of-lt h)
 
 pub bytes-be : (w n : ℕ) → Bytes (be w n)
 unfolding digits

@@ -3,4 +3,5 @@ pub mod Sequences
 pub mod Envelope
 pub mod Reading
 pub mod Answers
+pub mod Buffers
 pub mod Imei

@@ -1,0 +1,162 @@
+-- The judge of a command accepts exactly what keeps the rules, for every row of the table.
+use Prim.Native.Nat.{ℕ, _+_, _-_, _^_, _≤_, _<_}
+use native.Mathlib.Omega.{arith}
+use mathlib.Core.Path.{_≡_, refl, sym, ap, _∙_, subst}
+use mathlib.Core.Logic.{_↔_}
+use mathlib.Core.Bool.{Bool, true, false}
+use mathlib.Core.List.{List, [], _∷_}
+use lib.ListN.{length}
+use lib.Dec.{eqb, leb, lit<}
+use borrow.Author.Tests.{le-leb, leb-true, eq-eqb, eqb-true}
+use Rattle.wire.specs.Numbers.{Bytes, be, pick}
+use Rattle.wire.specs.Sequences.{All}
+use Rattle.wire.specs.Envelope.{codecOf, firstCount, lastCount, inner}
+use Rattle.wire.specs.Reading.{got, pure, here, require, number, bytes}
+use Rattle.wire.specs.Answers.{accepted}
+use Rattle.wire.specs.Imei.{packed, readPacked}
+use Rattle.wire.proofs.Placed.{between-join, between-split, between-moved, between-bytes, between-whole, whole-between}
+use Rattle.wire.proofs.Exactness.{Meets, meets-then, meets-next, meets-pure, meets-here, meets-require, then-got, here-got, require-got, number-exact, bytes-exact}
+use Rattle.wire.proofs.Enclosed.{enclosed-parts, length-enclosed, codec-enclosed, first-enclosed, last-enclosed, inner-enclosed, bytes-inner}
+use Rattle.wire.proofs.Accepting.{check-accepted, check-passed, onAccepted-accepted, onAccepted-passed, told-accepted, told-got}
+use Rattle.wire.proofs.ImeiPacked.{length-packed, packed-exact}
+use Rattle.command.specs.Layouts.{Layout, layouts, findLayout, layoutOf, member}
+use Rattle.command.specs.Commands.{Command, bodyBytes, mismatch, commandField, CommandRules, commandBody, readField}
+
+-- ---- the table
+
+-- a choice with this result was one of the two
+chosen : {A R : Type 0} (test : Bool) {x y z : A} → (test ≡ true → x ≡ z → R) → (y ≡ z → R) → pick test x y ≡ z → R
+chosen true f g e = f refl e
+chosen false f g e = g e
+
+-- what holds of every row holds of the row that is found, and its codec is the one looked for
+found-row : (P : Layout → Type 0) (codec : ℕ) (ls : List Layout) {l : Layout} → All P ls → findLayout codec ls ≡ accepted l → (l .codec ≡ codec) × P l
+unfolding findLayout
+found-row P codec [] h e = absurd (let z : _≡_ {A = ℕ} 0 1 = cc in omega arith)
+found-row P codec (m ∷ ls) {l} h e =
+    chosen (eqb codec (m .codec)) (λ t f. let same : m ≡ l = cc in subst (λ (x : Layout). (x .codec ≡ codec) × P x) same (sym (eqb-true _ _ t), h .0))
+    (found-row P codec ls (h .1)) e
+
+member-all : (P : ℕ → Type 0) (x : ℕ) (l : List ℕ) → All P l → member x l ≡ true → P x
+member-all P x [] h e = absurd (let z : _≡_ {A = ℕ} 0 1 = cc in omega arith)
+member-all P x (y ∷ l) h e = chosen (eqb x y) (λ t f. subst P (sym (eqb-true x y t)) (h .0)) (member-all P x l (h .1)) e
+
+types-fit : All (λ l. All (λ t. t < 256 ^ 1) (l .types)) layouts
+unfolding layouts
+types-fit = search (lit<, tt)
+
+module _ (codec : ℕ) {l : Layout} (row : layoutOf codec ≡ accepted l) where
+  pub layout-codec : l .codec ≡ codec
+  unfolding layoutOf
+  layout-codec = found-row _ codec layouts types-fit row .0
+
+  pub type-fits : (type : ℕ) → member type (l .types) ≡ true → type < 256 ^ 1
+  unfolding layoutOf
+  type-fits type e = member-all _ type (l .types) (found-row _ codec layouts types-fit row .1) e
+
+  -- a codec has one row
+  pub layout-unique : {m : Layout} → layoutOf codec ≡ accepted m → l ≡ m
+  layout-unique other = cc
+
+-- ---- the body
+
+empty : (text : List ℕ) → length text ≡ 0 → text ≡ []
+empty [] e = refl
+empty (b ∷ text) e = absurd (omega arith)
+
+mismatch-sound : (type : ℕ) (text : List ℕ) → mismatch type text ≡ true → type ≡ 0x11 → text ≡ []
+mismatch-sound type text e t = empty text (eqb-true (length text) 0 (simp (eq-eqb type 0x11 t) at e))
+
+mismatch-complete : (type : ℕ) (text : List ℕ) → (type ≡ 0x11 → text ≡ []) → mismatch type text ≡ true
+mismatch-complete type text h = go (eqb type 0x11) refl
+  where
+    go : (b : Bool) → eqb type 0x11 ≡ b → pick b (eqb (length text) 0) true ≡ true
+    go true e = ap (λ (t : List ℕ). eqb (length t) 0) (h (eqb-true type 0x11 e))
+    go false e = refl
+
+pub body-sound : (l : Layout) (s : List ℕ) → layoutOf (l .codec) ≡ accepted l → Bytes s
+    → Meets (commandBody l (length s) s 0) (λ c next. (c .codec ≡ l .codec) × CommandRules l c × (s ≡ bodyBytes l c))
+unfolding commandBody
+body-sound l s row h =
+    meets-then here _ s 0 (meets-here s 0) (λ typeAt n₀ k₀.
+    meets-then (number 1) _ s n₀ (number-exact 1 .sound s n₀ h (omega (arith, k₀ .1))) (λ type n₁ k₁.
+    meets-next (require (member type (l .types)) 13 typeAt) _ s n₁ (meets-require _ _ _ s n₁) (λ u₂ n₂ k₂.
+    meets-then here _ s n₂ (meets-here s n₂) (λ sizeAt n₃ k₃.
+    meets-then (number 4) _ s n₃ (number-exact 4 .sound s n₃ h (omega (arith, k₁ .0 .inside, k₂ .1, k₃ .1))) (λ size n₄ k₄.
+    meets-then here _ s n₄ (meets-here s n₄) (λ start n₅ k₅.
+    meets-next (require (eqb (start + size) (length s)) 14 sizeAt) _ s n₅ (meets-require _ _ _ s n₅) (λ u₆ n₆ k₆.
+    meets-next (require (leb (l .imeiWidth) size) 14 sizeAt) _ s n₆ (meets-require _ _ _ s n₆) (λ u₇ n₇ k₇.
+    meets-then (readPacked (l .imeiWidth)) _ s n₇ (packed-exact (l .imeiWidth) .sound s n₇ h (omega (arith, k₄ .0 .inside, k₅ .1, k₆ .1, k₇ .1))) (λ imei n₈ k₈.
+    meets-then here _ s n₈ (meets-here s n₈) (λ textAt n₉ k₉.
+    meets-then (bytes (size - l .imeiWidth)) _ s n₉ (bytes-exact (size - l .imeiWidth) .sound s n₉ h (omega (arith, k₈ .0 .inside, k₉ .1))) (λ text n₁₀ k₁₀.
+    meets-next (require (mismatch type text) 14 textAt) _ s n₁₀ (meets-require _ _ _ s n₁₀) (λ u₁₁ n₁₁ k₁₁.
+    let counted : size ≡ l .imeiWidth + length text = omega (arith, leb-true (l .imeiWidth) size (k₇ .0), k₁₀ .1 .0) in
+    let end : n₁₀ ≡ length s =
+    omega (arith, eqb-true (start + size) (length s) (k₆ .0), k₅, k₆ .1, k₇ .1, k₉ .1, k₈ .0 .size, k₁₀ .0 .size, length-packed (l .imeiWidth) imei) in
+    meets-pure _ s n₁₁ (
+      refl,
+      record {
+        layout = row;
+        typeAllowed = k₂ .0;
+        imeiRange = k₈ .1;
+        textBytes = k₁₀ .1 .1;
+        mismatchEmpty = mismatch-sound type text (k₁₁ .0);
+      },
+      whole-between
+          (between-join (between-moved (k₀ .1) refl (k₁ .0))
+          (between-join (between-moved (k₃ .1 ∙ k₂ .1) refl (between-bytes (ap (be 4) counted) (k₄ .0)))
+          (between-join (between-moved (k₇ .1 ∙ k₆ .1 ∙ k₅ .1) refl (k₈ .0)) (between-moved (k₉ .1) end (k₁₀ .0))))),
+    )))))))))))))
+
+pub body-complete : (l : Layout) (c : Command) → CommandRules l c → length (bodyBytes l c) < 256 ^ 4
+    → commandBody l (length (bodyBytes l c)) (bodyBytes l c) 0 ≡ got c (length (bodyBytes l c))
+unfolding commandBody pure
+body-complete l c h fits =
+    let s = bodyBytes l c in
+    let n = length s in
+    let w = l .imeiWidth in
+    let size = w + length (c .text) in
+    let f₁ = between-split (be 1 (c .type)) (between-whole s) in
+    let f₂ = between-split (be 4 size) (f₁ .1) in
+    let f₃ = between-split (packed w (c .imei)) (f₂ .1) in
+    let start = 0 + length (be 1 (c .type)) + length (be 4 size) in
+    let filled : start + size ≡ n = omega (arith, f₃ .1 .size, length-packed w (c .imei)) in
+    here-got _ s 0
+    ∙ then-got (number 1) _ s 0 (number-exact 1 .complete s 0 _ _ (type-fits (c .codec) (h .layout) (c .type) (h .typeAllowed)) (f₁ .0))
+    ∙ require-got (member (c .type) (l .types)) 13 0 _ s _ (h .typeAllowed)
+    ∙ here-got _ s _
+    ∙ then-got (number 4) _ s _ (number-exact 4 .complete s _ size _ (omega arith) (f₂ .0))
+    ∙ here-got _ s _
+    ∙ require-got (eqb (start + size) n) 14 _ _ s _ (eq-eqb (start + size) n filled)
+    ∙ require-got (leb w size) 14 _ _ s _ (le-leb w size (omega arith))
+    ∙ then-got (readPacked w) _ s _ (packed-exact w .complete s _ (c .imei) _ (h .imeiRange) (f₃ .0))
+    ∙ here-got _ s _
+    ∙ then-got (bytes (size - w)) _ s _ (bytes-exact (size - w) .complete s _ (c .text) n (omega arith, h .textBytes) (f₃ .1))
+    ∙ require-got (mismatch (c .type) (c .text)) 14 _ _ s n (mismatch-complete (c .type) (c .text) (h .mismatchEmpty))
+    ∙ ap (λ (x : ℕ). got (record { codec = x; type = c .type; imei = c .imei; text = c .text }) n) (layout-codec (c .codec) (h .layout))
+
+-- ---- the data field
+
+pub field-sound : (d : List ℕ) (c : Command) → Bytes d → 3 ≤ length d → readField d ≡ accepted c → (l : Layout) × (CommandRules l c × (d ≡ commandField l c))
+unfolding readField commandField
+field-sound d c h long e =
+    let found = onAccepted-accepted (layoutOf (codecOf d)) _ e in
+    let l = found .0 in
+    let first = check-accepted (eqb (firstCount d) 1) 7 _ (found .2) in
+    let last = check-accepted (eqb (lastCount d) 1) 7 _ (first .1) in
+    let walk = told-accepted _ (last .1) in
+    let same : l .codec ≡ codecOf d = layout-codec (codecOf d) (found .1) in
+    let body = body-sound l (inner d) (ap layoutOf same ∙ found .1) (bytes-inner d h) .if-got c (walk .0) (walk .1) in
+    let one : firstCount d ≡ 1 = eqb-true _ _ (first .0) in
+    let again : lastCount d ≡ 1 = eqb-true _ _ (last .0) in
+    (l, (body .1, enclosed-parts d long (one ∙ sym again) ∙ (cc)))
+
+pub field-complete : (l : Layout) (c : Command) → CommandRules l c → length (commandField l c) < 256 ^ 4 → readField (commandField l c) ≡ accepted c
+unfolding readField commandField
+field-complete l c h fits =
+    let b = bodyBytes l c in
+    simp (codec-enclosed (c .codec) 1 b, first-enclosed (c .codec) 1 b, last-enclosed (c .codec) 1 b, inner-enclosed (c .codec) 1 b)
+    (onAccepted-passed _ _ (h .layout)
+    ∙ check-passed _ 7 _ refl
+    ∙ check-passed _ 7 _ refl
+    ∙ told-got _ (body-complete l c h (omega (arith, length-enclosed (c .codec) 1 b))))

@@ -1,0 +1,35 @@
+-- The judge of a command packet accepts exactly what keeps the rules, in one way only.
+use Prim.Native.Nat.{ℕ}
+use mathlib.Core.Path.{_≡_, ap, _∙_}
+use mathlib.Core.Logic.{_↔_}
+use mathlib.Core.List.{List}
+use Rattle.wire.specs.Numbers.{Bytes}
+use Rattle.wire.specs.Answers.{accepted, onAccepted}
+use Rattle.wire.proofs.Accepting.{onAccepted-accepted, onAccepted-passed}
+use Rattle.frame.specs.Frame.{framed, FrameRules, unframe}
+use Rattle.frame.proofs.FrameLaws.{frame-exact, frame-complete}
+use Rattle.command.specs.Commands.{Command, commandField, CommandRules, CommandPacket, readField, readCommand}
+use Rattle.command.proofs.CommandLaws.{field-sound, field-complete}
+
+command-sound : (largest : ℕ) (p : List ℕ) (c : Command) → Bytes p → readCommand largest p ≡ accepted c → CommandPacket largest c p
+unfolding readCommand
+command-sound largest p c h e =
+    let i = onAccepted-accepted (unframe largest p) readField e in
+    let f = frame-exact largest p (i .0) h .0 (i .1) in
+    let k = field-sound (i .0) c (f .0 .bytes) (f .0 .least) (i .2) in
+    record { row = k .0; rules = k .1 .0; frame = rw (k .1 .1) at (f .0); whole = f .1 ∙ ap framed (k .1 .1) }
+
+pub command-complete : (largest : ℕ) (p : List ℕ) (c : Command) → CommandPacket largest c p → readCommand largest p ≡ accepted c
+unfolding readCommand
+command-complete largest p c k =
+    onAccepted-passed (unframe largest p) readField (ap (unframe largest) (k .whole) ∙ frame-complete largest (commandField (k .row) c) (k .frame))
+    ∙ field-complete (k .row) c (k .rules) (k .frame .counted)
+
+pub command-exact : (largest : ℕ) (p : List ℕ) (c : Command) → Bytes p → (readCommand largest p ≡ accepted c) ↔ CommandPacket largest c p
+command-exact largest p c h = (command-sound largest p c h, command-complete largest p c)
+
+pub command-unique : (largest : ℕ) (p : List ℕ) (c e : Command) → CommandPacket largest c p → CommandPacket largest e p → c ≡ e
+command-unique largest p c e f g =
+    let one = command-complete largest p c f in
+    let other = command-complete largest p e g in
+    cc

@@ -1,0 +1,33 @@
+-- Writing a command packet from its codec, type, IMEI digits and text.
+use Prim.Native.Nat.{ℕ, _+_, _-_, _*_}
+use mathlib.Core.List.{List}
+use lib.ListN.{length}
+use lib.Dec.{eqb, leb}
+use Rattle.wire.specs.Numbers.{valueFrom}
+use Rattle.wire.specs.Reading.{repeat}
+use Rattle.wire.specs.Answers.{Answer, accepted, check, told, onAccepted}
+use Rattle.wire.specs.Imei.{textDigit}
+use Rattle.frame.specs.Frame.{framed}
+use Rattle.command.specs.Layouts.{Layout, layoutOf, member}
+use Rattle.command.specs.Commands.{Command, commandField, mismatch}
+
+-- the IMEI as the caller gives it: nothing where the codec has none, else 15 ASCII digits
+unfoldable pub givenImei : Layout → List ℕ → Answer ℕ
+givenImei l s =
+    check (eqb (length s) (2 * l .imeiWidth - 1)) 15
+    (onAccepted (told (repeat (length s) textDigit s 0)) (λ ds. accepted (valueFrom 10 0 ds)))
+
+-- 14: the packet is too long, or type 11 has text
+unfoldable pub packetOf : ℕ → Layout → Command → Answer (List ℕ)
+packetOf largest l c =
+    check (mismatch (c .type) (c .text)) 14
+    (check (leb (length (commandField l c) + 12) largest) 14
+    (accepted (framed (commandField l c))))
+
+-- the packet's bytes, or 6, 13, 15, 14
+unfoldable pub commandBytes : ℕ → ℕ → ℕ → List ℕ → List ℕ → Answer (List ℕ)
+commandBytes largest codec type imei text =
+    onAccepted (layoutOf codec)
+    (λ l. check (member type (l .types)) 13
+    (onAccepted (givenImei l imei)
+    (λ n. packetOf largest l (record { codec = codec; type = type; imei = n; text = text }))))

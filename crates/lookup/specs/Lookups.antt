@@ -1,0 +1,92 @@
+-- Looking values up: by record and element number, by record and ID, and the last known value of an ID.
+use Prim.Native.Nat.{ℕ, zero, suc, _+_, _-_}
+use mathlib.Core.Bool.{Bool, true, false}
+use mathlib.Core.List.{List, [], _∷_}
+use lib.ListN.{length}
+use lib.Dec.{eqb}
+use Rattle.wire.specs.Numbers.{pick}
+use Rattle.wire.specs.Answers.{Answer, accepted, refused, onAccepted}
+use Rattle.avl.specs.Codecs.{widthsOf}
+use Rattle.avl.specs.DataField.{AvlData}
+use Rattle.packet.specs.DataPackets.{readPacket}
+use Rattle.datagram.specs.Datagrams.{readDatagram}
+use Rattle.lookup.specs.Elements.{Located, Placed, elements, placeRecords}
+use Rattle.lookup.specs.Results.{RecordResult, recordResult}
+
+-- the n-th of a list, from 0, else 16
+unfoldable pub nth : {A : Type 0} → ℕ → List A → Answer A
+nth n [] = refused 16 0
+nth zero (a ∷ l) = accepted a
+nth (suc n) (a ∷ l) = nth n l
+
+-- the first with this ID, else 16
+unfoldable pub firstWith : ℕ → List Located → Answer Located
+firstWith id [] = refused 16 0
+firstWith id (e ∷ l) = pick (eqb (e .id) id) (accepted e) (firstWith id l)
+
+-- ---- what is looked in: accepted data, and the offset of its first record in the input
+
+pub record Source : Type 0 where
+  pub content : AvlData
+  pub base : ℕ
+
+unfoldable pub tcpSource : ℕ → ℕ → List ℕ → Answer Source
+tcpSource largest longest p = onAccepted (readPacket largest longest p) (λ a. accepted (record { content = a; base = 10 }))
+
+unfoldable pub udpSource : ℕ → ℕ → List ℕ → Answer Source
+udpSource largest longest p = onAccepted (readDatagram largest longest p) (λ g. accepted (record { content = g .payload; base = 25 }))
+
+unfoldable pub placedRecord : Source → ℕ → Answer Placed
+placedRecord x n = nth n (placeRecords (widthsOf (x .content .codec)) (x .base) (x .content .records))
+
+unfoldable pub recordByNumber : Answer Source → ℕ → Answer RecordResult
+recordByNumber source n = onAccepted source (λ x. onAccepted (placedRecord x n) (λ r. accepted (recordResult (r .content))))
+
+-- ---- a value: its ID, kind, offset from the input's start, and its bytes
+
+pub record Found : Type 0 where
+  pub id : ℕ
+  pub kind : ℕ
+  pub offset : ℕ
+  pub value : List ℕ
+
+unfoldable pub foundIn : Placed → Located → Found
+foundIn r e = record { id = e .id; kind = e .kind; offset = r .start + e .place; value = e .value }
+
+-- a value of a record, chosen from the record's elements
+unfoldable pub valueIn : (List Located → Answer Located) → Source → ℕ → Answer Found
+valueIn choose x n =
+    onAccepted (placedRecord x n)
+    (λ r. onAccepted (choose (elements (widthsOf (x .content .codec)) (r .content))) (λ e. accepted (foundIn r e)))
+
+unfoldable pub valueByNumber : Answer Source → ℕ → ℕ → Answer Found
+valueByNumber source n k = onAccepted source (λ x. valueIn (nth k) x n)
+
+unfoldable pub valueById : Answer Source → ℕ → ℕ → Answer Found
+valueById source n id = onAccepted source (λ x. valueIn (firstWith id) x n)
+
+-- the view: the value's bytes, empty on every refusal
+unfoldable pub view : Answer Found → List ℕ
+view (accepted f) = f .value
+view (refused number index) = []
+
+-- ---- the last known value
+
+pub record LastKnown : Type 0 where
+  pub older : Bool
+  pub found : Found
+
+unfoldable pub valueInLast : ℕ → Source → Answer Found
+valueInLast id x = valueIn (firstWith id) x (length (x .content .records) - 1)
+
+unfoldable pub inOlder : ℕ → Answer Source → Answer LastKnown
+inOlder id source = onAccepted source (λ x. onAccepted (valueInLast id x) (λ f. accepted (record { older = true; found = f })))
+
+unfoldable pub orElse : {A : Type 0} → Answer A → Answer A → Answer A
+orElse (accepted a) b = accepted a
+orElse (refused number index) b = b
+
+-- in the newer's last record, else in the older's, which is judged only then
+unfoldable pub lastKnown : ℕ → Answer Source → Answer Source → Answer LastKnown
+lastKnown id newer older =
+    onAccepted newer (λ x. orElse (onAccepted (valueInLast id x) (λ f. accepted (record { older = false; found = f }))) (inOlder id older))

@@ -1,0 +1,274 @@
+-- A form that was written of data is decoded to that data, so a form stands for one data field at most.
+use Prim.Native.Nat.{ℕ, zero, suc, _+_, _^_, _≤_, _<_}
+use native.Mathlib.Nat.{lt-of-lt-of-le, pow-le-pow-right}
+use native.Mathlib.Omega.{arith}
+use mathlib.Core.Path.{_≡_, refl, sym, ap, ap₂, _∙_, subst}
+use mathlib.Core.Bool.{Bool, true, false}
+use mathlib.Core.List.{List, [], _∷_, _++_, append-nil, append-assoc}
+use lib.ListN.{length, take, drop, getD, length-append}
+use lib.Dec.{eqb, lit<, lit≤}
+use borrow.Author.Tests.{eq-eqb, ne-eqb, eqb-false}
+use Rattle.wire.specs.Numbers.{digits, be, littleAt, le, pick}
+use Rattle.wire.specs.Sequences.{fields, joined, All}
+use Rattle.wire.proofs.Widths.{little-le, length-le, all-append}
+use Rattle.wire.proofs.Accepting.{pick-true, pick-false}
+use Rattle.avl.specs.declared.Widths.{Widths}
+use Rattle.avl.specs.Codecs.{widthsOf, kinds, codec8, codec8E, codec16}
+use Rattle.avl.specs.Records.{Element, AvlRecord, ElementRules, GroupRules, GroupsRules, RecordRules, total, lengthBytes, elementBytes, groupBytes, groupsBytes, recordBytes}
+use Rattle.avl.specs.DataField.{AvlData, DataRules, dataBytes}
+use Rattle.tlv.specs.Entries.{Entry, entryBytes, entriesOf}
+use Rattle.tlv.specs.Form.{recordEntry, elementEntry, groupEntries, groupsEntries, recordsEntries, formEntries, form}
+use Rattle.tlv.specs.Decoding.{entryElement, ofKind, groupsOf, recordOf, beforeNext, recordsOf, dataOf, decoded}
+use Rattle.tlv.proofs.EntryLaws.{EntryFits, entries-written}
+
+-- ---- the elements of a record
+
+element-again : (kind : ℕ) (e : Element) → e .id < 256 ^ 2 → entryElement (elementEntry kind e) ≡ e
+unfolding entryElement elementEntry le
+element-again kind e h =
+    let id : littleAt (le 2 (e .id) ++ e .value) 0 2 ≡ e .id = little-le 2 (e .id) (le 2 (e .id) ++ e .value) 0 (e .value) h refl in
+    λ i. record { id = id i; value = e .value }
+
+-- the entries of a group are found by its kind, before whatever follows
+own-kind : (kind : ℕ) (g : List Element) (es : List Entry) → All (λ e. e .id < 256 ^ 2) g → ofKind kind (groupEntries kind g ++ es) ≡ g ++ ofKind kind es
+unfolding groupEntries ofKind elementEntry
+own-kind kind [] es h = refl
+own-kind kind (e ∷ g) es h =
+    pick-true (eqb kind kind) _ _ (eq-eqb kind kind refl)
+    ∙ ap₂ (λ (x : Element) (l : List Element). x ∷ l) (element-again kind e (h .0)) (own-kind kind g es (h .1))
+
+-- and by no other kind
+other-kind : (kind other : ℕ) (g : List Element) (es : List Entry) → (other ≡ kind → ⊥) → ofKind kind (groupEntries other g ++ es) ≡ ofKind kind es
+unfolding groupEntries ofKind elementEntry
+other-kind kind other [] es h = refl
+other-kind kind other (e ∷ g) es h = pick-false (eqb other kind) _ _ (ne-eqb other kind h) ∙ other-kind kind other g es h
+
+-- no kind of a list is this one
+abbrev Apart : ℕ → List ℕ → Type 0
+Apart k ks = All (λ j. (k ≡ j → ⊥)) ks
+
+abbrev Distinct : List ℕ → Type 0
+Distinct [] = Unit {0}
+Distinct (k ∷ ks) = Apart k ks × Distinct ks
+
+-- the rules of groups give IDs of at most two bytes
+abbrev SmallIds : List (List Element) → Type 0
+SmallIds gs = All (λ g. All (λ e. e .id < 256 ^ 2) g) gs
+
+none-of-kind : (kind : ℕ) (ks : List ℕ) (gs : List (List Element)) → Apart kind ks → ofKind kind (groupsEntries ks gs) ≡ []
+unfolding groupsEntries ofKind
+none-of-kind kind [] gs h = refl
+none-of-kind kind (k ∷ ks) [] h = refl
+none-of-kind kind (k ∷ ks) (g ∷ gs) h = other-kind kind k g (groupsEntries ks gs) (λ e. h .0 (sym e)) ∙ none-of-kind kind ks gs (h .1)
+
+skip-group : (ks : List ℕ) (k : ℕ) (g : List Element) (es : List Entry) → Apart k ks → groupsOf ks (groupEntries k g ++ es) ≡ groupsOf ks es
+unfolding groupsOf
+skip-group [] k g es h = refl
+skip-group (j ∷ ks) k g es h = ap₂ (λ (x : List Element) (l : List (List Element)). x ∷ l) (other-kind j k g es (h .0)) (skip-group ks k g es (h .1))
+
+-- as many groups as kinds
+abbrev Parallel : List ℕ → List (List Element) → Type 0
+Parallel [] [] = Unit {0}
+Parallel [] (g ∷ gs) = ⊥
+Parallel (k ∷ ks) [] = ⊥
+Parallel (k ∷ ks) (g ∷ gs) = Parallel ks gs
+
+groups-again : (ks : List ℕ) (gs : List (List Element)) → Distinct ks → Parallel ks gs → SmallIds gs → groupsOf ks (groupsEntries ks gs) ≡ gs
+unfolding groupsOf groupsEntries
+groups-again [] [] d p h = refl
+groups-again [] (g ∷ gs) d p h = absurd p
+groups-again (k ∷ ks) [] d p h = absurd p
+groups-again (k ∷ ks) (g ∷ gs) d p h =
+    let own : ofKind k (groupEntries k g ++ groupsEntries ks gs) ≡ g =
+    own-kind k g (groupsEntries ks gs) (h .0) ∙ ap (λ (l : List Element). g ++ l) (none-of-kind k ks gs (d .0)) ∙ append-nil g
+    in
+    let rest = skip-group ks k g (groupsEntries ks gs) (d .0) ∙ groups-again ks gs (d .1) p (h .1) in
+    ap₂ (λ (x : List Element) (l : List (List Element)). x ∷ l) own rest
+
+-- ---- the fixed fields
+
+record-again : (ks : List ℕ) (r : AvlRecord) (es : List Entry) (w : Widths) (longest : ℕ) → w .event ≤ 2 → RecordRules longest w r → groupsOf ks es ≡ r .groups
+    → recordOf ks (recordEntry r .body) es ≡ r
+unfolding recordOf recordEntry le
+record-again ks r es w longest narrow h e =
+    let b = recordEntry r .body in
+    let timestamp : littleAt b 0 8 ≡ r .timestamp = little-le 8 _ b 0 _ (h .timestampFits) refl in
+    let priority : littleAt b 8 1 ≡ r .priority = little-le 1 _ b 8 _ (omega (arith, h .priorityRange)) refl in
+    let longitude : littleAt b 9 4 ≡ r .longitude = little-le 4 _ b 9 _ (h .longitudeFits) refl in
+    let latitude : littleAt b 13 4 ≡ r .latitude = little-le 4 _ b 13 _ (h .latitudeFits) refl in
+    let altitude : littleAt b 17 2 ≡ r .altitude = little-le 2 _ b 17 _ (h .altitudeFits) refl in
+    let angle : littleAt b 19 2 ≡ r .angle = little-le 2 _ b 19 _ (h .angleFits) refl in
+    let satellites : littleAt b 21 1 ≡ r .satellites = little-le 1 _ b 21 _ (h .satellitesFit) refl in
+    let speed : littleAt b 22 2 ≡ r .speed = little-le 2 _ b 22 _ (h .speedFits) refl in
+    let event : littleAt b 24 2 ≡ r .event = little-le 2 _ b 24 _ (lt-of-lt-of-le (h .eventFits) (pow-le-pow-right (lit< tt) narrow)) refl in
+    let generation : littleAt b 26 1 ≡ r .generation = little-le 1 _ b 26 [] (omega (arith, h .generationRange)) refl in
+    λ i. record {
+      timestamp = timestamp i;
+      priority = priority i;
+      longitude = longitude i;
+      latitude = latitude i;
+      altitude = altitude i;
+      angle = angle i;
+      satellites = satellites i;
+      speed = speed i;
+      event = event i;
+      generation = generation i;
+      groups = e i;
+    }
+
+-- ---- the records
+
+-- no entry of these starts a record
+abbrev NoRecord : List Entry → Type 0
+NoRecord es = All (λ e. (e .kind ≡ 101 → ⊥)) es
+
+no-record-group : (k : ℕ) (g : List Element) → (k ≡ 101 → ⊥) → NoRecord (groupEntries k g)
+unfolding groupEntries elementEntry
+no-record-group k [] h = tt
+no-record-group k (e ∷ g) h = (h, no-record-group k g h)
+
+no-record-groups : (ks : List ℕ) (gs : List (List Element)) → Apart 101 ks → NoRecord (groupsEntries ks gs)
+unfolding groupsEntries
+no-record-groups [] gs h = tt
+no-record-groups (k ∷ ks) [] h = tt
+no-record-groups (k ∷ ks) (g ∷ gs) h =
+    all-append (λ e. (e .kind ≡ 101 → ⊥)) (groupEntries k g) (groupsEntries ks gs) (no-record-group k g (λ e. h .0 (sym e))) (no-record-groups ks gs (h .1))
+
+before-next : (es rest : List Entry) → NoRecord es → beforeNext rest ≡ [] → beforeNext (es ++ rest) ≡ es
+unfolding beforeNext
+before-next [] rest h e = e
+before-next (x ∷ es) rest h e = pick-false (eqb (x .kind) 101) _ _ (ne-eqb (x .kind) 101 (h .0)) ∙ ap (λ (l : List Entry). x ∷ l) (before-next es rest (h .1) e)
+
+skip-elements : (ks : List ℕ) (es rest : List Entry) → NoRecord es → recordsOf ks (es ++ rest) ≡ recordsOf ks rest
+unfolding recordsOf
+skip-elements ks [] rest h = refl
+skip-elements ks (x ∷ es) rest h = pick-false (eqb (x .kind) 101) _ _ (ne-eqb (x .kind) 101 (h .0)) ∙ skip-elements ks es rest (h .1)
+
+starts-record : (ks : List ℕ) (rs : List AvlRecord) → beforeNext (recordsEntries ks rs) ≡ []
+unfolding beforeNext recordsEntries recordEntry
+starts-record ks [] = refl
+starts-record ks (r ∷ rs) = refl
+
+parallel : (w : Widths) (ks : List ℕ) (gs : List (List Element)) → GroupsRules w ks gs → Parallel ks gs
+parallel w [] [] h = tt
+parallel w [] (g ∷ gs) h = h
+parallel w (k ∷ ks) [] h = h
+parallel w (k ∷ ks) (g ∷ gs) h = parallel w ks gs (h .1)
+
+-- what a width set and its kinds have to be
+record Plain (w : Widths) : Type 0 where
+  event : w .event ≤ 2
+  id : w .id ≤ 2
+  distinct : Distinct (kinds w)
+  noRecord : Apart 101 (kinds w)
+
+small-group : (w : Widths) (k : ℕ) (g : List Element) → w .id ≤ 2 → All (ElementRules w k) g → All (λ e. e .id < 256 ^ 2) g
+small-group w k [] n h = tt
+small-group w k (e ∷ g) n h = (lt-of-lt-of-le (h .0 .idFits) (pow-le-pow-right (lit< tt) n), small-group w k g n (h .1))
+
+small-ids : (w : Widths) (ks : List ℕ) (gs : List (List Element)) → w .id ≤ 2 → GroupsRules w ks gs → SmallIds gs
+small-ids w [] [] n h = tt
+small-ids w [] (g ∷ gs) n h = absurd h
+small-ids w (k ∷ ks) [] n h = absurd h
+small-ids w (k ∷ ks) (g ∷ gs) n h = (small-group w k g n (h .0 .each), small-ids w ks gs n (h .1))
+
+records-again : (w : Widths) (longest : ℕ) (rs : List AvlRecord) → Plain w → All (RecordRules longest w) rs → recordsOf (kinds w) (recordsEntries (kinds w) rs) ≡ rs
+unfolding recordsOf recordsEntries recordEntry
+records-again w longest [] p h = refl
+records-again w longest (r ∷ rs) p h =
+    let ks = kinds w in
+    let es = groupsEntries ks (r .groups) in
+    let rest = recordsEntries ks rs in
+    let plain = no-record-groups ks (r .groups) (p .noRecord) in
+    let own : groupsOf ks (beforeNext (es ++ rest)) ≡ r .groups =
+    ap (groupsOf ks) (before-next es rest plain (starts-record ks rs))
+    ∙ groups-again ks (r .groups) (p .distinct) (parallel w ks (r .groups) (h .0 .groupsKeep)) (small-ids w ks (r .groups) (p .id) (h .0 .groupsKeep))
+    in
+    ap₂ (λ (x : AvlRecord) (l : List AvlRecord). x ∷ l) (record-again ks r (beforeNext (es ++ rest)) w longest (p .event) (h .0) own)
+    (skip-elements ks es rest plain ∙ records-again w longest rs p (h .1))
+
+pick-either : {A : Type 0} (P : A → Type 0) (test : Bool) (a b : A) → P a → P b → P (pick test a b)
+pick-either P true a b h k = h
+pick-either P false a b h k = k
+
+plain : (w : Widths) → w .event ≤ 2 → w .id ≤ 2 → Plain w
+unfolding kinds
+plain w e i =
+    record {
+      event = e;
+      id = i;
+      distinct = pick-either (λ l. Distinct (1 ∷ 2 ∷ 4 ∷ 8 ∷ l)) (w .variable) (9 ∷ []) [] (omega arith) (omega arith);
+      noRecord = pick-either (λ l. Apart 101 (1 ∷ 2 ∷ 4 ∷ 8 ∷ l)) (w .variable) (9 ∷ []) [] (omega arith) (omega arith);
+    }
+
+plain-widths : (codec : ℕ) → Plain (widthsOf codec)
+unfolding widthsOf codec8 codec8E codec16
+plain-widths codec =
+    pick-either Plain (eqb codec 0x08) codec8 (pick (eqb codec 0x8E) codec8E codec16) (plain codec8 (lit≤ tt) (lit≤ tt))
+    (pick-either Plain (eqb codec 0x8E) codec8E codec16 (plain codec8E (lit≤ tt) (lit≤ tt)) (plain codec16 (lit≤ tt) (lit≤ tt)))
+
+data-again : (longest : ℕ) (a : AvlData) → DataRules longest a → dataOf (formEntries a) ≡ a
+unfolding dataOf formEntries
+data-again longest a h =
+    let rs = records-again (widthsOf (a .codec)) longest (a .records) (plain-widths (a .codec)) (h .each) in
+    λ i. record { codec = a .codec; records = rs i }
+
+-- ---- every entry's kind and length fit
+
+small-kinds : (w : Widths) → All (λ k. k < 256 ^ 2) (kinds w)
+unfolding kinds
+small-kinds w = pick-either (λ l. All (λ k. k < 256 ^ 2) (1 ∷ 2 ∷ 4 ∷ 8 ∷ l)) (w .variable) (9 ∷ []) [] (omega arith) (omega arith)
+
+value-within : (w : Widths) (k : ℕ) (e : Element) → length (e .value) ≤ length (elementBytes w k e)
+unfolding elementBytes
+value-within w k e = omega (arith, length-append (be (w .id) (e .id)) (lengthBytes k (e .value) ++ e .value), length-append (lengthBytes k (e .value)) (e .value))
+
+fits-group : (w : Widths) (k : ℕ) (g : List Element) → k < 256 ^ 2 → 2 + length (joined (elementBytes w k) g) < 256 ^ 2 → All EntryFits (groupEntries k g)
+unfolding groupEntries elementEntry le
+fits-group w k [] h l = tt
+fits-group w k (e ∷ g) h l =
+    let size = length-append (elementBytes w k e) (joined (elementBytes w k) g) in
+    (record { kindFits = h; bodyFits = omega (arith, value-within w k e, size) }, fits-group w k g h (omega (arith, size)))
+
+fits-groups : (w : Widths) (ks : List ℕ) (gs : List (List Element)) → All (λ k. k < 256 ^ 2) ks → 2 + length (groupsBytes w ks gs) < 256 ^ 2 → All EntryFits (groupsEntries ks gs)
+unfolding groupsEntries groupsBytes groupBytes
+fits-groups w [] gs h l = tt
+fits-groups w (k ∷ ks) [] h l = tt
+fits-groups w (k ∷ ks) (g ∷ gs) h l =
+    let size = length-append (be (w .count) (length g)) (joined (elementBytes w k) g) in
+    let sum = length-append (be (w .count) (length g) ++ joined (elementBytes w k) g) (groupsBytes w ks gs) in
+    all-append EntryFits (groupEntries k g) (groupsEntries ks gs) (fits-group w k g (h .0) (omega (arith, size, sum))) (fits-groups w ks gs (h .1) (omega (arith, size, sum)))
+
+groups-within : (w : Widths) (r : AvlRecord) → 2 + length (groupsBytes w (kinds w) (r .groups)) ≤ length (recordBytes w r)
+unfolding recordBytes digits
+groups-within w r =
+    omega (
+      arith,
+      length-append (be (w .event) (r .event)) (be (w .generation) (r .generation) ++ (be (w .count) (total (r .groups)) ++ groupsBytes w (kinds w) (r .groups))),
+      length-append (be (w .generation) (r .generation)) (be (w .count) (total (r .groups)) ++ groupsBytes w (kinds w) (r .groups)),
+      length-append (be (w .count) (total (r .groups))) (groupsBytes w (kinds w) (r .groups)),
+    )
+
+fits-record : (r : AvlRecord) → EntryFits (recordEntry r)
+unfolding recordEntry le
+fits-record r = record { kindFits = lit< tt; bodyFits = lit< tt }
+
+fits-records : (w : Widths) (longest : ℕ) (rs : List AvlRecord) → longest < 256 ^ 2 → All (RecordRules longest w) rs → All EntryFits (recordsEntries (kinds w) rs)
+unfolding recordsEntries
+fits-records w longest [] l h = tt
+fits-records w longest (r ∷ rs) l h = (
+  fits-record r,
+  all-append EntryFits (groupsEntries (kinds w) (r .groups)) (recordsEntries (kinds w) rs)
+      (fits-groups w (kinds w) (r .groups) (small-kinds w) (omega (arith, groups-within w r, h .0 .size)))
+      (fits-records w longest rs l (h .1)),
+)
+
+fits-form : (longest : ℕ) (a : AvlData) → longest < 256 ^ 2 → DataRules longest a → All EntryFits (formEntries a)
+unfolding formEntries
+fits-form longest a l h = (record { kindFits = lit< tt; bodyFits = lit< tt }, fits-records (widthsOf (a .codec)) longest (a .records) l (h .each))
+
+-- ---- the form decoded
+
+pub form-decoded : (longest : ℕ) (a : AvlData) → longest < 256 ^ 2 → DataRules longest a → decoded (form a) ≡ a
+unfolding decoded form
+form-decoded longest a l h = ap dataOf (entries-written (formEntries a) (fits-form longest a l h)) ∙ data-again longest a h

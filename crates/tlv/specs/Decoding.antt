@@ -1,0 +1,56 @@
+-- The data that a TLV form stands for: a lenient reading, which is right for every form that a data field has.
+use Prim.Native.Nat.{ℕ}
+use mathlib.Core.List.{List, [], _∷_}
+use lib.ListN.{getD, drop}
+use lib.Dec.{eqb}
+use Rattle.wire.specs.Numbers.{littleAt, pick}
+use Rattle.avl.specs.Codecs.{widthsOf, kinds}
+use Rattle.avl.specs.Records.{Element, AvlRecord}
+use Rattle.avl.specs.DataField.{AvlData}
+use Rattle.tlv.specs.Entries.{Entry, entriesOf}
+
+unfoldable pub entryElement : Entry → Element
+entryElement e = record { id = littleAt (e .body) 0 2; value = drop 2 (e .body) }
+
+-- the elements of one kind
+unfoldable pub ofKind : ℕ → List Entry → List Element
+ofKind kind [] = []
+ofKind kind (e ∷ es) = pick (eqb (e .kind) kind) (entryElement e ∷ ofKind kind es) (ofKind kind es)
+
+unfoldable pub groupsOf : List ℕ → List Entry → List (List Element)
+groupsOf [] es = []
+groupsOf (k ∷ ks) es = ofKind k es ∷ groupsOf ks es
+
+-- a record from its entry 101 and the entries behind it
+unfoldable pub recordOf : List ℕ → List ℕ → List Entry → AvlRecord
+recordOf ks b es =
+    record {
+      timestamp = littleAt b 0 8;
+      priority = littleAt b 8 1;
+      longitude = littleAt b 9 4;
+      latitude = littleAt b 13 4;
+      altitude = littleAt b 17 2;
+      angle = littleAt b 19 2;
+      satellites = littleAt b 21 1;
+      speed = littleAt b 22 2;
+      event = littleAt b 24 2;
+      generation = littleAt b 26 1;
+      groups = groupsOf ks es;
+    }
+
+-- the entries up to the next 101
+unfoldable pub beforeNext : List Entry → List Entry
+beforeNext [] = []
+beforeNext (e ∷ es) = pick (eqb (e .kind) 101) [] (e ∷ beforeNext es)
+
+unfoldable pub recordsOf : List ℕ → List Entry → List AvlRecord
+recordsOf ks [] = []
+recordsOf ks (e ∷ es) = pick (eqb (e .kind) 101) (recordOf ks (e .body) (beforeNext es) ∷ recordsOf ks es) (recordsOf ks es)
+
+-- the codec is the first byte of the first entry
+unfoldable pub dataOf : List Entry → AvlData
+dataOf [] = record { codec = 0; records = [] }
+dataOf (e ∷ es) = record { codec = getD (e .body) 0 0; records = recordsOf (kinds (widthsOf (getD (e .body) 0 0))) es }
+
+unfoldable pub decoded : List ℕ → AvlData
+decoded f = dataOf (entriesOf f)
