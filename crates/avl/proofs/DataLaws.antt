@@ -2,12 +2,13 @@
 use Prim.Native.Nat.{ℕ, _+_, _≤_, _<_}
 use native.Mathlib.Omega.{arith}
 use mathlib.Core.Path.{_≡_, refl, sym, ap, ap₂, _∙_, subst}
+use mathlib.Core.Bool.{Bool, true, false}
 use mathlib.Core.Logic.{_↔_}
 use mathlib.Core.List.{List, []}
 use lib.ListN.{length}
 use lib.Dec.{eqb, leb}
 use borrow.Author.Tests.{le-leb, leb-true, eq-eqb, eqb-true}
-use Rattle.wire.specs.Numbers.{Bytes}
+use Rattle.wire.specs.Numbers.{Bytes, pick}
 use Rattle.wire.specs.Sequences.{joined, All}
 use Rattle.wire.specs.Envelope.{enclosed, codecOf, firstCount, lastCount, inner}
 use Rattle.wire.specs.Reading.{got}
@@ -35,8 +36,17 @@ data-sound longest d a h l e =
     let result : _≡_ {A = AvlData} (record { codec = codecOf d; records = rs }) a = cc in
     subst (λ (x : AvlData). DataRules longest x × (d ≡ enclosed (x .codec) (length (x .records)) (joined (recordBytes (widthsOf (x .codec))) (x .records)))) result (
       record { codecKnown = c₁ .0; someRecords = omega (arith, w .1); countFits = omega (arith, w .1); each = w .2 },
-      enclosed-parts d l (eqb-true _ _ (c₃ .0)) ∙ ap₂ (enclosed (codecOf d)) (sym (w .1)) (w .0),
+      enclosed-parts d h l (eqb-true _ _ (c₃ .0)) ∙ ap₂ (enclosed (codecOf d)) (sym (w .1)) (w .0),
     )
+
+codec-fits : (codec : ℕ) → isDataCodec codec ≡ true → codec < 256
+unfolding isDataCodec
+codec-fits codec e = go (eqb codec 0x08) (eqb codec 0x8E) refl refl e
+  where
+    go : (a b : Bool) → eqb codec 0x08 ≡ a → eqb codec 0x8E ≡ b → pick a true (pick b true (eqb codec 0x10)) ≡ true → codec < 256
+    go true b x y t = omega (arith, eqb-true codec 0x08 x)
+    go false true x y t = omega (arith, eqb-true codec 0x8E y)
+    go false false x y t = omega (arith, eqb-true codec 0x10 t)
 
 pub data-complete : (longest : ℕ) (a : AvlData) → DataRules longest a → readData longest (dataBytes a) ≡ accepted a
 unfolding readData dataBytes
@@ -44,7 +54,9 @@ data-complete longest a h =
     let w = widthsOf (a .codec) in
     let n = length (a .records) in
     let b = joined (recordBytes w) (a .records) in
-    simp (codec-enclosed (a .codec) n b, first-enclosed (a .codec) n b, last-enclosed (a .codec) n b, inner-enclosed (a .codec) n b)
+    let c = codec-fits (a .codec) (h .codecKnown) in
+    let m : n < 256 = omega (arith, h .countFits) in
+    simp (codec-enclosed (a .codec) n b c m, first-enclosed (a .codec) n b c m, last-enclosed (a .codec) n b c m, inner-enclosed (a .codec) n b c m)
     (check-passed _ 6 _ (h .codecKnown)
     ∙ check-passed _ 7 _ (le-leb 1 n (h .someRecords))
     ∙ check-passed _ 7 _ (eq-eqb n n refl)

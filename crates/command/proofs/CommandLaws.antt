@@ -41,18 +41,26 @@ member-all : (P : ℕ → Type 0) (x : ℕ) (l : List ℕ) → All P l → membe
 member-all P x [] h e = absurd (let z : _≡_ {A = ℕ} 0 1 = cc in omega arith)
 member-all P x (y ∷ l) h e = chosen (eqb x y) (λ t f. subst P (sym (eqb-true x y t)) (h .0)) (member-all P x l (h .1)) e
 
-types-fit : All (λ l. All (λ t. t < 256 ^ 1) (l .types)) layouts
+-- the codec and the types of each row fit a byte
+abbrev RowFits : Layout → Type 0
+RowFits l = (l .codec < 256) × All (λ t. t < 256 ^ 1) (l .types)
+
+rows-fit : All RowFits layouts
 unfolding layouts
-types-fit = search (lit<, tt)
+rows-fit = search (lit<, tt)
 
 module _ (codec : ℕ) {l : Layout} (row : layoutOf codec ≡ accepted l) where
   pub layout-codec : l .codec ≡ codec
   unfolding layoutOf
-  layout-codec = found-row _ codec layouts types-fit row .0
+  layout-codec = found-row RowFits codec layouts rows-fit row .0
+
+  codec-fits : codec < 256
+  unfolding layoutOf
+  codec-fits = subst (λ (x : ℕ). x < 256) layout-codec (found-row RowFits codec layouts rows-fit row .1 .0)
 
   pub type-fits : (type : ℕ) → member type (l .types) ≡ true → type < 256 ^ 1
   unfolding layoutOf
-  type-fits type e = member-all _ type (l .types) (found-row _ codec layouts types-fit row .1) e
+  type-fits type e = member-all _ type (l .types) (found-row RowFits codec layouts rows-fit row .1 .1) e
 
   -- a codec has one row
   pub layout-unique : {m : Layout} → layoutOf codec ≡ accepted m → l ≡ m
@@ -149,13 +157,15 @@ field-sound d c h long e =
     let body = body-sound l (inner d) (ap layoutOf same ∙ found .1) (bytes-inner d h) .if-got c (walk .0) (walk .1) in
     let one : firstCount d ≡ 1 = eqb-true _ _ (first .0) in
     let again : lastCount d ≡ 1 = eqb-true _ _ (last .0) in
-    (l, (body .1, enclosed-parts d long (one ∙ sym again) ∙ (cc)))
+    (l, (body .1, enclosed-parts d h long (one ∙ sym again) ∙ (cc)))
 
 pub field-complete : (l : Layout) (c : Command) → CommandRules l c → length (commandField l c) < 256 ^ 4 → readField (commandField l c) ≡ accepted c
 unfolding readField commandField
 field-complete l c h fits =
     let b = bodyBytes l c in
-    simp (codec-enclosed (c .codec) 1 b, first-enclosed (c .codec) 1 b, last-enclosed (c .codec) 1 b, inner-enclosed (c .codec) 1 b)
+    let k = codec-fits (c .codec) (h .layout) in
+    let q : 1 < 256 = lit< tt in
+    simp (codec-enclosed (c .codec) 1 b k q, first-enclosed (c .codec) 1 b k q, last-enclosed (c .codec) 1 b k q, inner-enclosed (c .codec) 1 b k q)
     (onAccepted-passed _ _ (h .layout)
     ∙ check-passed _ 7 _ refl
     ∙ check-passed _ 7 _ refl

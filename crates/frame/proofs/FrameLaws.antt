@@ -11,7 +11,7 @@ use lib.Dec.{eqb, leb, lit<, lit≤}
 use borrow.Author.Tests.{le-leb, leb-true, eq-eqb, eqb-true}
 use Rattle.wire.specs.Numbers.{Bytes, numberAt, digits, be}
 use Rattle.wire.specs.Answers.{Answer, accepted, check}
-use Rattle.wire.proofs.Widths.{be-number, number-be, number-lt, length-digits, bytes-take, bytes-drop}
+use Rattle.wire.proofs.Widths.{be-number, number-be, number-lt, length-digits, bytes-take, bytes-drop, bytes-append, bytes-be}
 use Rattle.wire.proofs.Placed.{Between, between-join, between-split, between-moved, between-bytes, between-take, between-is, between-whole, whole-between}
 use Rattle.wire.proofs.Accepting.{check-accepted, check-passed}
 use Rattle.checksum.specs.Crc.{crc}
@@ -34,6 +34,12 @@ length-framed d =
       length-digits 256 4 (length d),
       length-digits 256 4 (crc d),
     )
+
+pub bytes-framed : (d : List ℕ) → Bytes d → Bytes (framed d)
+unfolding framed
+bytes-framed d h =
+    bytes-append (be 4 0) _ (bytes-be 4 0)
+    (bytes-append (be 4 (length d)) _ (bytes-be 4 (length d)) (bytes-append d (be 4 (crc d)) h (bytes-be 4 (crc d))))
 
 length-field : (p : List ℕ) → length p ≡ fieldLength p + 12 → length (fieldOf p) ≡ fieldLength p
 unfolding fieldOf

@@ -11,7 +11,7 @@ use borrow.Author.Tests.{eq-eqb, ne-eqb, eqb-false}
 use Rattle.wire.specs.Numbers.{digits, be, littleAt, le, pick}
 use Rattle.wire.specs.Sequences.{fields, joined, All}
 use Rattle.wire.proofs.Widths.{little-le, length-le, all-append}
-use Rattle.wire.proofs.Accepting.{pick-true, pick-false}
+use Rattle.wire.proofs.Accepting.{pick-true, pick-false, pick-either}
 use Rattle.avl.specs.declared.Widths.{Widths}
 use Rattle.avl.specs.Codecs.{widthsOf, kinds, codec8, codec8E, codec16}
 use Rattle.avl.specs.Records.{Element, AvlRecord, ElementRules, GroupRules, GroupsRules, RecordRules, total, lengthBytes, elementBytes, groupBytes, groupsBytes, recordBytes}
@@ -186,10 +186,6 @@ records-again w longest (r ∷ rs) p h =
     in
     ap₂ (λ (x : AvlRecord) (l : List AvlRecord). x ∷ l) (record-again ks r (beforeNext (es ++ rest)) w longest (p .event) (h .0) own)
     (skip-elements ks es rest plain ∙ records-again w longest rs p (h .1))
-
-pick-either : {A : Type 0} (P : A → Type 0) (test : Bool) (a b : A) → P a → P b → P (pick test a b)
-pick-either P true a b h k = h
-pick-either P false a b h k = k
 
 plain : (w : Widths) → w .event ≤ 2 → w .id ≤ 2 → Plain w
 unfolding kinds

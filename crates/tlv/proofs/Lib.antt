@@ -1,2 +1,4 @@
 pub mod EntryLaws
 pub mod FormLaws
+pub mod DecodedBytes
+pub mod PacketOfLaws

@@ -1,3 +1,4 @@
 pub mod Entries
 pub mod Form
 pub mod Decoding
+pub mod PacketOf

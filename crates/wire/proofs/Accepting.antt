@@ -13,6 +13,10 @@ pick-true test a b e = simp e
 pub pick-false : {A : Type 0} (test : Bool) (a b : A) → test ≡ false → pick test a b ≡ b
 pick-false test a b e = simp e
 
+pub pick-either : {A : Type 0} (P : A → Type 0) (test : Bool) (a b : A) → P a → P b → P (pick test a b)
+pick-either P true a b h k = h
+pick-either P false a b h k = k
+
 pub both-true : (a b : Bool) → pick a b false ≡ true → (a ≡ true) × (b ≡ true)
 both-true true b e = (refl, e)
 both-true false b e = absurd (let z : _≡_ {A = ℕ} 0 1 = cc in omega arith)

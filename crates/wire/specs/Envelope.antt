@@ -2,10 +2,11 @@
 use Prim.Native.Nat.{ℕ, _-_}
 use mathlib.Core.List.{List, [], _∷_}
 use lib.ListN.{length, take, drop, getD}
+use Rattle.wire.specs.Numbers.{be}
 use Rattle.wire.specs.Sequences.{fields}
 
 unfoldable pub enclosed : ℕ → ℕ → List ℕ → List ℕ
-enclosed codec count body = fields ((codec ∷ count ∷ []) ∷ body ∷ (count ∷ []) ∷ [])
+enclosed codec count body = fields (be 1 codec ∷ be 1 count ∷ body ∷ be 1 count ∷ [])
 
 -- the parts of a data field of at least three bytes
 unfoldable pub codecOf : List ℕ → ℕ
