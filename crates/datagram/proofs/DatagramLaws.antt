@@ -45,7 +45,7 @@ header-exact =
           ∙ then-got readImei _ s _ (imei-exact .complete s _ (x .imei) next (h .imeiRange) (c .1));
     }
 
-length-header : (x : Header) → length (headerBytes x) ≡ 21
+pub length-header : (x : Header) → length (headerBytes x) ≡ 21
 unfolding headerBytes
 length-header x = simp (length-append, length-digits, length-imeiText)
 
