@@ -1,1 +1,3 @@
 pub mod Demand3Proof
+pub mod BenchSheetProof
+pub mod ExamplesProof

@@ -1,0 +1,60 @@
+-- The bench sheet, P1 to P13: what the sheet gives the judges, and what it says they answer.
+use Prim.Native.Nat.{ℕ}
+use mathlib.Core.Path.{_≡_}
+use mathlib.Core.List.{List, [], _∷_}
+use lib.ListN.{set}
+use Rattle.wire.specs.Sequences.{All}
+use Rattle.wire.specs.Answers.{Answer, accepted, refused, onAccepted}
+use Rattle.command.specs.Commands.{readCommand}
+use Rattle.datagram.specs.Datagrams.{udpAcknowledgement}
+use Rattle.tlv.specs.PacketOf.{formOfPacket, formOfDatagram}
+
+abbrev pub sample : List ℕ
+sample =
+    0x00 ∷ 0x38 ∷ 0xCA ∷ 0xFE ∷ 0x01 ∷ 0x05 ∷ 0x00 ∷ 0x0F ∷ 0x31 ∷ 0x32 ∷ 0x33 ∷ 0x34 ∷ 0x35 ∷ 0x36 ∷ 0x37 ∷ 0x38 ∷ 0x39 ∷ 0x30 ∷ 0x31 ∷ 0x32 ∷ 0x33 ∷ 0x34 ∷ 0x35 ∷ 0x08
+    ∷ 0x01 ∷ 0x00 ∷ 0x00 ∷ 0x00 ∷ 0x00 ∷ 0x00 ∷ 0x00 ∷ 0x03 ∷ 0xE8 ∷ 0x01 ∷ 0xFF ∷ 0xFF ∷ 0xFF ∷ 0xFF ∷ 0x20 ∷ 0x9C ∷ 0xCA ∷ 0x80 ∷ 0x00 ∷ 0x64 ∷ 0x00 ∷ 0x00 ∷ 0x07 ∷ 0x00
+    ∷ 0x05 ∷ 0x00 ∷ 0x01 ∷ 0x01 ∷ 0x15 ∷ 0x03 ∷ 0x00 ∷ 0x00 ∷ 0x00 ∷ 0x01 ∷ []
+
+abbrev pub sampleForm : List ℕ
+sampleForm =
+    0x01 ∷ 0x00 ∷ 0x64 ∷ 0x00 ∷ 0x08 ∷ 0x1B ∷ 0x00 ∷ 0x65 ∷ 0x00 ∷ 0xE8 ∷ 0x03 ∷ 0x00 ∷ 0x00 ∷ 0x00 ∷ 0x00 ∷ 0x00 ∷ 0x00 ∷ 0x01 ∷ 0xFF ∷ 0xFF ∷ 0xFF ∷ 0xFF ∷ 0x80 ∷ 0xCA
+    ∷ 0x9C ∷ 0x20 ∷ 0x64 ∷ 0x00 ∷ 0x00 ∷ 0x00 ∷ 0x07 ∷ 0x05 ∷ 0x00 ∷ 0x00 ∷ 0x00 ∷ 0x00 ∷ 0x03 ∷ 0x00 ∷ 0x01 ∷ 0x00 ∷ 0x15 ∷ 0x00 ∷ 0x03 ∷ []
+
+abbrev pub sampleAcknowledgement : List ℕ
+sampleAcknowledgement = 0x00 ∷ 0x05 ∷ 0xCA ∷ 0xFE ∷ 0x01 ∷ 0x05 ∷ 0x01 ∷ []
+
+abbrev pub getio : List ℕ
+getio =
+    0x00 ∷ 0x00 ∷ 0x00 ∷ 0x00 ∷ 0x00 ∷ 0x00 ∷ 0x00 ∷ 0x0D ∷ 0x0C ∷ 0x01 ∷ 0x05 ∷ 0x00 ∷ 0x00 ∷ 0x00 ∷ 0x05 ∷ 0x67 ∷ 0x65 ∷ 0x74 ∷ 0x69 ∷ 0x6F ∷ 0x01 ∷ 0x00 ∷ 0x00 ∷ 0x00
+    ∷ 0xCB ∷ []
+
+-- a command's codec, type, IMEI and text
+unfoldable pub commandFields : List ℕ → Answer (List ℕ)
+commandFields p = onAccepted (readCommand 1280 p) (λ c. accepted (c .codec ∷ c .type ∷ c .imei ∷ c .text))
+
+-- what is asked, and what the sheet says
+pub record Row : Type 0 where
+  pub asked : Answer (List ℕ)
+  pub says : Answer (List ℕ)
+
+unfoldable pub sheet : List Row
+sheet =
+    record { asked = formOfDatagram 1280 255 sample; says = accepted sampleForm }
+    ∷ record { asked = udpAcknowledgement 1280 255 sample; says = accepted sampleAcknowledgement }
+    ∷ record { asked = formOfDatagram 1280 255 (set sample 1 0x37); says = refused 4 0 }
+    ∷ record { asked = formOfDatagram 1280 255 (set sample 57 2); says = refused 7 0 }
+    ∷ record { asked = formOfDatagram 1280 255 (set sample 33 3); says = refused 10 0 }
+    ∷ record { asked = formOfDatagram 1280 255 (set sample 50 2); says = refused 9 0 }
+    ∷ record { asked = formOfDatagram 1280 255 (set sample 51 2); says = refused 8 0 }
+    ∷ record { asked = formOfDatagram 1280 255 (set (set sample 24 2) 57 2); says = refused 8 1 }
+    ∷ record { asked = commandFields getio; says = accepted (0x0C ∷ 0x05 ∷ 0 ∷ 0x67 ∷ 0x65 ∷ 0x74 ∷ 0x69 ∷ 0x6F ∷ []) }
+    ∷ record { asked = commandFields (set getio 24 0xCA); says = refused 5 0 }
+    ∷ record { asked = formOfPacket 1280 255 []; says = refused 1 0 }
+    ∷ record { asked = formOfPacket 1280 255 (0 ∷ 0 ∷ 0 ∷ 0 ∷ 0 ∷ 0 ∷ 0 ∷ 0 ∷ []); says = refused 3 0 }
+    ∷ record { asked = formOfPacket 1280 255 (0 ∷ 0 ∷ 0 ∷ 0 ∷ 0 ∷ 0 ∷ 0x04 ∷ 0xF5 ∷ []); says = refused 3 0 }
+    ∷ record { asked = formOfPacket 1280 255 (0 ∷ 0 ∷ 0 ∷ 0 ∷ 0 ∷ 0 ∷ 0x04 ∷ 0xF4 ∷ []); says = refused 4 0 }
+    ∷ []
+
+-- every row is answered as the sheet says
+abbrev pub AsTheSheetSays : Type 0
+AsTheSheetSays = All (λ row. row .asked ≡ row .says) sheet
