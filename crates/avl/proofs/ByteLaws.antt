@@ -10,7 +10,7 @@ use Rattle.wire.proofs.Widths.{bytes-append, bytes-be}
 use Rattle.wire.proofs.Enclosed.{bytes-enclosed}
 use Rattle.avl.specs.declared.Widths.{Widths}
 use Rattle.avl.specs.Codecs.{widthsOf, kinds}
-use Rattle.avl.specs.Records.{Element, AvlRecord, total, lengthBytes, elementBytes, groupBytes, groupsBytes, recordBytes}
+use Rattle.avl.specs.Records.{Element, Fixed, AvlRecord, total, lengthBytes, elementBytes, groupBytes, groupsBytes, fixedBytes, recordBytes}
 use Rattle.avl.specs.DataField.{AvlData, dataBytes}
 
 abbrev pub ByteValues : AvlRecord → Type 0
@@ -41,12 +41,16 @@ bytes-groups w (k ∷ ks) (g ∷ gs) h =
     bytes-append (be (w .count) (length g) ++ joined (elementBytes w k) g) (groupsBytes w ks gs)
     (lead (w .count) (length g) _ (bytes-joined (λ e. Bytes (e .value)) (elementBytes w k) (bytes-element w k) g (h .0))) (bytes-groups w ks gs (h .1))
 
+bytes-fixed : (w : Widths) (f : Fixed) → Bytes (fixedBytes w f)
+unfolding fixedBytes
+bytes-fixed w f =
+    lead 8 (f .timestamp) _ (lead 1 (f .priority) _ (lead 4 (f .longitude) _ (lead 4 (f .latitude) _ (lead 2 (f .altitude) _ (lead 2 (f .angle) _
+    (lead 1 (f .satellites) _ (lead 2 (f .speed) _ (lead (w .event) (f .event) _ (bytes-be (w .generation) (f .generation))))))))))
+
 bytes-record : (w : Widths) (r : AvlRecord) → ByteValues r → Bytes (recordBytes w r)
 unfolding recordBytes
 bytes-record w r h =
-    lead 8 (r .timestamp) _ (lead 1 (r .priority) _ (lead 4 (r .longitude) _ (lead 4 (r .latitude) _ (lead 2 (r .altitude) _ (lead 2 (r .angle) _
-    (lead 1 (r .satellites) _ (lead 2 (r .speed) _ (lead (w .event) (r .event) _ (lead (w .generation) (r .generation) _
-    (lead (w .count) (total (r .groups)) _ (bytes-groups w (kinds w) (r .groups) h)))))))))))
+    bytes-append (fixedBytes w (r .fixed)) _ (bytes-fixed w (r .fixed)) (lead (w .count) (total (r .groups)) _ (bytes-groups w (kinds w) (r .groups) h))
 
 pub bytes-data : (a : AvlData) → All ByteValues (a .records) → Bytes (dataBytes a)
 unfolding dataBytes

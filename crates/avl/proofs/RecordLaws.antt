@@ -15,8 +15,8 @@ use Rattle.wire.proofs.Placed.{Between, between-nil, between-join, between-spli
 use Rattle.wire.proofs.Exactness.{Meets, meets-then, meets-next, meets-pure, meets-weaken, meets-got, meets-pick, meets-here, meets-require, then-got, next-got, here-got, require-got, Exact, number-exact, bytes-exact, upTo-exact, repeat-sound, repeat-complete}
 use Rattle.avl.specs.declared.Widths.{Widths}
 use Rattle.avl.specs.Codecs.{kinds}
-use Rattle.avl.specs.Records.{Element, AvlRecord, total, lengthBytes, elementBytes, groupBytes, groupsBytes, recordBytes, ValueSize, ElementRules, GroupRules, GroupsRules, RecordRules}
-use Rattle.avl.specs.RecordReader.{valueSize, element, group, groups, avlRecord, tagged, inRecord, avlRecords, atEnd, allRecords}
+use Rattle.avl.specs.Records.{Element, Fixed, AvlRecord, total, lengthBytes, elementBytes, groupBytes, groupsBytes, fixedBytes, recordBytes, ValueSize, ElementRules, GroupRules, GroupsRules, FixedRules, RecordRules}
+use Rattle.avl.specs.RecordReader.{valueSize, element, group, groups, fixedFields, avlRecord, tagged, inRecord, avlRecords, atEnd, allRecords}
 
 pure-exact : {A : Type 0} (a : A) → Exact (pure a) (λ b. []) (λ b. b ≡ a)
 unfolding pure
@@ -90,16 +90,12 @@ groups-complete w (k ∷ ks) s at (g ∷ gs) next h f =
 groups-exact : (w : Widths) (ks : List ℕ) → Exact (groups w ks) (groupsBytes w ks) (GroupsRules w ks)
 groups-exact w ks = record { sound = groups-sound w ks; complete = groups-complete w ks }
 
-within : {end mid start at n₀ size longest : ℕ} → mid ≡ n₀ + size → end ≤ start + longest → end ≡ mid → start ≡ at → n₀ ≡ at → size ≤ longest
-within a b c d e = omega arith
-
-pub record-exact : (longest : ℕ) (w : Widths) → Exact (avlRecord longest w) (recordBytes w) (RecordRules longest w)
-unfolding avlRecord recordBytes pure
-record-exact longest w =
+fixed-exact : (w : Widths) → Exact (fixedFields w) (fixedBytes w) (FixedRules w)
+unfolding fixedFields fixedBytes pure
+fixed-exact w =
     record {
       sound = λ s at h i.
-          meets-then here _ s at (meets-here s at) (λ start n₀ k₀.
-          meets-then (number 8) _ s n₀ (number-exact 8 .sound s n₀ h (omega (arith, k₀ .1))) (λ timestamp n₁ k₁.
+          meets-then (number 8) _ s at (number-exact 8 .sound s at h i) (λ timestamp n₁ k₁.
           meets-then (upTo 1 2 10) _ s n₁ (upTo-exact 1 2 10 .sound s n₁ h (k₁ .0 .inside)) (λ priority n₂ k₂.
           meets-then (number 4) _ s n₂ (number-exact 4 .sound s n₂ h (k₂ .0 .inside)) (λ longitude n₃ k₃.
           meets-then (number 4) _ s n₃ (number-exact 4 .sound s n₃ h (k₃ .0 .inside)) (λ latitude n₄ k₄.
@@ -109,19 +105,9 @@ record-exact longest w =
           meets-then (number 2) _ s n₇ (number-exact 2 .sound s n₇ h (k₇ .0 .inside)) (λ speed n₈ k₈.
           meets-then (number (w .event)) _ s n₈ (number-exact (w .event) .sound s n₈ h (k₈ .0 .inside)) (λ event n₉ k₉.
           meets-then (upTo (w .generation) 7 11) _ s n₉ (upTo-exact (w .generation) 7 11 .sound s n₉ h (k₉ .0 .inside)) (λ generation n₁₀ k₁₀.
-          meets-then (number (w .count)) _ s n₁₀ (number-exact (w .count) .sound s n₁₀ h (k₁₀ .0 .inside)) (λ sum n₁₁ k₁₁.
-          meets-then (groups w (kinds w)) _ s n₁₁ (groups-exact w (kinds w) .sound s n₁₁ h (k₁₁ .0 .inside)) (λ gs n₁₂ k₁₂.
-          meets-then here _ s n₁₂ (meets-here s n₁₂) (λ end n₁₃ k₁₃.
-          meets-next (require (eqb sum (total gs)) 9 start) _ s n₁₃ (meets-require _ _ _ s n₁₃) (λ u n₁₄ k₁₄.
-          meets-next (require (leb end (start + longest)) 12 start) _ s n₁₄ (meets-require _ _ _ s n₁₄) (λ v n₁₅ k₁₅.
-          let same : sum ≡ total gs = eqb-true _ _ (k₁₄ .0) in
-          let last = between-bytes (ap (be (w .count)) same) (k₁₁ .0) in
-          let whole =
-          between-join (k₁ .0) (between-join (k₂ .0) (between-join (k₃ .0) (between-join (k₄ .0) (between-join (k₅ .0) (between-join (k₆ .0)
-          (between-join (k₇ .0) (between-join (k₈ .0) (between-join (k₉ .0) (between-join (k₁₀ .0) (between-join last (k₁₂ .0)))))))))))
-          in
-          meets-pure _ s n₁₅ (
-            between-moved (k₀ .1) (sym (k₁₅ .1 ∙ k₁₄ .1 ∙ k₁₃ .1)) whole,
+          meets-pure _ s n₁₀ (
+            between-join (k₁ .0) (between-join (k₂ .0) (between-join (k₃ .0) (between-join (k₄ .0) (between-join (k₅ .0) (between-join (k₆ .0)
+                (between-join (k₇ .0) (between-join (k₈ .0) (between-join (k₉ .0) (k₁₀ .0))))))))),
             record {
               timestampFits = k₁ .1;
               priorityRange = k₂ .1 .1;
@@ -134,11 +120,8 @@ record-exact longest w =
               eventFits = k₉ .1;
               generationFits = k₁₀ .1 .0;
               generationRange = k₁₀ .1 .1;
-              totalFits = subst (λ (x : ℕ). x < 256 ^ w .count) same (k₁₁ .1);
-              groupsKeep = k₁₂ .1;
-              size = within (whole .size) (leb-true _ _ (k₁₅ .0)) (k₁₃ .0) (k₀ .0) (k₀ .1);
             },
-          )))))))))))))))));
+          )))))))))));
       complete = λ s at r next h f.
           let f₁ = between-split (be 8 (r .timestamp)) f in
           let f₂ = between-split (be 1 (r .priority)) (f₁ .1) in
@@ -149,10 +132,7 @@ record-exact longest w =
           let f₇ = between-split (be 1 (r .satellites)) (f₆ .1) in
           let f₈ = between-split (be 2 (r .speed)) (f₇ .1) in
           let f₉ = between-split (be (w .event) (r .event)) (f₈ .1) in
-          let f₁₀ = between-split (be (w .generation) (r .generation)) (f₉ .1) in
-          let f₁₁ = between-split (be (w .count) (total (r .groups))) (f₁₀ .1) in
-          here-got _ s at
-          ∙ then-got (number 8) _ s _ (number-exact 8 .complete s _ _ _ (h .timestampFits) (f₁ .0))
+          then-got (number 8) _ s at (number-exact 8 .complete s at _ _ (h .timestampFits) (f₁ .0))
           ∙ then-got (upTo 1 2 10) _ s _ (upTo-exact 1 2 10 .complete s _ _ _ (omega (arith, h .priorityRange), h .priorityRange) (f₂ .0))
           ∙ then-got (number 4) _ s _ (number-exact 4 .complete s _ _ _ (h .longitudeFits) (f₃ .0))
           ∙ then-got (number 4) _ s _ (number-exact 4 .complete s _ _ _ (h .latitudeFits) (f₄ .0))
@@ -161,9 +141,42 @@ record-exact longest w =
           ∙ then-got (number 1) _ s _ (number-exact 1 .complete s _ _ _ (h .satellitesFit) (f₇ .0))
           ∙ then-got (number 2) _ s _ (number-exact 2 .complete s _ _ _ (h .speedFits) (f₈ .0))
           ∙ then-got (number (w .event)) _ s _ (number-exact (w .event) .complete s _ _ _ (h .eventFits) (f₉ .0))
-          ∙ then-got (upTo (w .generation) 7 11) _ s _ (upTo-exact (w .generation) 7 11 .complete s _ _ _ (h .generationFits, h .generationRange) (f₁₀ .0))
-          ∙ then-got (number (w .count)) _ s _ (number-exact (w .count) .complete s _ _ _ (h .totalFits) (f₁₁ .0))
-          ∙ then-got (groups w (kinds w)) _ s _ (groups-exact w (kinds w) .complete s _ (r .groups) next (h .groupsKeep) (f₁₁ .1))
+          ∙ then-got (upTo (w .generation) 7 11) _ s _ (upTo-exact (w .generation) 7 11 .complete s _ _ next (h .generationFits, h .generationRange) (f₉ .1));
+    }
+
+within : {end mid start at n₀ size longest : ℕ} → mid ≡ n₀ + size → end ≤ start + longest → end ≡ mid → start ≡ at → n₀ ≡ at → size ≤ longest
+within a b c d e = omega arith
+
+pub record-exact : (longest : ℕ) (w : Widths) → Exact (avlRecord longest w) (recordBytes w) (RecordRules longest w)
+unfolding avlRecord recordBytes pure
+record-exact longest w =
+    record {
+      sound = λ s at h i.
+          meets-then here _ s at (meets-here s at) (λ start n₀ k₀.
+          meets-then (fixedFields w) _ s n₀ (fixed-exact w .sound s n₀ h (omega (arith, k₀ .1))) (λ fixed n₁ k₁.
+          meets-then (number (w .count)) _ s n₁ (number-exact (w .count) .sound s n₁ h (k₁ .0 .inside)) (λ sum n₂ k₂.
+          meets-then (groups w (kinds w)) _ s n₂ (groups-exact w (kinds w) .sound s n₂ h (k₂ .0 .inside)) (λ gs n₃ k₃.
+          meets-then here _ s n₃ (meets-here s n₃) (λ end n₄ k₄.
+          meets-next (require (eqb sum (total gs)) 9 start) _ s n₄ (meets-require _ _ _ s n₄) (λ u n₅ k₅.
+          meets-next (require (leb end (start + longest)) 12 start) _ s n₅ (meets-require _ _ _ s n₅) (λ v n₆ k₆.
+          let same : sum ≡ total gs = eqb-true _ _ (k₅ .0) in
+          let whole = between-join (k₁ .0) (between-join (between-bytes (ap (be (w .count)) same) (k₂ .0)) (k₃ .0)) in
+          meets-pure _ s n₆ (
+            between-moved (k₀ .1) (sym (k₆ .1 ∙ k₅ .1 ∙ k₄ .1)) whole,
+            record {
+              fixedKeep = k₁ .1;
+              totalFits = subst (λ (x : ℕ). x < 256 ^ w .count) same (k₂ .1);
+              groupsKeep = k₃ .1;
+              size = within (whole .size) (leb-true _ _ (k₆ .0)) (k₄ .0) (k₀ .0) (k₀ .1);
+            },
+          ))))))));
+      complete = λ s at r next h f.
+          let f₁ = between-split (fixedBytes w (r .fixed)) f in
+          let f₂ = between-split (be (w .count) (total (r .groups))) (f₁ .1) in
+          here-got _ s at
+          ∙ then-got (fixedFields w) _ s at (fixed-exact w .complete s at _ _ (h .fixedKeep) (f₁ .0))
+          ∙ then-got (number (w .count)) _ s _ (number-exact (w .count) .complete s _ _ _ (h .totalFits) (f₂ .0))
+          ∙ then-got (groups w (kinds w)) _ s _ (groups-exact w (kinds w) .complete s _ (r .groups) next (h .groupsKeep) (f₂ .1))
           ∙ here-got _ s next
           ∙ require-got (eqb (total (r .groups)) (total (r .groups))) 9 at _ s next (eq-eqb (total (r .groups)) (total (r .groups)) refl)
           ∙ require-got (leb next (at + longest)) 12 at _ s next (le-leb next (at + longest) (omega (arith, h .size, f .size)));

@@ -7,7 +7,7 @@ use Rattle.wire.specs.Numbers.{pick}
 use Rattle.wire.specs.Reading.{Read, got, bad, Reader, _>>=_, _>>_, pure, here, require, number, bytes, upTo, repeat}
 use Rattle.avl.specs.declared.Widths.{Widths}
 use Rattle.avl.specs.Codecs.{kinds}
-use Rattle.avl.specs.Records.{Element, AvlRecord, total}
+use Rattle.avl.specs.Records.{Element, Fixed, AvlRecord, total}
 
 -- the length of a value: as the kind says, or in two bytes before a variable one
 unfoldable pub valueSize : ℕ → Reader ℕ
@@ -32,9 +32,8 @@ groups w (k ∷ ks) = do
   gs ← groups w ks
   pure (g ∷ gs)
 
-unfoldable pub avlRecord : ℕ → Widths → Reader AvlRecord
-avlRecord longest w = do
-  start ← here
+unfoldable pub fixedFields : Widths → Reader Fixed
+fixedFields w = do
   timestamp ← number 8
   priority ← upTo 1 2 10
   longitude ← number 4
@@ -45,25 +44,29 @@ avlRecord longest w = do
   speed ← number 2
   event ← number (w .event)
   generation ← upTo (w .generation) 7 11
+  pure (record {
+    timestamp = timestamp;
+    priority = priority;
+    longitude = longitude;
+    latitude = latitude;
+    altitude = altitude;
+    angle = angle;
+    satellites = satellites;
+    speed = speed;
+    event = event;
+    generation = generation;
+  })
+
+unfoldable pub avlRecord : ℕ → Widths → Reader AvlRecord
+avlRecord longest w = do
+  start ← here
+  fixed ← fixedFields w
   sum ← number (w .count)
   gs ← groups w (kinds w)
   end ← here
   require (eqb sum (total gs)) 9 start
   require (leb end (start + longest)) 12 start
-  pure
-      (record {
-        timestamp = timestamp;
-        priority = priority;
-        longitude = longitude;
-        latitude = latitude;
-        altitude = altitude;
-        angle = angle;
-        satellites = satellites;
-        speed = speed;
-        event = event;
-        generation = generation;
-        groups = gs;
-      })
+  pure (record { fixed = fixed; groups = gs })
 
 -- a refusal inside the record with this index
 unfoldable pub tagged : {A : Type 0} → ℕ → Read A → Read A

@@ -14,8 +14,8 @@ pub record Element : Type 0 where
   pub id : ℕ
   pub value : List ℕ
 
--- an AVL record; coordinates and altitude as unsigned numbers of their bytes; a group of elements for each kind
-pub record AvlRecord : Type 0 where
+-- a record's fixed fields; coordinates and altitude as unsigned numbers of their bytes
+pub record Fixed : Type 0 where
   pub timestamp : ℕ
   pub priority : ℕ
   pub longitude : ℕ
@@ -26,6 +26,10 @@ pub record AvlRecord : Type 0 where
   pub speed : ℕ
   pub event : ℕ
   pub generation : ℕ
+
+-- an AVL record: its fixed fields, and a group of elements for each kind
+pub record AvlRecord : Type 0 where
+  pub fixed : Fixed
   pub groups : List (List Element)
 
 -- how many elements the groups have
@@ -54,22 +58,23 @@ groupsBytes w [] gs = []
 groupsBytes w (k ∷ ks) [] = []
 groupsBytes w (k ∷ ks) (g ∷ gs) = groupBytes w k g ++ groupsBytes w ks gs
 
-unfoldable pub recordBytes : Widths → AvlRecord → List ℕ
-recordBytes w r =
+unfoldable pub fixedBytes : Widths → Fixed → List ℕ
+fixedBytes w f =
     fields
-    (be 8 (r .timestamp)
-    ∷ be 1 (r .priority)
-    ∷ be 4 (r .longitude)
-    ∷ be 4 (r .latitude)
-    ∷ be 2 (r .altitude)
-    ∷ be 2 (r .angle)
-    ∷ be 1 (r .satellites)
-    ∷ be 2 (r .speed)
-    ∷ be (w .event) (r .event)
-    ∷ be (w .generation) (r .generation)
-    ∷ be (w .count) (total (r .groups))
-    ∷ groupsBytes w (kinds w) (r .groups)
+    (be 8 (f .timestamp)
+    ∷ be 1 (f .priority)
+    ∷ be 4 (f .longitude)
+    ∷ be 4 (f .latitude)
+    ∷ be 2 (f .altitude)
+    ∷ be 2 (f .angle)
+    ∷ be 1 (f .satellites)
+    ∷ be 2 (f .speed)
+    ∷ be (w .event) (f .event)
+    ∷ be (w .generation) (f .generation)
     ∷ [])
+
+unfoldable pub recordBytes : Widths → AvlRecord → List ℕ
+recordBytes w r = fields (fixedBytes w (r .fixed) ∷ be (w .count) (total (r .groups)) ∷ groupsBytes w (kinds w) (r .groups) ∷ [])
 
 -- ---- the rules
 
@@ -93,19 +98,22 @@ GroupsRules w [] (g ∷ gs) = ⊥
 GroupsRules w (k ∷ ks) [] = ⊥
 GroupsRules w (k ∷ ks) (g ∷ gs) = GroupRules w k g × GroupsRules w ks gs
 
+pub record FixedRules (w : Widths) (f : Fixed) : Type 0 where
+  pub timestampFits : f .timestamp < 256 ^ 8
+  pub priorityRange : f .priority ≤ 2
+  pub longitudeFits : f .longitude < 256 ^ 4
+  pub latitudeFits : f .latitude < 256 ^ 4
+  pub altitudeFits : f .altitude < 256 ^ 2
+  pub angleFits : f .angle < 256 ^ 2
+  pub satellitesFit : f .satellites < 256 ^ 1
+  pub speedFits : f .speed < 256 ^ 2
+  pub eventFits : f .event < 256 ^ w .event
+  pub generationFits : f .generation < 256 ^ w .generation
+  pub generationRange : f .generation ≤ 7
+
 -- `longest` is the most bytes that a record may have
 pub record RecordRules (longest : ℕ) (w : Widths) (r : AvlRecord) : Type 0 where
-  pub timestampFits : r .timestamp < 256 ^ 8
-  pub priorityRange : r .priority ≤ 2
-  pub longitudeFits : r .longitude < 256 ^ 4
-  pub latitudeFits : r .latitude < 256 ^ 4
-  pub altitudeFits : r .altitude < 256 ^ 2
-  pub angleFits : r .angle < 256 ^ 2
-  pub satellitesFit : r .satellites < 256 ^ 1
-  pub speedFits : r .speed < 256 ^ 2
-  pub eventFits : r .event < 256 ^ w .event
-  pub generationFits : r .generation < 256 ^ w .generation
-  pub generationRange : r .generation ≤ 7
+  pub fixedKeep : FixedRules w (r .fixed)
   pub totalFits : total (r .groups) < 256 ^ w .count
   pub groupsKeep : GroupsRules w (kinds w) (r .groups)
   pub size : length (recordBytes w r) ≤ longest

@@ -13,7 +13,7 @@ use Rattle.wire.proofs.Widths.{length-digits, all-append}
 use Rattle.wire.proofs.Placed.{Between, between-split, between-moved, between-bytes, between-whole, between-is}
 use Rattle.avl.specs.declared.Widths.{Widths}
 use Rattle.avl.specs.Codecs.{kinds}
-use Rattle.avl.specs.Records.{Element, AvlRecord, elementCount, total, lengthBytes, elementBytes, groupBytes, groupsBytes, recordBytes, GroupsRules, RecordRules}
+use Rattle.avl.specs.Records.{Element, Fixed, AvlRecord, elementCount, total, lengthBytes, elementBytes, groupBytes, groupsBytes, fixedBytes, recordBytes, GroupsRules, RecordRules}
 use Rattle.lookup.specs.Elements.{Located, leadSize, locateGroup, locateGroups, fixedSize, elements}
 use Rattle.lookup.specs.Places.{part, Inside}
 
@@ -49,37 +49,18 @@ groups-inside w (k ∷ ks) s at (g ∷ gs) next f =
     (group-inside w k s _ g _ (between-moved (ap (λ (n : ℕ). at + n) (length-digits 256 (w .count) (length g))) refl (b .1)))
     (groups-inside w ks s _ gs next (a .1))
 
--- what stands before a record's groups
-abbrev fixedBytes : Widths → AvlRecord → List ℕ
-fixedBytes w r =
-    fields
-    (be 8 (r .timestamp)
-    ∷ be 1 (r .priority)
-    ∷ be 4 (r .longitude)
-    ∷ be 4 (r .latitude)
-    ∷ be 2 (r .altitude)
-    ∷ be 2 (r .angle)
-    ∷ be 1 (r .satellites)
-    ∷ be 2 (r .speed)
-    ∷ be (w .event) (r .event)
-    ∷ be (w .generation) (r .generation)
-    ∷ be (w .count) (total (r .groups))
-    ∷ [])
-
-record-split : (w : Widths) (r : AvlRecord) → recordBytes w r ≡ fixedBytes w r ++ groupsBytes w (kinds w) (r .groups)
-unfolding recordBytes
-record-split w r = simp append-assoc
-
-length-fixed : (w : Widths) (r : AvlRecord) → length (fixedBytes w r) ≡ fixedSize w
-unfolding fixedSize
-length-fixed w r = simp (length-append, length-digits) (omega arith)
+length-fixed : (w : Widths) (f : Fixed) → length (fixedBytes w f) + w .count ≡ fixedSize w
+unfolding fixedBytes fixedSize
+length-fixed w f = simp (length-append, length-digits) (omega arith)
 
 pub elements-inside : (w : Widths) (r : AvlRecord) → All (λ e. Inside e (recordBytes w r)) (elements w r)
-unfolding elements
+unfolding elements recordBytes
 elements-inside w r =
     let s = recordBytes w r in
-    let a = between-split (fixedBytes w r) (between-bytes (record-split w r) (between-whole s)) in
-    groups-inside w (kinds w) s (fixedSize w) (r .groups) (length s) (between-moved (zero-add _ ∙ length-fixed w r) refl (a .1))
+    let a = between-split (fixedBytes w (r .fixed)) (between-whole s) in
+    let b = between-split (be (w .count) (total (r .groups))) (a .1) in
+    let sum = length-digits 256 (w .count) (total (r .groups)) in
+    groups-inside w (kinds w) s (fixedSize w) (r .groups) (length s) (between-moved (omega (arith, length-fixed w (r .fixed), sum)) refl (b .1))
 
 -- ---- the number of elements
 

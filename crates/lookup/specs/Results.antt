@@ -45,15 +45,15 @@ pub record RecordResult : Type 0 where
 unfoldable pub recordResult : AvlRecord → RecordResult
 recordResult r =
     record {
-      timestamp = r .timestamp;
-      priority = r .priority;
-      longitude = signed 4 (r .longitude);
-      latitude = signed 4 (r .latitude);
-      altitude = signed 2 (r .altitude);
-      angle = r .angle;
-      satellites = r .satellites;
-      speed = r .speed;
-      event = r .event;
-      generation = r .generation;
+      timestamp = r .fixed .timestamp;
+      priority = r .fixed .priority;
+      longitude = signed 4 (r .fixed .longitude);
+      latitude = signed 4 (r .fixed .latitude);
+      altitude = signed 2 (r .fixed .altitude);
+      angle = r .fixed .angle;
+      satellites = r .fixed .satellites;
+      speed = r .fixed .speed;
+      event = r .fixed .event;
+      generation = r .fixed .generation;
       elements = elementCount (r .groups);
     }

@@ -15,7 +15,7 @@ use Rattle.avl.proofs.ByteLaws.{ByteValues, bytes-data}
 use Rattle.frame.proofs.FrameLaws.{bytes-framed}
 use Rattle.packet.specs.DataPackets.{packetBytes}
 use Rattle.tlv.specs.Entries.{Entry, entriesFrom, entriesOf}
-use Rattle.tlv.specs.Decoding.{entryElement, ofKind, groupsOf, recordOf, beforeNext, recordsOf, dataOf, decoded}
+use Rattle.tlv.specs.Decoding.{entryElement, ofKind, groupsOf, fixedOf, beforeNext, recordsOf, dataOf, decoded}
 
 abbrev ByteBodies : List Entry → Type 0
 ByteBodies es = All (λ e. Bytes (e .body)) es
@@ -46,10 +46,10 @@ bytes-next [] h = tt
 bytes-next (e ∷ es) h = pick-either ByteBodies (eqb (e .kind) 101) [] (e ∷ beforeNext es) tt (h .0, bytes-next es (h .1))
 
 bytes-records : (ks : List ℕ) (es : List Entry) → ByteBodies es → All ByteValues (recordsOf ks es)
-unfolding recordsOf recordOf
+unfolding recordsOf
 bytes-records ks [] h = tt
 bytes-records ks (e ∷ es) h =
-    pick-either (All ByteValues) (eqb (e .kind) 101) (recordOf ks (e .body) (beforeNext es) ∷ recordsOf ks es) (recordsOf ks es)
+    pick-either (All ByteValues) (eqb (e .kind) 101) (record { fixed = fixedOf (e .body); groups = groupsOf ks (beforeNext es) } ∷ recordsOf ks es) (recordsOf ks es)
     (bytes-groups ks (beforeNext es) (bytes-next es (h .1)), bytes-records ks es (h .1)) (bytes-records ks es (h .1))
 
 bytes-dataOf : (es : List Entry) → ByteBodies es → All ByteValues (dataOf es .records)

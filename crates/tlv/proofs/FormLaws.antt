@@ -14,11 +14,11 @@ use Rattle.wire.proofs.Widths.{little-le, length-le, all-append}
 use Rattle.wire.proofs.Accepting.{pick-true, pick-false, pick-either}
 use Rattle.avl.specs.declared.Widths.{Widths}
 use Rattle.avl.specs.Codecs.{widthsOf, kinds, codec8, codec8E, codec16}
-use Rattle.avl.specs.Records.{Element, AvlRecord, ElementRules, GroupRules, GroupsRules, RecordRules, total, lengthBytes, elementBytes, groupBytes, groupsBytes, recordBytes}
+use Rattle.avl.specs.Records.{Element, Fixed, AvlRecord, FixedRules, ElementRules, GroupRules, GroupsRules, RecordRules, total, lengthBytes, elementBytes, groupBytes, groupsBytes, fixedBytes, recordBytes}
 use Rattle.avl.specs.DataField.{AvlData, DataRules, dataBytes}
 use Rattle.tlv.specs.Entries.{Entry, entryBytes, entriesOf}
-use Rattle.tlv.specs.Form.{recordEntry, elementEntry, groupEntries, groupsEntries, recordsEntries, formEntries, form}
-use Rattle.tlv.specs.Decoding.{entryElement, ofKind, groupsOf, recordOf, beforeNext, recordsOf, dataOf, decoded}
+use Rattle.tlv.specs.Form.{fixedEntry, elementEntry, groupEntries, groupsEntries, recordsEntries, formEntries, form}
+use Rattle.tlv.specs.Decoding.{entryElement, ofKind, groupsOf, fixedOf, beforeNext, recordsOf, dataOf, decoded}
 use Rattle.tlv.proofs.EntryLaws.{EntryFits, entries-written}
 
 -- ---- the elements of a record
@@ -87,21 +87,20 @@ groups-again (k ∷ ks) (g ∷ gs) d p h =
 
 -- ---- the fixed fields
 
-record-again : (ks : List ℕ) (r : AvlRecord) (es : List Entry) (w : Widths) (longest : ℕ) → w .event ≤ 2 → RecordRules longest w r → groupsOf ks es ≡ r .groups
-    → recordOf ks (recordEntry r .body) es ≡ r
-unfolding recordOf recordEntry le
-record-again ks r es w longest narrow h e =
-    let b = recordEntry r .body in
-    let timestamp : littleAt b 0 8 ≡ r .timestamp = little-le 8 _ b 0 _ (h .timestampFits) refl in
-    let priority : littleAt b 8 1 ≡ r .priority = little-le 1 _ b 8 _ (omega (arith, h .priorityRange)) refl in
-    let longitude : littleAt b 9 4 ≡ r .longitude = little-le 4 _ b 9 _ (h .longitudeFits) refl in
-    let latitude : littleAt b 13 4 ≡ r .latitude = little-le 4 _ b 13 _ (h .latitudeFits) refl in
-    let altitude : littleAt b 17 2 ≡ r .altitude = little-le 2 _ b 17 _ (h .altitudeFits) refl in
-    let angle : littleAt b 19 2 ≡ r .angle = little-le 2 _ b 19 _ (h .angleFits) refl in
-    let satellites : littleAt b 21 1 ≡ r .satellites = little-le 1 _ b 21 _ (h .satellitesFit) refl in
-    let speed : littleAt b 22 2 ≡ r .speed = little-le 2 _ b 22 _ (h .speedFits) refl in
-    let event : littleAt b 24 2 ≡ r .event = little-le 2 _ b 24 _ (lt-of-lt-of-le (h .eventFits) (pow-le-pow-right (lit< tt) narrow)) refl in
-    let generation : littleAt b 26 1 ≡ r .generation = little-le 1 _ b 26 [] (omega (arith, h .generationRange)) refl in
+fixed-again : (w : Widths) (f : Fixed) → w .event ≤ 2 → FixedRules w f → fixedOf (fixedEntry f .body) ≡ f
+unfolding fixedOf fixedEntry le
+fixed-again w f narrow h =
+    let b = fixedEntry f .body in
+    let timestamp : littleAt b 0 8 ≡ f .timestamp = little-le 8 _ b 0 _ (h .timestampFits) refl in
+    let priority : littleAt b 8 1 ≡ f .priority = little-le 1 _ b 8 _ (omega (arith, h .priorityRange)) refl in
+    let longitude : littleAt b 9 4 ≡ f .longitude = little-le 4 _ b 9 _ (h .longitudeFits) refl in
+    let latitude : littleAt b 13 4 ≡ f .latitude = little-le 4 _ b 13 _ (h .latitudeFits) refl in
+    let altitude : littleAt b 17 2 ≡ f .altitude = little-le 2 _ b 17 _ (h .altitudeFits) refl in
+    let angle : littleAt b 19 2 ≡ f .angle = little-le 2 _ b 19 _ (h .angleFits) refl in
+    let satellites : littleAt b 21 1 ≡ f .satellites = little-le 1 _ b 21 _ (h .satellitesFit) refl in
+    let speed : littleAt b 22 2 ≡ f .speed = little-le 2 _ b 22 _ (h .speedFits) refl in
+    let event : littleAt b 24 2 ≡ f .event = little-le 2 _ b 24 _ (lt-of-lt-of-le (h .eventFits) (pow-le-pow-right (lit< tt) narrow)) refl in
+    let generation : littleAt b 26 1 ≡ f .generation = little-le 1 _ b 26 [] (omega (arith, h .generationRange)) refl in
     λ i. record {
       timestamp = timestamp i;
       priority = priority i;
@@ -113,7 +112,6 @@ record-again ks r es w longest narrow h e =
       speed = speed i;
       event = event i;
       generation = generation i;
-      groups = e i;
     }
 
 -- ---- the records
@@ -145,7 +143,7 @@ skip-elements ks [] rest h = refl
 skip-elements ks (x ∷ es) rest h = pick-false (eqb (x .kind) 101) _ _ (ne-eqb (x .kind) 101 (h .0)) ∙ skip-elements ks es rest (h .1)
 
 starts-record : (ks : List ℕ) (rs : List AvlRecord) → beforeNext (recordsEntries ks rs) ≡ []
-unfolding beforeNext recordsEntries recordEntry
+unfolding beforeNext recordsEntries fixedEntry
 starts-record ks [] = refl
 starts-record ks (r ∷ rs) = refl
 
@@ -173,7 +171,7 @@ small-ids w (k ∷ ks) [] n h = absurd h
 small-ids w (k ∷ ks) (g ∷ gs) n h = (small-group w k g n (h .0 .each), small-ids w ks gs n (h .1))
 
 records-again : (w : Widths) (longest : ℕ) (rs : List AvlRecord) → Plain w → All (RecordRules longest w) rs → recordsOf (kinds w) (recordsEntries (kinds w) rs) ≡ rs
-unfolding recordsOf recordsEntries recordEntry
+unfolding recordsOf recordsEntries fixedEntry
 records-again w longest [] p h = refl
 records-again w longest (r ∷ rs) p h =
     let ks = kinds w in
@@ -184,8 +182,9 @@ records-again w longest (r ∷ rs) p h =
     ap (groupsOf ks) (before-next es rest plain (starts-record ks rs))
     ∙ groups-again ks (r .groups) (p .distinct) (parallel w ks (r .groups) (h .0 .groupsKeep)) (small-ids w ks (r .groups) (p .id) (h .0 .groupsKeep))
     in
-    ap₂ (λ (x : AvlRecord) (l : List AvlRecord). x ∷ l) (record-again ks r (beforeNext (es ++ rest)) w longest (p .event) (h .0) own)
-    (skip-elements ks es rest plain ∙ records-again w longest rs p (h .1))
+    let fixed = fixed-again w (r .fixed) (p .event) (h .0 .fixedKeep) in
+    let whole : _≡_ {A = AvlRecord} (record { fixed = fixedOf (fixedEntry (r .fixed) .body); groups = groupsOf ks (beforeNext (es ++ rest)) }) r = λ i. record { fixed = fixed i; groups = own i } in
+    ap₂ (λ (x : AvlRecord) (l : List AvlRecord). x ∷ l) whole (skip-elements ks es rest plain ∙ records-again w longest rs p (h .1))
 
 plain : (w : Widths) → w .event ≤ 2 → w .id ≤ 2 → Plain w
 unfolding kinds
@@ -235,25 +234,30 @@ fits-groups w (k ∷ ks) (g ∷ gs) h l =
     let sum = length-append (be (w .count) (length g) ++ joined (elementBytes w k) g) (groupsBytes w ks gs) in
     all-append EntryFits (groupEntries k g) (groupsEntries ks gs) (fits-group w k g (h .0) (omega (arith, size, sum))) (fits-groups w ks gs (h .1) (omega (arith, size, sum)))
 
+fixed-size : (w : Widths) (f : Fixed) → 2 ≤ length (fixedBytes w f)
+unfolding fixedBytes digits
+fixed-size w f = omega arith
+
 groups-within : (w : Widths) (r : AvlRecord) → 2 + length (groupsBytes w (kinds w) (r .groups)) ≤ length (recordBytes w r)
-unfolding recordBytes digits
+unfolding recordBytes
 groups-within w r =
+    let sum = be (w .count) (total (r .groups)) in
     omega (
       arith,
-      length-append (be (w .event) (r .event)) (be (w .generation) (r .generation) ++ (be (w .count) (total (r .groups)) ++ groupsBytes w (kinds w) (r .groups))),
-      length-append (be (w .generation) (r .generation)) (be (w .count) (total (r .groups)) ++ groupsBytes w (kinds w) (r .groups)),
-      length-append (be (w .count) (total (r .groups))) (groupsBytes w (kinds w) (r .groups)),
+      fixed-size w (r .fixed),
+      length-append (fixedBytes w (r .fixed)) (sum ++ groupsBytes w (kinds w) (r .groups)),
+      length-append sum (groupsBytes w (kinds w) (r .groups)),
     )
 
-fits-record : (r : AvlRecord) → EntryFits (recordEntry r)
-unfolding recordEntry le
-fits-record r = record { kindFits = lit< tt; bodyFits = lit< tt }
+fits-fixed : (f : Fixed) → EntryFits (fixedEntry f)
+unfolding fixedEntry le
+fits-fixed f = record { kindFits = lit< tt; bodyFits = lit< tt }
 
 fits-records : (w : Widths) (longest : ℕ) (rs : List AvlRecord) → longest < 256 ^ 2 → All (RecordRules longest w) rs → All EntryFits (recordsEntries (kinds w) rs)
 unfolding recordsEntries
 fits-records w longest [] l h = tt
 fits-records w longest (r ∷ rs) l h = (
-  fits-record r,
+  fits-fixed (r .fixed),
   all-append EntryFits (groupsEntries (kinds w) (r .groups)) (recordsEntries (kinds w) rs)
       (fits-groups w (kinds w) (r .groups) (small-kinds w) (omega (arith, groups-within w r, h .0 .size)))
       (fits-records w longest rs l (h .1)),

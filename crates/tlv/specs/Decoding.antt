@@ -5,7 +5,7 @@ use lib.ListN.{getD, drop}
 use lib.Dec.{eqb}
 use Rattle.wire.specs.Numbers.{littleAt, pick}
 use Rattle.avl.specs.Codecs.{widthsOf, kinds}
-use Rattle.avl.specs.Records.{Element, AvlRecord}
+use Rattle.avl.specs.Records.{Element, Fixed, AvlRecord}
 use Rattle.avl.specs.DataField.{AvlData}
 use Rattle.tlv.specs.Entries.{Entry, entriesOf}
 
@@ -21,9 +21,9 @@ unfoldable pub groupsOf : List ℕ → List Entry → List (List Element)
 groupsOf [] es = []
 groupsOf (k ∷ ks) es = ofKind k es ∷ groupsOf ks es
 
--- a record from its entry 101 and the entries behind it
-unfoldable pub recordOf : List ℕ → List ℕ → List Entry → AvlRecord
-recordOf ks b es =
+-- the fixed fields of an entry 101
+unfoldable pub fixedOf : List ℕ → Fixed
+fixedOf b =
     record {
       timestamp = littleAt b 0 8;
       priority = littleAt b 8 1;
@@ -35,7 +35,6 @@ recordOf ks b es =
       speed = littleAt b 22 2;
       event = littleAt b 24 2;
       generation = littleAt b 26 1;
-      groups = groupsOf ks es;
     }
 
 -- the entries up to the next 101
@@ -45,7 +44,7 @@ beforeNext (e ∷ es) = pick (eqb (e .kind) 101) [] (e ∷ beforeNext es)
 
 unfoldable pub recordsOf : List ℕ → List Entry → List AvlRecord
 recordsOf ks [] = []
-recordsOf ks (e ∷ es) = pick (eqb (e .kind) 101) (recordOf ks (e .body) (beforeNext es) ∷ recordsOf ks es) (recordsOf ks es)
+recordsOf ks (e ∷ es) = pick (eqb (e .kind) 101) (record { fixed = fixedOf (e .body); groups = groupsOf ks (beforeNext es) } ∷ recordsOf ks es) (recordsOf ks es)
 
 -- the codec is the first byte of the first entry
 unfoldable pub dataOf : List Entry → AvlData

@@ -4,27 +4,27 @@ use mathlib.Core.List.{List, [], _∷_, _++_}
 use Rattle.wire.specs.Numbers.{le}
 use Rattle.wire.specs.Sequences.{fields, joined}
 use Rattle.avl.specs.Codecs.{widthsOf, kinds}
-use Rattle.avl.specs.Records.{Element, AvlRecord}
+use Rattle.avl.specs.Records.{Element, Fixed, AvlRecord}
 use Rattle.avl.specs.DataField.{AvlData}
 use Rattle.tlv.specs.Entries.{Entry, entryBytes}
 
 -- kind 101, 27 bytes
-unfoldable pub recordEntry : AvlRecord → Entry
-recordEntry r =
+unfoldable pub fixedEntry : Fixed → Entry
+fixedEntry f =
     record {
       kind = 101;
       body =
           fields
-          (le 8 (r .timestamp)
-          ∷ le 1 (r .priority)
-          ∷ le 4 (r .longitude)
-          ∷ le 4 (r .latitude)
-          ∷ le 2 (r .altitude)
-          ∷ le 2 (r .angle)
-          ∷ le 1 (r .satellites)
-          ∷ le 2 (r .speed)
-          ∷ le 2 (r .event)
-          ∷ le 1 (r .generation)
+          (le 8 (f .timestamp)
+          ∷ le 1 (f .priority)
+          ∷ le 4 (f .longitude)
+          ∷ le 4 (f .latitude)
+          ∷ le 2 (f .altitude)
+          ∷ le 2 (f .angle)
+          ∷ le 1 (f .satellites)
+          ∷ le 2 (f .speed)
+          ∷ le 2 (f .event)
+          ∷ le 1 (f .generation)
           ∷ []);
     }
 
@@ -43,7 +43,7 @@ groupsEntries (k ∷ ks) (g ∷ gs) = groupEntries k g ++ groupsEntries ks gs
 
 unfoldable pub recordsEntries : List ℕ → List AvlRecord → List Entry
 recordsEntries ks [] = []
-recordsEntries ks (r ∷ rs) = recordEntry r ∷ groupsEntries ks (r .groups) ++ recordsEntries ks rs
+recordsEntries ks (r ∷ rs) = fixedEntry (r .fixed) ∷ groupsEntries ks (r .groups) ++ recordsEntries ks rs
 
 -- kind 100, the codec, then the records
 unfoldable pub formEntries : AvlData → List Entry
