@@ -1,3 +1,4 @@
 pub mod RecordLaws
 pub mod DataLaws
 pub mod ByteLaws
+pub mod Samples

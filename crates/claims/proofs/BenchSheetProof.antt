@@ -4,7 +4,7 @@ use Rattle.wire.specs.Answers.{onAccepted, told, check}
 use Rattle.wire.specs.Envelope.{enclosed, codecOf, firstCount, lastCount, inner}
 use Rattle.wire.specs.Imei.{imeiText, textDigit, readImei, packed, pairUpTo, readPacked}
 use Rattle.wire.specs.Numbers.{numberAt, digits, valueFrom, littleAt, le, signed}
-use Rattle.wire.specs.Reading.{andThen, _>>=_, _>>_, pure, here, require, span, number, bytes, upTo, repeat}
+use Rattle.wire.specs.Reading.{walked, andThen, _>>=_, _>>_, pure, here, require, span, number, bytes, upTo, repeat}
 use Rattle.checksum.specs.Crc.{feedback, shift, shifts, absorb, crcFrom, crc}
 use Rattle.frame.specs.Frame.{framed, fieldLength, fieldOf, unframe, lastFour}
 use Rattle.avl.specs.Codecs.{codec8, codec8E, codec16, widthsOf, isDataCodec, kinds}
@@ -22,5 +22,5 @@ use Rattle.tlv.specs.PacketOf.{formOfPacket, formOfDatagram, or17, readForm, pa
 use Rattle.claims.specs.BenchSheet.{commandFields, sheet, AsTheSheetSays}
 
 pub bench-sheet : AsTheSheetSays
-unfolding onAccepted told check enclosed codecOf firstCount lastCount inner imeiText textDigit readImei packed pairUpTo readPacked numberAt digits valueFrom littleAt le signed andThen _>>=_ _>>_ pure here require span number bytes upTo repeat feedback shift shifts absorb crcFrom crc framed fieldLength fieldOf unframe lastFour codec8 codec8E codec16 widthsOf isDataCodec kinds dataBytes readData valueSize element group groups fixedFields avlRecord tagged inRecord avlRecords atEnd allRecords elementCount total lengthBytes elementBytes groupBytes groupsBytes fixedBytes recordBytes packetBytes readPacket acknowledged tcpAcknowledgement commandField commandBody readField readCommand answerCommand textView layouts findLayout layoutOf readLogin isAccepted loginAnswer headerBytes contentBytes datagramBytes readHeader readDatagram udpAcknowledgement entryBytes entriesFrom entriesOf fixedEntry elementEntry groupEntries groupsEntries recordsEntries formEntries form formOfPacket formOfDatagram or17 readForm packetOfForm commandFields sheet
+unfolding onAccepted told check enclosed codecOf firstCount lastCount inner imeiText textDigit readImei packed pairUpTo readPacked numberAt digits valueFrom littleAt le signed walked andThen _>>=_ _>>_ pure here require span number bytes upTo repeat feedback shift shifts absorb crcFrom crc framed fieldLength fieldOf unframe lastFour codec8 codec8E codec16 widthsOf isDataCodec kinds dataBytes readData valueSize element group groups fixedFields avlRecord tagged inRecord avlRecords atEnd allRecords elementCount total lengthBytes elementBytes groupBytes groupsBytes fixedBytes recordBytes packetBytes readPacket acknowledged tcpAcknowledgement commandField commandBody readField readCommand answerCommand textView layouts findLayout layoutOf readLogin isAccepted loginAnswer headerBytes contentBytes datagramBytes readHeader readDatagram udpAcknowledgement entryBytes entriesFrom entriesOf fixedEntry elementEntry groupEntries groupsEntries recordsEntries formEntries form formOfPacket formOfDatagram or17 readForm packetOfForm commandFields sheet
 bench-sheet = (refl, (refl, (refl, (refl, (refl, (refl, (refl, (refl, (refl, (refl, (refl, (refl, (refl, (refl, tt))))))))))))))

@@ -4,7 +4,7 @@ use Rattle.wire.specs.Answers.{onAccepted, told, check}
 use Rattle.wire.specs.Envelope.{enclosed, codecOf, firstCount, lastCount, inner}
 use Rattle.wire.specs.Imei.{imeiText, textDigit, readImei, packed, pairUpTo, readPacked}
 use Rattle.wire.specs.Numbers.{numberAt, digits, valueFrom, littleAt, le, signed}
-use Rattle.wire.specs.Reading.{andThen, _>>=_, _>>_, pure, here, require, span, number, bytes, upTo, repeat}
+use Rattle.wire.specs.Reading.{walked, andThen, _>>=_, _>>_, pure, here, require, span, number, bytes, upTo, repeat}
 use Rattle.checksum.specs.Crc.{feedback, shift, shifts, absorb, crcFrom, crc}
 use Rattle.frame.specs.Frame.{framed, fieldLength, fieldOf, unframe, lastFour}
 use Rattle.avl.specs.Codecs.{codec8, codec8E, codec16, widthsOf, isDataCodec, kinds}
@@ -23,5 +23,5 @@ use Rattle.claims.specs.BenchSheet.{commandFields}
 use Rattle.claims.specs.Examples.{packetFields, loginFields, datagramFields, examples, AsDocument006Has}
 
 pub worked-examples : AsDocument006Has
-unfolding onAccepted told check enclosed codecOf firstCount lastCount inner imeiText textDigit readImei packed pairUpTo readPacked numberAt digits valueFrom littleAt le signed andThen _>>=_ _>>_ pure here require span number bytes upTo repeat feedback shift shifts absorb crcFrom crc framed fieldLength fieldOf unframe lastFour codec8 codec8E codec16 widthsOf isDataCodec kinds dataBytes readData valueSize element group groups fixedFields avlRecord tagged inRecord avlRecords atEnd allRecords elementCount total lengthBytes elementBytes groupBytes groupsBytes fixedBytes recordBytes packetBytes readPacket acknowledged tcpAcknowledgement commandField commandBody readField readCommand answerCommand textView layouts findLayout layoutOf readLogin isAccepted loginAnswer headerBytes contentBytes datagramBytes readHeader readDatagram udpAcknowledgement entryBytes entriesFrom entriesOf fixedEntry elementEntry groupEntries groupsEntries recordsEntries formEntries form formOfPacket formOfDatagram or17 readForm packetOfForm commandFields packetFields loginFields datagramFields examples
+unfolding onAccepted told check enclosed codecOf firstCount lastCount inner imeiText textDigit readImei packed pairUpTo readPacked numberAt digits valueFrom littleAt le signed walked andThen _>>=_ _>>_ pure here require span number bytes upTo repeat feedback shift shifts absorb crcFrom crc framed fieldLength fieldOf unframe lastFour codec8 codec8E codec16 widthsOf isDataCodec kinds dataBytes readData valueSize element group groups fixedFields avlRecord tagged inRecord avlRecords atEnd allRecords elementCount total lengthBytes elementBytes groupBytes groupsBytes fixedBytes recordBytes packetBytes readPacket acknowledged tcpAcknowledgement commandField commandBody readField readCommand answerCommand textView layouts findLayout layoutOf readLogin isAccepted loginAnswer headerBytes contentBytes datagramBytes readHeader readDatagram udpAcknowledgement entryBytes entriesFrom entriesOf fixedEntry elementEntry groupEntries groupsEntries recordsEntries formEntries form formOfPacket formOfDatagram or17 readForm packetOfForm commandFields packetFields loginFields datagramFields examples
 worked-examples = (refl, (refl, (refl, (refl, (refl, (refl, (refl, (refl, (refl, (refl, (refl, (refl, (refl, (refl, (refl, (refl, (refl, tt)))))))))))))))))

@@ -10,9 +10,10 @@ use lib.ListN.{length, take, drop, length-drop}
 use lib.Seq.{length-take-le}
 use lib.Dec.{leb}
 use borrow.Author.Tests.{le-leb, leb-true}
+use Rattle.wire.specs.declared.Fault.{Fault}
 use Rattle.wire.specs.Numbers.{Bytes, numberAt, be, pick}
 use Rattle.wire.specs.Sequences.{joined, All}
-use Rattle.wire.specs.Reading.{Read, got, bad, Reader, Fault, andThen, _>>=_, _>>_, pure, here, require, span, number, bytes, upTo, repeat}
+use Rattle.wire.specs.Reading.{Read, got, bad, Reader, andThen, _>>=_, _>>_, pure, here, require, span, number, bytes, upTo, repeat}
 use Rattle.wire.proofs.Widths.{be-number, number-be, number-lt, length-digits, bytes-take, bytes-drop}
 use Rattle.wire.proofs.Placed.{Between, between-nil, between-join, between-split, between-moved, between-take, between-is}
 

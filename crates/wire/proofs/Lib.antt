@@ -5,3 +5,4 @@ pub mod Exactness
 pub mod Accepting
 pub mod ImeiText
 pub mod ImeiPacked
+pub mod SignedLaws

@@ -4,18 +4,20 @@ use mathlib.Core.Bool.{Bool}
 use mathlib.Core.List.{List, [], _∷_}
 use lib.ListN.{length, take, drop}
 use lib.Dec.{leb}
+use Rattle.wire.specs.declared.Fault.{Fault}
+use Rattle.wire.specs.declared.Walk.{Walk}
+use Rattle.wire.specs.declared.Walk.the-variants.{On, Stopped}
 use Rattle.wire.specs.Numbers.{numberAt, pick}
-
--- why a walk stopped: the refusal's number, the record's index, and the offset at which the offending field starts
-pub record Fault : Type 0 where
-  pub number : ℕ
-  pub index : ℕ
-  pub place : ℕ
 
 -- what was read and the offset behind it, or why not
 pub data Read (A : Type 0) : Type 0 where
   got : A → ℕ → Read A
   bad : Fault → Read A
+
+-- where the walk goes on, or why it stopped
+unfoldable pub walked : {A : Type 0} → Read A → Walk
+walked (got a next) = On next
+walked (bad x) = Stopped x
 
 -- a reader takes the bytes and the offset to read at
 abbrev pub Reader : Type 0 → Type 0
