@@ -8,20 +8,6 @@ use lib.Dec.{ltb}
 use borrow.Author.Tests.{ltb-true}
 use Rattle.wire.specs.Numbers.{signed, pick}
 
--- the number whose bytes mean `z`
-pub raw : ℕ → ℤ → ℕ
-raw w (pos n) = n
-raw w (negsuc n) = 2 ^ (8 * w) - suc n
-
--- no two numbers of `w` bytes mean the same
-pub raw-signed : (w n : ℕ) → n < 2 ^ (8 * w) → raw w (signed w n) ≡ n
-unfolding signed raw
-raw-signed w n h = go (ltb n (2 ^ (8 * w - 1)))
-  where
-    go : (b : Bool) → raw w (pick b (pos n) (negsuc (2 ^ (8 * w) - suc n))) ≡ n
-    go true = refl
-    go false = omega arith
-
 -- the ends of the range, -1 and 0, and the paper's example
 pub largest : signed 4 0x7FFFFFFF ≡ pos 2147483647
 unfolding signed
@@ -46,3 +32,17 @@ longitude = refl
 pub altitudes : (signed 2 0x7FFF ≡ pos 32767) × (signed 2 0x8000 ≡ negsuc 32767) × (signed 2 0xFFFF ≡ negsuc 0)
 unfolding signed
 altitudes = (refl, refl, refl)
+
+-- the number whose bytes mean `z`
+pub raw : ℕ → ℤ → ℕ
+raw w (pos n) = n
+raw w (negsuc n) = 2 ^ (8 * w) - suc n
+
+-- no two numbers of `w` bytes mean the same
+pub raw-signed : (w n : ℕ) → n < 2 ^ (8 * w) → raw w (signed w n) ≡ n
+unfolding signed raw
+raw-signed w n h = go (ltb n (2 ^ (8 * w - 1)))
+  where
+    go : (b : Bool) → raw w (pick b (pos n) (negsuc (2 ^ (8 * w) - suc n))) ≡ n
+    go true = refl
+    go false = omega arith
