@@ -6,3 +6,5 @@ pub mod Accepting
 pub mod ImeiText
 pub mod ImeiPacked
 pub mod SignedLaws
+pub mod Shifts
+pub mod Complement
