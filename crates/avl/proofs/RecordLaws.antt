@@ -31,7 +31,7 @@ size-exact : (variable : Bool) (kind : ℕ)
 size-exact true kind = number-exact 2
 size-exact false kind = pure-exact kind
 
-element-exact : (w : Widths) (kind : ℕ) → Exact (element w kind) (elementBytes w kind) (ElementRules w kind)
+pub element-exact : (w : Widths) (kind : ℕ) → Exact (element w kind) (elementBytes w kind) (ElementRules w kind)
 unfolding element elementBytes lengthBytes valueSize pure
 element-exact w kind =
     record {
@@ -51,7 +51,7 @@ element-exact w kind =
           ∙ then-got (bytes (length (e .value))) _ s _ (bytes-exact (length (e .value)) .complete s _ (e .value) next (refl, h .bytes) (b .1));
     }
 
-group-exact : (w : Widths) (kind : ℕ) → Exact (group w kind) (groupBytes w kind) (GroupRules w kind)
+pub group-exact : (w : Widths) (kind : ℕ) → Exact (group w kind) (groupBytes w kind) (GroupRules w kind)
 unfolding group groupBytes
 group-exact w kind =
     record {
@@ -90,7 +90,7 @@ groups-complete w (k ∷ ks) s at (g ∷ gs) next h f =
 groups-exact : (w : Widths) (ks : List ℕ) → Exact (groups w ks) (groupsBytes w ks) (GroupsRules w ks)
 groups-exact w ks = record { sound = groups-sound w ks; complete = groups-complete w ks }
 
-fixed-exact : (w : Widths) → Exact (fixedFields w) (fixedBytes w) (FixedRules w)
+pub fixed-exact : (w : Widths) → Exact (fixedFields w) (fixedBytes w) (FixedRules w)
 unfolding fixedFields fixedBytes pure
 fixed-exact w =
     record {

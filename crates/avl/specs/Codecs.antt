@@ -6,13 +6,13 @@ use lib.Dec.{eqb}
 use Rattle.wire.specs.Numbers.{pick}
 use Rattle.avl.specs.declared.Widths.{Widths}
 
-unfoldable pub codec8 : Widths
+abbrev pub codec8 : Widths
 codec8 = record { event = 1; generation = 0; count = 1; id = 1; variable = false }
 
-unfoldable pub codec8E : Widths
+abbrev pub codec8E : Widths
 codec8E = record { event = 2; generation = 0; count = 2; id = 2; variable = true }
 
-unfoldable pub codec16 : Widths
+abbrev pub codec16 : Widths
 codec16 = record { event = 2; generation = 1; count = 1; id = 2; variable = false }
 
 unfoldable pub widthsOf : ℕ → Widths

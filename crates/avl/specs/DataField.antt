@@ -37,3 +37,12 @@ readData longest d =
     (check (eqb (firstCount d) (lastCount d)) 7
     (onAccepted (told (allRecords longest (widthsOf (codecOf d)) (firstCount d) (inner d) 0))
     (λ rs. accepted (record { codec = codecOf d; records = rs })))))
+
+-- ---- the result: codec and number of records
+
+pub record DataResult : Type 0 where
+  pub codec : ℕ
+  pub count : ℕ
+
+unfoldable pub dataResult : AvlData → DataResult
+dataResult a = record { codec = a .codec; count = length (a .records) }

@@ -15,7 +15,7 @@ use Rattle.frame.proofs.Differences.{even-difference, no-neighbours}
 use Rattle.frame.proofs.Joining.{one-way}
 use Rattle.avl.specs.DataField.{AvlData, dataBytes}
 use Rattle.packet.specs.DataPackets.{packetBytes, DataPacket}
-use Rattle.command.specs.Layouts.{Layout}
+use Rattle.command.specs.declared.Layout.{Layout}
 use Rattle.command.specs.Commands.{Command, commandField, CommandPacket}
 use Rattle.command.proofs.CommandLaws.{layout-unique}
 use Rattle.tlv.specs.Form.{form}

@@ -133,7 +133,7 @@ unfoldable pub datagramFields : List ℕ → Answer (List ℕ)
 datagramFields p =
     onAccepted (readDatagram 1280 255 p)
     (λ g. accepted
-    (g .payload .codec ∷ length (g .payload .records) ∷ g .header .packetId ∷ g .header .unused ∷ g .header .avlId ∷ g .header .imei ∷ []))
+    (g .payload .codec ∷ length (g .payload .records) ∷ g .header .packet ∷ g .header .unused ∷ g .header .avl ∷ g .header .imei ∷ []))
 
 unfoldable pub examples : List Row
 examples =

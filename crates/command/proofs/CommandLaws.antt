@@ -6,7 +6,7 @@ use mathlib.Core.Logic.{_↔_}
 use mathlib.Core.Bool.{Bool, true, false}
 use mathlib.Core.List.{List, [], _∷_}
 use lib.ListN.{length}
-use lib.Dec.{eqb, leb, lit<}
+use lib.Dec.{eqb, leb, lit<, lit≤}
 use borrow.Author.Tests.{le-leb, leb-true, eq-eqb, eqb-true}
 use Rattle.wire.specs.Numbers.{Bytes, be, pick}
 use Rattle.wire.specs.Sequences.{All}
@@ -17,9 +17,10 @@ use Rattle.wire.specs.Imei.{packed, readPacked}
 use Rattle.wire.proofs.Placed.{between-join, between-split, between-moved, between-bytes, between-whole, whole-between}
 use Rattle.wire.proofs.Exactness.{Meets, meets-then, meets-next, meets-pure, meets-here, meets-require, then-got, here-got, require-got, number-exact, bytes-exact}
 use Rattle.wire.proofs.Enclosed.{enclosed-parts, length-enclosed, codec-enclosed, first-enclosed, last-enclosed, inner-enclosed, bytes-inner}
-use Rattle.wire.proofs.Accepting.{check-accepted, check-passed, onAccepted-accepted, onAccepted-passed, told-accepted, told-got}
+use Rattle.wire.proofs.Accepting.{pick-either, check-accepted, check-passed, onAccepted-accepted, onAccepted-passed, told-accepted, told-got}
 use Rattle.wire.proofs.ImeiPacked.{length-packed, packed-exact}
-use Rattle.command.specs.Layouts.{Layout, layouts, findLayout, layoutOf, member}
+use Rattle.command.specs.Layouts.{types, layouts, findLayout, layoutOf, member}
+use Rattle.command.specs.declared.Layout.{Layout}
 use Rattle.command.specs.Commands.{Command, bodyBytes, mismatch, commandField, CommandRules, commandBody, readField}
 
 -- ---- the table
@@ -41,26 +42,32 @@ member-all : (P : ℕ → Type 0) (x : ℕ) (l : List ℕ) → All P l → membe
 member-all P x [] h e = absurd (let z : _≡_ {A = ℕ} 0 1 = cc in omega arith)
 member-all P x (y ∷ l) h e = chosen (eqb x y) (λ t f. subst P (sym (eqb-true x y t)) (h .0)) (member-all P x l (h .1)) e
 
--- the codec and the types of each row fit a byte
-abbrev RowFits : Layout → Type 0
-RowFits l = (l .codec < 256) × All (λ t. t < 256 ^ 1) (l .types)
-
-rows-fit : All RowFits layouts
+rows-fit : All (λ l. l .codec < 256) layouts
 unfolding layouts
 rows-fit = search (lit<, tt)
+
+rows-narrow : All (λ l. l .imei ≤ 8) layouts
+unfolding layouts
+rows-narrow = search (lit≤, tt)
+
+pub type-fits : (l : Layout) (type : ℕ) → member type (types l) ≡ true → type < 256 ^ 1
+unfolding types
+type-fits l type e =
+    member-all (λ t. t < 256 ^ 1) type (types l)
+    (pick-either (λ ts. All (λ t. t < 256 ^ 1) (0x05 ∷ 0x06 ∷ ts)) (l .mismatch) (0x11 ∷ []) [] (omega arith) (omega arith)) e
 
 module _ (codec : ℕ) {l : Layout} (row : layoutOf codec ≡ accepted l) where
   pub layout-codec : l .codec ≡ codec
   unfolding layoutOf
-  layout-codec = found-row RowFits codec layouts rows-fit row .0
+  layout-codec = found-row (λ l. l .codec < 256) codec layouts rows-fit row .0
 
   codec-fits : codec < 256
   unfolding layoutOf
-  codec-fits = subst (λ (x : ℕ). x < 256) layout-codec (found-row RowFits codec layouts rows-fit row .1 .0)
+  codec-fits = subst (λ (x : ℕ). x < 256) layout-codec (found-row (λ l. l .codec < 256) codec layouts rows-fit row .1)
 
-  pub type-fits : (type : ℕ) → member type (l .types) ≡ true → type < 256 ^ 1
+  pub layout-narrow : l .imei ≤ 8
   unfolding layoutOf
-  type-fits type e = member-all _ type (l .types) (found-row RowFits codec layouts rows-fit row .1 .1) e
+  layout-narrow = found-row (λ l. l .imei ≤ 8) codec layouts rows-narrow row .1
 
   -- a codec has one row
   pub layout-unique : {m : Layout} → layoutOf codec ≡ accepted m → l ≡ m
@@ -72,10 +79,10 @@ empty : (text : List ℕ) → length text ≡ 0 → text ≡ []
 empty [] e = refl
 empty (b ∷ text) e = absurd (omega arith)
 
-mismatch-sound : (type : ℕ) (text : List ℕ) → mismatch type text ≡ true → type ≡ 0x11 → text ≡ []
+pub mismatch-sound : (type : ℕ) (text : List ℕ) → mismatch type text ≡ true → type ≡ 0x11 → text ≡ []
 mismatch-sound type text e t = empty text (eqb-true (length text) 0 (simp (eq-eqb type 0x11 t) at e))
 
-mismatch-complete : (type : ℕ) (text : List ℕ) → (type ≡ 0x11 → text ≡ []) → mismatch type text ≡ true
+pub mismatch-complete : (type : ℕ) (text : List ℕ) → (type ≡ 0x11 → text ≡ []) → mismatch type text ≡ true
 mismatch-complete type text h = go (eqb type 0x11) refl
   where
     go : (b : Bool) → eqb type 0x11 ≡ b → pick b (eqb (length text) 0) true ≡ true
@@ -88,19 +95,19 @@ unfolding commandBody
 body-sound l s row h =
     meets-then here _ s 0 (meets-here s 0) (λ typeAt n₀ k₀.
     meets-then (number 1) _ s n₀ (number-exact 1 .sound s n₀ h (omega (arith, k₀ .1))) (λ type n₁ k₁.
-    meets-next (require (member type (l .types)) 13 typeAt) _ s n₁ (meets-require _ _ _ s n₁) (λ u₂ n₂ k₂.
+    meets-next (require (member type (types l)) 13 typeAt) _ s n₁ (meets-require _ _ _ s n₁) (λ u₂ n₂ k₂.
     meets-then here _ s n₂ (meets-here s n₂) (λ sizeAt n₃ k₃.
     meets-then (number 4) _ s n₃ (number-exact 4 .sound s n₃ h (omega (arith, k₁ .0 .inside, k₂ .1, k₃ .1))) (λ size n₄ k₄.
     meets-then here _ s n₄ (meets-here s n₄) (λ start n₅ k₅.
     meets-next (require (eqb (start + size) (length s)) 14 sizeAt) _ s n₅ (meets-require _ _ _ s n₅) (λ u₆ n₆ k₆.
-    meets-next (require (leb (l .imeiWidth) size) 14 sizeAt) _ s n₆ (meets-require _ _ _ s n₆) (λ u₇ n₇ k₇.
-    meets-then (readPacked (l .imeiWidth)) _ s n₇ (packed-exact (l .imeiWidth) .sound s n₇ h (omega (arith, k₄ .0 .inside, k₅ .1, k₆ .1, k₇ .1))) (λ imei n₈ k₈.
+    meets-next (require (leb (l .imei) size) 14 sizeAt) _ s n₆ (meets-require _ _ _ s n₆) (λ u₇ n₇ k₇.
+    meets-then (readPacked (l .imei)) _ s n₇ (packed-exact (l .imei) .sound s n₇ h (omega (arith, k₄ .0 .inside, k₅ .1, k₆ .1, k₇ .1))) (λ imei n₈ k₈.
     meets-then here _ s n₈ (meets-here s n₈) (λ textAt n₉ k₉.
-    meets-then (bytes (size - l .imeiWidth)) _ s n₉ (bytes-exact (size - l .imeiWidth) .sound s n₉ h (omega (arith, k₈ .0 .inside, k₉ .1))) (λ text n₁₀ k₁₀.
+    meets-then (bytes (size - l .imei)) _ s n₉ (bytes-exact (size - l .imei) .sound s n₉ h (omega (arith, k₈ .0 .inside, k₉ .1))) (λ text n₁₀ k₁₀.
     meets-next (require (mismatch type text) 14 textAt) _ s n₁₀ (meets-require _ _ _ s n₁₀) (λ u₁₁ n₁₁ k₁₁.
-    let counted : size ≡ l .imeiWidth + length text = omega (arith, leb-true (l .imeiWidth) size (k₇ .0), k₁₀ .1 .0) in
+    let counted : size ≡ l .imei + length text = omega (arith, leb-true (l .imei) size (k₇ .0), k₁₀ .1 .0) in
     let end : n₁₀ ≡ length s =
-    omega (arith, eqb-true (start + size) (length s) (k₆ .0), k₅, k₆ .1, k₇ .1, k₉ .1, k₈ .0 .size, k₁₀ .0 .size, length-packed (l .imeiWidth) imei) in
+    omega (arith, eqb-true (start + size) (length s) (k₆ .0), k₅, k₆ .1, k₇ .1, k₉ .1, k₈ .0 .size, k₁₀ .0 .size, length-packed (l .imei) imei) in
     meets-pure _ s n₁₁ (
       refl,
       record {
@@ -122,7 +129,7 @@ unfolding commandBody pure
 body-complete l c h fits =
     let s = bodyBytes l c in
     let n = length s in
-    let w = l .imeiWidth in
+    let w = l .imei in
     let size = w + length (c .text) in
     let f₁ = between-split (be 1 (c .type)) (between-whole s) in
     let f₂ = between-split (be 4 size) (f₁ .1) in
@@ -130,8 +137,8 @@ body-complete l c h fits =
     let start = 0 + length (be 1 (c .type)) + length (be 4 size) in
     let filled : start + size ≡ n = omega (arith, f₃ .1 .size, length-packed w (c .imei)) in
     here-got _ s 0
-    ∙ then-got (number 1) _ s 0 (number-exact 1 .complete s 0 _ _ (type-fits (c .codec) (h .layout) (c .type) (h .typeAllowed)) (f₁ .0))
-    ∙ require-got (member (c .type) (l .types)) 13 0 _ s _ (h .typeAllowed)
+    ∙ then-got (number 1) _ s 0 (number-exact 1 .complete s 0 _ _ (type-fits l (c .type) (h .typeAllowed)) (f₁ .0))
+    ∙ require-got (member (c .type) (types l)) 13 0 _ s _ (h .typeAllowed)
     ∙ here-got _ s _
     ∙ then-got (number 4) _ s _ (number-exact 4 .complete s _ size _ (omega arith) (f₂ .0))
     ∙ here-got _ s _

@@ -8,11 +8,11 @@ use Rattle.wire.specs.Answers.{onAccepted, told, check}
 use Rattle.wire.specs.Envelope.{enclosed, codecOf, firstCount, lastCount, inner}
 use Rattle.wire.specs.Imei.{imeiText, textDigit, readImei, packed, pairUpTo, readPacked}
 use Rattle.wire.specs.Numbers.{numberAt, digits, valueFrom, littleAt, le, signed}
-use Rattle.wire.specs.Reading.{walked, andThen, _>>=_, _>>_, pure, here, require, span, number, bytes, upTo, repeat}
+use Rattle.wire.specs.Reading.{walked, numbered, andThen, _>>=_, _>>_, pure, here, require, span, number, bytes, upTo, repeat}
 use Rattle.checksum.specs.Crc.{feedback, shift, shifts, absorb, crcFrom, crc}
-use Rattle.frame.specs.Frame.{framed, fieldLength, fieldOf, unframe, lastFour}
+use Rattle.frame.specs.Frame.{framed, fieldLength, fieldOf, unframe, lastFour, framing}
 use Rattle.command.specs.Commands.{commandField, commandBody, readField, readCommand, answerCommand, textView}
-use Rattle.command.specs.Layouts.{layouts, findLayout, layoutOf}
+use Rattle.command.specs.Layouts.{types, layouts, findLayout, layoutOf}
 use Rattle.command.specs.Writing.{givenImei, packetOf, commandBytes}
 
 getver : List ℕ
@@ -22,12 +22,12 @@ getver =
 
 reads-codec14 : readCommand 1280 getver
     ≡ accepted (record { codec = 0x0E; type = 0x05; imei = 352093081452251; text = 0x67 ∷ 0x65 ∷ 0x74 ∷ 0x76 ∷ 0x65 ∷ 0x72 ∷ [] })
-unfolding onAccepted told check enclosed codecOf firstCount lastCount inner imeiText textDigit readImei packed pairUpTo readPacked numberAt digits valueFrom littleAt le signed walked andThen _>>=_ _>>_ pure here require span number bytes upTo repeat feedback shift shifts absorb crcFrom crc framed fieldLength fieldOf unframe lastFour commandField commandBody readField readCommand answerCommand textView layouts findLayout layoutOf givenImei packetOf commandBytes getver
+unfolding onAccepted told check enclosed codecOf firstCount lastCount inner imeiText textDigit readImei packed pairUpTo readPacked numberAt digits valueFrom littleAt le signed walked numbered andThen _>>=_ _>>_ pure here require span number bytes upTo repeat feedback shift shifts absorb crcFrom crc framed fieldLength fieldOf unframe lastFour framing commandField commandBody readField readCommand answerCommand textView types layouts findLayout layoutOf givenImei packetOf commandBytes getver
 reads-codec14 = refl
 
 -- writing it gives the same bytes
 writes-codec14 : commandBytes 1280 0x0E 0x05 (0x33 ∷ 0x35 ∷ 0x32 ∷ 0x30 ∷ 0x39 ∷ 0x33 ∷ 0x30 ∷ 0x38 ∷ 0x31 ∷ 0x34 ∷ 0x35 ∷ 0x32 ∷ 0x32 ∷ 0x35 ∷ 0x31 ∷ []) (0x67 ∷ 0x65 ∷ 0x74 ∷ 0x76 ∷ 0x65 ∷ 0x72 ∷ []) ≡ accepted getver
-unfolding onAccepted told check enclosed codecOf firstCount lastCount inner imeiText textDigit readImei packed pairUpTo readPacked numberAt digits valueFrom littleAt le signed walked andThen _>>=_ _>>_ pure here require span number bytes upTo repeat feedback shift shifts absorb crcFrom crc framed fieldLength fieldOf unframe lastFour commandField commandBody readField readCommand answerCommand textView layouts findLayout layoutOf givenImei packetOf commandBytes getver
+unfolding onAccepted told check enclosed codecOf firstCount lastCount inner imeiText textDigit readImei packed pairUpTo readPacked numberAt digits valueFrom littleAt le signed walked numbered andThen _>>=_ _>>_ pure here require span number bytes upTo repeat feedback shift shifts absorb crcFrom crc framed fieldLength fieldOf unframe lastFour framing commandField commandBody readField readCommand answerCommand textView types layouts findLayout layoutOf givenImei packetOf commandBytes getver
 writes-codec14 = refl
 
 -- type 11 in codec 12
@@ -36,7 +36,7 @@ mismatch12 =
     0x00 ∷ 0x00 ∷ 0x00 ∷ 0x00 ∷ 0x00 ∷ 0x00 ∷ 0x00 ∷ 0x08 ∷ 0x0C ∷ 0x01 ∷ 0x11 ∷ 0x00 ∷ 0x00 ∷ 0x00 ∷ 0x00 ∷ 0x01 ∷ 0x00 ∷ 0x00 ∷ 0x14 ∷ 0xD2 ∷ []
 
 refuses-type : readCommand 1280 mismatch12 ≡ refused 13 0
-unfolding onAccepted told check enclosed codecOf firstCount lastCount inner imeiText textDigit readImei packed pairUpTo readPacked numberAt digits valueFrom littleAt le signed walked andThen _>>=_ _>>_ pure here require span number bytes upTo repeat feedback shift shifts absorb crcFrom crc framed fieldLength fieldOf unframe lastFour commandField commandBody readField readCommand answerCommand textView layouts findLayout layoutOf givenImei packetOf commandBytes mismatch12
+unfolding onAccepted told check enclosed codecOf firstCount lastCount inner imeiText textDigit readImei packed pairUpTo readPacked numberAt digits valueFrom littleAt le signed walked numbered andThen _>>=_ _>>_ pure here require span number bytes upTo repeat feedback shift shifts absorb crcFrom crc framed fieldLength fieldOf unframe lastFour framing commandField commandBody readField readCommand answerCommand textView types layouts findLayout layoutOf givenImei packetOf commandBytes mismatch12
 refuses-type = refl
 
 -- a first digit that is not 0
@@ -46,7 +46,7 @@ firstDigit =
     ∷ 0x00 ∷ 0x00 ∷ 0xE6 ∷ 0x75 ∷ []
 
 refuses-digit : readCommand 1280 firstDigit ≡ refused 15 0
-unfolding onAccepted told check enclosed codecOf firstCount lastCount inner imeiText textDigit readImei packed pairUpTo readPacked numberAt digits valueFrom littleAt le signed walked andThen _>>=_ _>>_ pure here require span number bytes upTo repeat feedback shift shifts absorb crcFrom crc framed fieldLength fieldOf unframe lastFour commandField commandBody readField readCommand answerCommand textView layouts findLayout layoutOf givenImei packetOf commandBytes firstDigit
+unfolding onAccepted told check enclosed codecOf firstCount lastCount inner imeiText textDigit readImei packed pairUpTo readPacked numberAt digits valueFrom littleAt le signed walked numbered andThen _>>=_ _>>_ pure here require span number bytes upTo repeat feedback shift shifts absorb crcFrom crc framed fieldLength fieldOf unframe lastFour framing commandField commandBody readField readCommand answerCommand textView types layouts findLayout layoutOf givenImei packetOf commandBytes firstDigit
 refuses-digit = refl
 
 -- type 11 with text
@@ -56,5 +56,5 @@ mismatchText =
     ∷ 0x01 ∷ 0x00 ∷ 0x00 ∷ 0x81 ∷ 0xC6 ∷ []
 
 refuses-text : readCommand 1280 mismatchText ≡ refused 14 0
-unfolding onAccepted told check enclosed codecOf firstCount lastCount inner imeiText textDigit readImei packed pairUpTo readPacked numberAt digits valueFrom littleAt le signed walked andThen _>>=_ _>>_ pure here require span number bytes upTo repeat feedback shift shifts absorb crcFrom crc framed fieldLength fieldOf unframe lastFour commandField commandBody readField readCommand answerCommand textView layouts findLayout layoutOf givenImei packetOf commandBytes mismatchText
+unfolding onAccepted told check enclosed codecOf firstCount lastCount inner imeiText textDigit readImei packed pairUpTo readPacked numberAt digits valueFrom littleAt le signed walked numbered andThen _>>=_ _>>_ pure here require span number bytes upTo repeat feedback shift shifts absorb crcFrom crc framed fieldLength fieldOf unframe lastFour framing commandField commandBody readField readCommand answerCommand textView types layouts findLayout layoutOf givenImei packetOf commandBytes mismatchText
 refuses-text = refl

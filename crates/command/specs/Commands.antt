@@ -12,7 +12,11 @@ use Rattle.wire.specs.Reading.{Reader, _>>=_, _>>_, pure, here, require, number
 use Rattle.wire.specs.Answers.{Answer, accepted, refused, check, told, onAccepted}
 use Rattle.wire.specs.Imei.{packed, readPacked}
 use Rattle.frame.specs.Frame.{framed, FrameRules, unframe}
-use Rattle.command.specs.Layouts.{Layout, layoutOf, member}
+use Rattle.command.specs.Layouts.{types, layoutOf, member}
+use Rattle.command.specs.declared.Layout.{Layout}
+use Rattle.command.specs.declared.CommandFields.{CommandFields}
+use Rattle.command.specs.declared.CommandAnswer.{CommandAnswer}
+use Rattle.command.specs.declared.CommandAnswer.the-variants.{Accepted, Refused}
 
 pub record Command : Type 0 where
   pub codec : ℕ
@@ -24,15 +28,15 @@ pub record Command : Type 0 where
 
 -- what stands between the quantities
 abbrev pub bodyBytes : Layout → Command → List ℕ
-bodyBytes l c = fields (be 1 (c .type) ∷ be 4 (l .imeiWidth + length (c .text)) ∷ packed (l .imeiWidth) (c .imei) ∷ c .text ∷ [])
+bodyBytes l c = fields (be 1 (c .type) ∷ be 4 (l .imei + length (c .text)) ∷ packed (l .imei) (c .imei) ∷ c .text ∷ [])
 
 unfoldable pub commandField : Layout → Command → List ℕ
 commandField l c = enclosed (c .codec) 1 (bodyBytes l c)
 
 pub record CommandRules (l : Layout) (c : Command) : Type 0 where
   pub layout : layoutOf (c .codec) ≡ accepted l
-  pub typeAllowed : member (c .type) (l .types) ≡ true
-  pub imeiRange : c .imei < 10 ^ (2 * l .imeiWidth - 1)
+  pub typeAllowed : member (c .type) (types l) ≡ true
+  pub imeiRange : c .imei < 10 ^ (2 * l .imei - 1)
   pub textBytes : Bytes (c .text)
   pub mismatchEmpty : c .type ≡ 0x11 → c .text ≡ []
 
@@ -54,15 +58,15 @@ unfoldable pub commandBody : Layout → ℕ → Reader Command
 commandBody l space = do
   typeAt ← here
   type ← number 1
-  require (member type (l .types)) 13 typeAt
+  require (member type (types l)) 13 typeAt
   sizeAt ← here
   size ← number 4
   start ← here
   require (eqb (start + size) space) 14 sizeAt
-  require (leb (l .imeiWidth) size) 14 sizeAt
-  imei ← readPacked (l .imeiWidth)
+  require (leb (l .imei) size) 14 sizeAt
+  imei ← readPacked (l .imei)
   textAt ← here
-  text ← bytes (size - l .imeiWidth)
+  text ← bytes (size - l .imei)
   require (mismatch type text) 14 textAt
   pure (record { codec = l .codec; type = type; imei = imei; text = text })
 
@@ -76,23 +80,21 @@ readField d =
 unfoldable pub readCommand : ℕ → List ℕ → Answer Command
 readCommand largest p = onAccepted (unframe largest p) readField
 
--- ---- the result: codec, type, IMEI, and the text's length and offset from the input's start
+-- ---- the result: codec, type, IMEI, and the text's offset from the input's start and length
 
-pub record CommandResult : Type 0 where
-  pub codec : ℕ
-  pub type : ℕ
-  pub imei : ℕ
-  pub textLength : ℕ
-  pub textOffset : ℕ
-
-unfoldable pub answerCommand : ℕ → List ℕ → Answer CommandResult
+unfoldable pub answerCommand : ℕ → List ℕ → Answer CommandFields
 answerCommand largest p =
     onAccepted (readCommand largest p)
     (λ c. onAccepted (layoutOf (c .codec))
-    (λ l. accepted
-    (record { codec = c .codec; type = c .type; imei = c .imei; textLength = length (c .text); textOffset = 15 + l .imeiWidth })))
+    (λ l. accepted (record { codec = c .codec; kind = c .type; imei = c .imei; offset = 15 + l .imei; size = length (c .text) })))
 
 -- the view of the text, empty on every refusal
 unfoldable pub textView : Answer Command → List ℕ
 textView (accepted c) = c .text
 textView (refused number index) = []
+
+-- ---- what the code's answer says
+
+unfoldable pub commandAs : CommandAnswer → Answer CommandFields
+commandAs (Accepted f) = accepted f
+commandAs (Refused r) = refused (r .number) (r .index)

@@ -3,17 +3,18 @@ use Prim.Native.Nat.{ℕ}
 use mathlib.Core.Bool.{Bool, true, false}
 use mathlib.Core.List.{List, [], _∷_}
 use lib.Dec.{eqb}
+use Rattle.command.specs.declared.Layout.{Layout}
+use Rattle.command.specs.declared.Row.{Row}
+use Rattle.command.specs.declared.Row.the-variants.{Of, Unknown}
 use Rattle.wire.specs.Numbers.{pick}
 use Rattle.wire.specs.Answers.{Answer, accepted, refused}
 
--- a codec, the message types it has, and how many bytes of IMEI stand before the text
-pub record Layout : Type 0 where
-  pub codec : ℕ
-  pub types : List ℕ
-  pub imeiWidth : ℕ
+-- the message types of a row: 05 command, 06 response and, where it has it, 11 (the IMEI does not match)
+unfoldable pub types : Layout → List ℕ
+types l = 0x05 ∷ 0x06 ∷ pick (l .mismatch) (0x11 ∷ []) []
 
 unfoldable pub layouts : List Layout
-layouts = record { codec = 0x0C; types = 0x05 ∷ 0x06 ∷ []; imeiWidth = 0 } ∷ record { codec = 0x0E; types = 0x05 ∷ 0x06 ∷ 0x11 ∷ []; imeiWidth = 8 } ∷ []
+layouts = record { codec = 0x0C; mismatch = false; imei = 0 } ∷ record { codec = 0x0E; mismatch = true; imei = 8 } ∷ []
 
 -- the first row with this codec, else 6
 unfoldable pub findLayout : ℕ → List Layout → Answer Layout
@@ -26,3 +27,8 @@ layoutOf codec = findLayout codec layouts
 abbrev pub member : ℕ → List ℕ → Bool
 member x [] = false
 member x (y ∷ l) = pick (eqb x y) true (member x l)
+
+-- what the code's answer says: no row is 6
+unfoldable pub rowAs : Row → Answer Layout
+rowAs (Of l) = accepted l
+rowAs Unknown = refused 6 0

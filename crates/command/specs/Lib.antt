@@ -1,3 +1,4 @@
 pub mod Layouts
 pub mod Commands
 pub mod Writing
+pub mod Walks

@@ -8,13 +8,14 @@ use Rattle.wire.specs.Reading.{repeat}
 use Rattle.wire.specs.Answers.{Answer, accepted, check, told, onAccepted}
 use Rattle.wire.specs.Imei.{textDigit}
 use Rattle.frame.specs.Frame.{framed}
-use Rattle.command.specs.Layouts.{Layout, layoutOf, member}
+use Rattle.command.specs.Layouts.{types, layoutOf, member}
+use Rattle.command.specs.declared.Layout.{Layout}
 use Rattle.command.specs.Commands.{Command, commandField, mismatch}
 
 -- the IMEI as the caller gives it: nothing where the codec has none, else 15 ASCII digits
 unfoldable pub givenImei : Layout → List ℕ → Answer ℕ
 givenImei l s =
-    check (eqb (length s) (2 * l .imeiWidth - 1)) 15
+    check (eqb (length s) (2 * l .imei - 1)) 15
     (onAccepted (told (repeat (length s) textDigit s 0)) (λ ds. accepted (valueFrom 10 0 ds)))
 
 -- 14: the packet is too long, or type 11 has text
@@ -28,6 +29,6 @@ packetOf largest l c =
 unfoldable pub commandBytes : ℕ → ℕ → ℕ → List ℕ → List ℕ → Answer (List ℕ)
 commandBytes largest codec type imei text =
     onAccepted (layoutOf codec)
-    (λ l. check (member type (l .types)) 13
+    (λ l. check (member type (types l)) 13
     (onAccepted (givenImei l imei)
     (λ n. packetOf largest l (record { codec = codec; type = type; imei = n; text = text }))))

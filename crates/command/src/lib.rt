@@ -1,0 +1,362 @@
+// Command packets of codecs 12 and 14: read and written.
+use frame::Framed;
+use wire::Decimal;
+use wire::Fault;
+use wire::Refusal;
+use wire::Written;
+ghost use mathlib.Core.Path.{_≡_};
+ghost use Prim.Native.Nat.{_+_, _-_, _*_, _≤_};
+ghost use lib.ListN.{length};
+ghost use lib.Seq.{sets};
+ghost use Rattle.wire.specs.Answers.{accepted};
+ghost use Rattle.wire.specs.Buffers.{writing, leaving, writtenAs};
+ghost use Rattle.wire.specs.Imei.{packed};
+ghost use Rattle.frame.specs.Frame.{framed};
+ghost use Rattle.command.specs.Layouts.{layoutOf, rowAs, types, member};
+ghost use Rattle.command.specs.Commands.{bodyBytes, commandField, mismatch, commandBody, readField, readCommand, answerCommand, textView, commandAs};
+ghost use Rattle.command.specs.Writing.{givenImei, commandBytes};
+ghost use Rattle.command.specs.Walks.{bodyAs, answered, givenAs, planned};
+
+// The most bytes of a packet.
+pub const LARGEST: usize = 1280;
+
+// A row of the table of command layouts: the codec, whether it has type 11 besides 05 and 06, and how many bytes of IMEI stand before the text.
+pub struct Layout {
+    pub codec: u8,
+    pub mismatch: bool,
+    pub imei: usize,
+}
+
+pub enum Row {
+    Of(Layout),
+    Unknown,
+}
+
+// A command's codec, type, IMEI (0 in codec 12), and its text's offset from the input's start and length.
+pub struct CommandFields {
+    pub codec: u8,
+    pub kind: u8,
+    pub imei: u64,
+    pub offset: usize,
+    pub size: usize,
+}
+
+pub enum CommandAnswer {
+    Accepted(CommandFields),
+    Refused(Refusal),
+}
+
+// The table: one row for each codec.
+pub fn layout_of(codec: u8) -> Row
+    ensures { λ r. ⌜ rowAs r ≡ layoutOf codec ⌝ }
+{
+    if codec == 0x0C {
+        return Row::Of(Layout {
+            codec: 0x0C,
+            mismatch: false,
+            imei: 0,
+        });
+    }
+    if codec == 0x0E {
+        return Row::Of(Layout {
+            codec: 0x0E,
+            mismatch: true,
+            imei: 8,
+        });
+    }
+    Row::Unknown
+}
+
+// The message types of a row: 05, 06 and, where it has it, 11.
+fn allows(l: Layout, kind: u8) -> bool
+    ensures { λ r. ⌜ r ≡ member kind (types l) ⌝ }
+{
+    if kind == 0x05 {
+        return true;
+    }
+    if kind == 0x06 {
+        return true;
+    }
+    if l.mismatch {
+        return kind == 0x11;
+    }
+    false
+}
+
+// Type 11 has no text.
+fn allows_text(kind: u8, text: &[u8]) -> bool
+    ensures { λ r. ⌜ r ≡ mismatch kind (now (text .entry)) ⌝ }
+{
+    if kind == 0x11 {
+        return text.len() == 0;
+    }
+    true
+}
+
+// What stands between the quantities: the type, the IMEI and how long the text is, or why the walk stopped.
+pub enum BodyWalk {
+    Of(u8, u64, usize),
+    Stopped(Fault),
+}
+
+fn stopped(number: u8, place: usize) -> BodyWalk
+    ensures { λ r. ⌜ r ≡ BodyWalk.Stopped (record { number = number; index = 0; place = place }) ⌝ }
+{
+    BodyWalk::Stopped(Fault {
+        number,
+        index: 0,
+        place,
+    })
+}
+
+fn read_body(l: Layout, s: &[u8]) -> BodyWalk
+    requires { ⌜ l .imei ≤ 8 ⌝ }
+    ensures { λ r. ⌜ r ≡ bodyAs (commandBody l (length (now (s .entry))) (now (s .entry)) 0) ⌝ }
+{
+    if s.len() < 1 {
+        return stopped(8, 0);
+    }
+    let kind = s[0];
+    if !allows(l, kind) {
+        return stopped(13, 0);
+    }
+    if s.len() < 5 {
+        return stopped(8, 1);
+    }
+    let size = wire::be32(s, 1) as usize;
+    let end = 5 + size;
+    if end != s.len() {
+        return stopped(14, 1);
+    }
+    let width = l.imei;
+    if size < width {
+        return stopped(14, 1);
+    }
+    match wire::read_packed(s, 5, width) {
+        Decimal::Of(imei, at) => {
+            if !allows_text(kind, &s[at..end]) {
+                return stopped(14, at);
+            }
+            BodyWalk::Of(kind, imei, size - width)
+        }
+        Decimal::Unread(x) => BodyWalk::Stopped(x),
+    }
+}
+
+fn refused(number: u8) -> CommandAnswer
+    ensures { λ r. ⌜ r ≡ CommandAnswer.Refused (record { number = number; index = 0 }) ⌝ }
+{
+    CommandAnswer::Refused(Refusal { number, index: 0 })
+}
+
+fn read_field(d: &[u8]) -> CommandAnswer
+    requires { ⌜ 3 ≤ length (now d) ⌝ }
+    ensures { λ r. ⌜ commandAs r ≡ answered (readField (now (d .entry))) ⌝ }
+{
+    let codec = d[0];
+    match layout_of(codec) {
+        Row::Unknown => refused(6),
+        Row::Of(l) => {
+            if d[1] != 1 {
+                return refused(7);
+            }
+            let last = d.len() - 1;
+            if d[last] != 1 {
+                return refused(7);
+            }
+            match read_body(l, &d[2..last]) {
+                BodyWalk::Of(kind, imei, size) => CommandAnswer::Accepted(CommandFields {
+                    codec,
+                    kind,
+                    imei,
+                    offset: 15 + l.imei,
+                    size,
+                }),
+                BodyWalk::Stopped(x) => CommandAnswer::Refused(Refusal {
+                    number: x.number,
+                    index: x.index,
+                }),
+            }
+        }
+    }
+}
+
+// `largest` is the most bytes that the packet may have.
+pub fn judge_command(largest: usize, p: &[u8]) -> CommandAnswer
+    ensures { λ r. ⌜ commandAs r ≡ answerCommand largest (now (p .entry)) ⌝ }
+{
+    match frame::unframed(largest, p) {
+        Framed::Unframed(number) => refused(number),
+        Framed::Field(n) => {
+            let end = 8 + n;
+            read_field(&p[8..end])
+        }
+    }
+}
+
+pub fn read_command(p: &[u8]) -> CommandAnswer
+    ensures { λ r. ⌜ commandAs r ≡ answerCommand 1280 (now (p .entry)) ⌝ }
+{
+    judge_command(LARGEST, p)
+}
+
+// The text where it stands in the input, empty for a refused packet.
+pub fn command_text(p: &[u8]) -> &[u8]
+    ensures { λ r. ⌜ now r ≡ textView (readCommand 1280 (now (p .entry))) ⌝ }
+{
+    match read_command(p) {
+        CommandAnswer::Accepted(f) => {
+            let start = f.offset;
+            let end = start + f.size;
+            &p[start..end]
+        }
+        CommandAnswer::Refused(_) => &p[0..0],
+    }
+}
+
+// The IMEI of a packet to be written, or why it is not.
+pub enum Given {
+    Imei(u64),
+    Refused(Refusal),
+}
+
+fn not_given(number: u8) -> Given
+    ensures { λ r. ⌜ r ≡ Given.Refused (record { number = number; index = 0 }) ⌝ }
+{
+    Given::Refused(Refusal { number, index: 0 })
+}
+
+// How many digits stand in `w` bytes; the first of all is 0 and is not given.
+fn digit_count(w: usize) -> usize
+    requires { ⌜ w ≤ 8 ⌝ }
+    ensures { λ r. ⌜ r ≡ 2 * w - 1 ⌝ }
+{
+    if w == 0 {
+        return 0;
+    }
+    2 * w - 1
+}
+
+fn given_imei(l: Layout, s: &[u8]) -> Given
+    requires { ⌜ l .imei ≤ 8 ⌝ }
+    ensures { λ r. ⌜ givenAs r ≡ givenImei l (now (s .entry)) ⌝ }
+{
+    let n = s.len();
+    if n != digit_count(l.imei) {
+        return not_given(15);
+    }
+    match wire::text_number(n, s, 0) {
+        Decimal::Of(imei, _) => Given::Imei(imei),
+        Decimal::Unread(x) => Given::Refused(Refusal {
+            number: x.number,
+            index: x.index,
+        }),
+    }
+}
+
+// The length of the data field.
+fn field_size(l: Layout, text: &[u8]) -> usize
+    requires { ⌜ l .imei ≤ 8 ⌝ }
+    ensures { λ r. ⌜ r ≡ 8 + l .imei + length (now (text .entry)) ⌝ }
+{
+    8 + l.imei + text.len()
+}
+
+// Decides everything before a byte is written.
+fn plan(largest: usize, l: Layout, kind: u8, imei: &[u8], text: &[u8]) -> Given
+    requires { ⌜ layoutOf (l .codec) ≡ accepted l ⌝ }
+    ensures { λ r. ⌜ planned l kind (now (text .entry)) r ≡ commandBytes largest (l .codec) kind (now (imei .entry)) (now (text .entry)) ⌝ }
+{
+    if !allows(l, kind) {
+        return not_given(13);
+    }
+    match given_imei(l, imei) {
+        Given::Imei(n) => {
+            if !allows_text(kind, text) {
+                return not_given(14);
+            }
+            let whole = field_size(l, text) + 12;
+            if largest < whole {
+                return not_given(14);
+            }
+            Given::Imei(n)
+        }
+        Given::Refused(r) => Given::Refused(r),
+    }
+}
+
+// An IMEI in `w` bytes, two digits a byte, the higher first.
+fn put_packed(out: &mut [u8], at: usize, w: usize, imei: u64)
+    requires { ⌜ at + w ≤ length (now out) ⌝ }
+    ensures { λ r. ⌜ now (out .exit) ≡ sets (now (out .entry)) at (packed w imei) ⌝ }
+{
+    let mut rest = imei;
+    let mut left = w;
+    while 0 < left {
+        left -= 1;
+        let d = rest % 100;
+        out[at + left] = (d / 10 * 16 + d % 10) as u8;
+        rest = rest / 100;
+    }
+}
+
+fn put_body(out: &mut [u8], l: Layout, kind: u8, imei: u64, text: &[u8])
+    requires { ⌜ 15 + l .imei + length (now text) ≤ length (now out) ⌝ }
+    ensures { λ r. ⌜ now (out .exit) ≡ sets (now (out .entry)) 10 (bodyBytes l (record { codec = l .codec; type = kind; imei = imei; text = now (text .entry) })) ⌝ }
+{
+    let w = l.imei;
+    let size = w + text.len();
+    let start = 15 + w;
+    wire::put_be(out, 10, 1, kind as u64);
+    wire::put_be(out, 11, 4, size as u64);
+    put_packed(out, 15, w, imei);
+    wire::put_bytes(out, start, text);
+}
+
+// The data field, at 8.
+fn put_field(out: &mut [u8], l: Layout, kind: u8, imei: u64, text: &[u8])
+    requires { ⌜ 16 + l .imei + length (now text) ≤ length (now out) ⌝ }
+    ensures { λ r. ⌜ now (out .exit) ≡ sets (now (out .entry)) 8 (commandField l (record { codec = l .codec; type = kind; imei = imei; text = now (text .entry) })) ⌝ }
+{
+    let last = 15 + l.imei + text.len();
+    wire::put_be(out, 8, 1, l.codec as u64);
+    wire::put_be(out, 9, 1, 1);
+    put_body(out, l, kind, imei, text);
+    wire::put_be(out, last, 1, 1);
+}
+
+fn not_written(number: u8) -> Written
+    ensures { λ r. ⌜ r ≡ Written.Refused (record { number = number; index = 0 }) ⌝ }
+{
+    Written::Refused(Refusal { number, index: 0 })
+}
+
+// The field, then the frame around it.
+fn write_planned(l: Layout, kind: u8, imei: u64, text: &[u8], out: &mut [u8]) -> Written
+    requires { ⌜ l .imei ≤ 8 ⌝ }
+    ensures { λ r. ⌜ writtenAs r ≡ writing (planned l kind (now (text .entry)) (Given.Imei imei)) (now (out .entry)) ⌝ }
+    ensures { λ r. ⌜ now (out .exit) ≡ leaving (planned l kind (now (text .entry)) (Given.Imei imei)) (now (out .entry)) ⌝ }
+{
+    let size = field_size(l, text);
+    let whole = size + 12;
+    if out.len() < whole {
+        return not_written(18);
+    }
+    put_field(out, l, kind, imei, text);
+    frame::put_frame(out, size);
+    Written::Bytes(whole)
+}
+
+// Writes the packet to the start of `out`; a refusal changes no byte.
+pub fn write_command(codec: u8, kind: u8, imei: &[u8], text: &[u8], out: &mut [u8]) -> Written
+    ensures { λ r. ⌜ writtenAs r ≡ writing (commandBytes 1280 codec kind (now (imei .entry)) (now (text .entry))) (now (out .entry)) ⌝ }
+    ensures { λ r. ⌜ now (out .exit) ≡ leaving (commandBytes 1280 codec kind (now (imei .entry)) (now (text .entry))) (now (out .entry)) ⌝ }
+{
+    match layout_of(codec) {
+        Row::Unknown => not_written(6),
+        Row::Of(l) => match plan(LARGEST, l, kind, imei, text) {
+            Given::Imei(n) => write_planned(l, kind, n, text, out),
+            Given::Refused(r) => Written::Refused(r),
+        },
+    }
+}

@@ -20,7 +20,8 @@ use Rattle.wire.proofs.Accepting.{check-accepted, check-passed, onAccepted-acce
 use Rattle.wire.proofs.ImeiText.{imei-exact, length-imeiText}
 use Rattle.avl.specs.DataField.{AvlData, dataBytes, DataRules, readData}
 use Rattle.avl.proofs.DataLaws.{data-exact, data-complete}
-use Rattle.datagram.specs.Datagrams.{Header, Datagram, headerBytes, contentBytes, datagramBytes, HeaderRules, UdpPacket, readHeader, readDatagram}
+use Rattle.datagram.specs.declared.Header.{Header}
+use Rattle.datagram.specs.Datagrams.{Datagram, headerBytes, contentBytes, datagramBytes, HeaderRules, UdpPacket, readHeader, readDatagram}
 
 header-exact : Exact readHeader headerBytes HeaderRules
 unfolding readHeader headerBytes pure
@@ -33,15 +34,15 @@ header-exact =
           meets-then readImei _ s n₃ (imei-exact .sound s n₃ h (k₃ .0 .inside)) (λ imei n₄ k₄.
           meets-pure _ s n₄ (
             between-join (k₁ .0) (between-join (k₂ .0) (between-join (k₃ .0) (k₄ .0))),
-            record { packetIdFits = k₁ .1; unusedFits = k₂ .1; avlIdFits = k₃ .1; imeiRange = k₄ .1 },
+            record { packetFits = k₁ .1; unusedFits = k₂ .1; avlFits = k₃ .1; imeiRange = k₄ .1 },
           )))));
       complete = λ s at x next h f.
-          let a = between-split (be 2 (x .packetId)) f in
+          let a = between-split (be 2 (x .packet)) f in
           let b = between-split (be 1 (x .unused)) (a .1) in
-          let c = between-split (be 1 (x .avlId)) (b .1) in
-          then-got (number 2) _ s at (number-exact 2 .complete s at _ _ (h .packetIdFits) (a .0))
+          let c = between-split (be 1 (x .avl)) (b .1) in
+          then-got (number 2) _ s at (number-exact 2 .complete s at _ _ (h .packetFits) (a .0))
           ∙ then-got (number 1) _ s _ (number-exact 1 .complete s _ _ _ (h .unusedFits) (b .0))
-          ∙ then-got (number 1) _ s _ (number-exact 1 .complete s _ _ _ (h .avlIdFits) (c .0))
+          ∙ then-got (number 1) _ s _ (number-exact 1 .complete s _ _ _ (h .avlFits) (c .0))
           ∙ then-got readImei _ s _ (imei-exact .complete s _ (x .imei) next (h .imeiRange) (c .1));
     }
 

@@ -1,1 +1,2 @@
 pub mod DatagramLaws
+pub mod WalkLaws

@@ -7,15 +7,17 @@ use lib.Dec.{eqb, leb}
 use Rattle.wire.specs.Numbers.{numberAt, be}
 use Rattle.wire.specs.Sequences.{fields}
 use Rattle.wire.specs.Reading.{Reader, _>>=_, pure, number}
-use Rattle.wire.specs.Answers.{Answer, accepted, check, told, onAccepted}
+use Rattle.wire.specs.Answers.{Answer, accepted, refused, check, told, onAccepted}
 use Rattle.wire.specs.Imei.{imeiText, readImei}
-use Rattle.avl.specs.DataField.{AvlData, dataBytes, DataRules, readData}
-
-pub record Header : Type 0 where
-  pub packetId : ℕ
-  pub unused : ℕ
-  pub avlId : ℕ
-  pub imei : ℕ
+use Rattle.walk.specs.declared.Span.{Span}
+use Rattle.avl.specs.Codecs.{widthsOf}
+use Rattle.walk.specs.Walks.{spanOf}
+use Rattle.datagram.specs.declared.Header.{Header}
+use Rattle.datagram.specs.declared.DatagramAnswer.{DatagramAnswer}
+use Rattle.datagram.specs.declared.DatagramAnswer.the-variants.{Accepted, Refused}
+use Rattle.datagram.specs.declared.DatagramWalk.{DatagramWalk}
+use Rattle.datagram.specs.declared.DatagramWalk
+use Rattle.avl.specs.DataField.{AvlData, dataBytes, DataRules, readData, DataResult, dataResult}
 
 pub record Datagram : Type 0 where
   pub header : Header
@@ -24,7 +26,7 @@ pub record Datagram : Type 0 where
 -- ---- the rules
 
 unfoldable pub headerBytes : Header → List ℕ
-headerBytes h = fields (be 2 (h .packetId) ∷ be 1 (h .unused) ∷ be 1 (h .avlId) ∷ imeiText (h .imei) ∷ [])
+headerBytes h = fields (be 2 (h .packet) ∷ be 1 (h .unused) ∷ be 1 (h .avl) ∷ imeiText (h .imei) ∷ [])
 
 -- all that follows the length
 unfoldable pub contentBytes : Datagram → List ℕ
@@ -34,9 +36,9 @@ unfoldable pub datagramBytes : Datagram → List ℕ
 datagramBytes g = fields (be 2 (length (contentBytes g)) ∷ contentBytes g ∷ [])
 
 pub record HeaderRules (h : Header) : Type 0 where
-  pub packetIdFits : h .packetId < 256 ^ 2
+  pub packetFits : h .packet < 256 ^ 2
   pub unusedFits : h .unused < 256 ^ 1
-  pub avlIdFits : h .avlId < 256 ^ 1
+  pub avlFits : h .avl < 256 ^ 1
   pub imeiRange : h .imei < 10 ^ 15
 
 -- the datagram `p` carries `g`; `largest` is the most bytes that it may have
@@ -55,7 +57,7 @@ readHeader = do
   unused ← number 1
   avlId ← number 1
   imei ← readImei
-  pure (record { packetId = packetId; unused = unused; avlId = avlId; imei = imei })
+  pure (record { packet = packetId; unused = unused; avl = avlId; imei = imei })
 
 unfoldable pub readDatagram : ℕ → ℕ → List ℕ → Answer Datagram
 readDatagram largest longest p =
@@ -66,16 +68,32 @@ readDatagram largest longest p =
     (λ h. onAccepted (readData longest (drop 23 p))
     (λ a. accepted (record { header = h; payload = a }))))))
 
+pub record DatagramResult : Type 0 where
+  pub payload : DataResult
+  pub header : Header
+
+unfoldable pub answerDatagram : ℕ → ℕ → List ℕ → Answer DatagramResult
+answerDatagram largest longest p =
+    onAccepted (readDatagram largest longest p) (λ g. accepted (record { payload = dataResult (g .payload); header = g .header }))
+
 -- ---- the acknowledgement (the paper's receipt): the length 5, the IDs and the unused byte as received, the number of records
+
+unfoldable pub acknowledgementBytes : Header → ℕ → List ℕ
+acknowledgementBytes h count = fields (be 2 5 ∷ be 2 (h .packet) ∷ be 1 (h .unused) ∷ be 1 (h .avl) ∷ be 1 count ∷ [])
 
 unfoldable pub udpAcknowledgement : ℕ → ℕ → List ℕ → Answer (List ℕ)
 udpAcknowledgement largest longest p =
-    onAccepted (readDatagram largest longest p)
-    (λ g. accepted
-    (fields
-    (be 2 5
-    ∷ be 2 (g .header .packetId)
-    ∷ be 1 (g .header .unused)
-    ∷ be 1 (g .header .avlId)
-    ∷ be 1 (length (g .payload .records))
-    ∷ [])))
+    onAccepted (readDatagram largest longest p) (λ g. accepted (acknowledgementBytes (g .header) (length (g .payload .records))))
+
+-- ---- what the code's answers say
+
+unfoldable pub datagramAs : DatagramAnswer → Answer DatagramResult
+datagramAs (Accepted codec count header) = accepted (record { payload = record { codec = codec; count = count }; header = header })
+datagramAs (Refused r) = refused (r .number) (r .index)
+
+-- and where the wanted record lies in the space between the counts
+unfoldable pub datagramWalk : ℕ → Answer Datagram → DatagramWalk
+datagramWalk want (accepted g) =
+    DatagramWalk.Taken (g .payload .codec) (length (g .payload .records))
+    (spanOf (widthsOf (g .payload .codec)) want 0 (g .payload .records)) (g .header)
+datagramWalk want (refused number index) = DatagramWalk.Refused (record { number = number; index = index })

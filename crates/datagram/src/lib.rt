@@ -1,0 +1,149 @@
+// UDP datagrams: judged, and acknowledged.
+use walk::DataWalk;
+use walk::Span;
+use wire::Decimal;
+use wire::Refusal;
+use wire::Written;
+ghost use mathlib.Core.Path.{_≡_};
+ghost use Prim.Native.Nat.{_+_, _≤_};
+ghost use mathlib.Core.List.{_++_};
+ghost use lib.ListN.{length, drop};
+ghost use Rattle.wire.specs.Buffers.{writing, leaving, writtenAs};
+ghost use Rattle.datagram.specs.Datagrams.{readDatagram, answerDatagram, datagramWalk, datagramAs, acknowledgementBytes, udpAcknowledgement};
+
+// The most bytes of a datagram, and of a record.
+pub const LARGEST: usize = 1280;
+
+pub const LONGEST: usize = 255;
+
+// What stands before the data field: packet ID, unused byte, AVL packet ID, IMEI.
+pub struct Header {
+    pub packet: u16,
+    pub unused: u8,
+    pub avl: u8,
+    pub imei: u64,
+}
+
+// The codec, the number of records and the header of an accepted datagram, or the refusal.
+pub enum DatagramAnswer {
+    Accepted {
+        codec: u8,
+        count: u8,
+        header: Header,
+    },
+    Refused(Refusal),
+}
+
+// The same, and where the wanted record lies behind the first 25 bytes.
+pub enum DatagramWalk {
+    Taken {
+        codec: u8,
+        count: u8,
+        span: Span,
+        header: Header,
+    },
+    Refused(Refusal),
+}
+
+fn refused(number: u8) -> DatagramWalk
+    ensures { λ r. ⌜ r ≡ DatagramWalk.Refused (record { number = number; index = 0 }) ⌝ }
+{
+    DatagramWalk::Refused(Refusal { number, index: 0 })
+}
+
+pub fn judge_datagram(largest: usize, longest: usize, p: &[u8], want: usize) -> DatagramWalk
+    requires { ⌜ longest ≤ 65535 ⌝ }
+    ensures { λ r. ⌜ r ≡ datagramWalk want (readDatagram largest longest (now (p .entry))) ⌝ }
+{
+    if p.len() < 26 {
+        return refused(1);
+    }
+    if largest < p.len() {
+        return refused(3);
+    }
+    let size = wire::be16(p, 0) as usize;
+    if p.len() != size + 2 {
+        return refused(4);
+    }
+    let imei = match wire::read_imei(p, 6) {
+        Decimal::Of(n, _) => n,
+        Decimal::Unread(x) => {
+            return DatagramWalk::Refused(Refusal {
+                number: x.number,
+                index: x.index,
+            });
+        }
+    };
+    let header = Header {
+        packet: wire::be16(p, 2),
+        unused: p[4],
+        avl: p[5],
+        imei,
+    };
+    match walk::read_data(longest, &p[23..], want) {
+        DataWalk::Taken { codec, count, span } => DatagramWalk::Taken {
+            codec,
+            count,
+            span,
+            header,
+        },
+        DataWalk::Refused(r) => DatagramWalk::Refused(r),
+    }
+}
+
+pub fn read_datagram(p: &[u8]) -> DatagramAnswer
+    ensures { λ r. ⌜ datagramAs r ≡ answerDatagram 1280 255 (now (p .entry)) ⌝ }
+{
+    match judge_datagram(LARGEST, LONGEST, p, 0) {
+        DatagramWalk::Taken {
+            codec,
+            count,
+            span: _,
+            header,
+        } => DatagramAnswer::Accepted {
+            codec,
+            count,
+            header,
+        },
+        DatagramWalk::Refused(r) => DatagramAnswer::Refused(r),
+    }
+}
+
+// The seven bytes of an acknowledgement, at the buffer's start.
+fn put_acknowledgement(header: Header, count: u8, out: &mut [u8])
+    requires { ⌜ 7 ≤ length (now out) ⌝ }
+    ensures { λ _. ⌜ now (out .exit) ≡ acknowledgementBytes header count ++ drop 7 (now (out .entry)) ⌝ }
+{
+    out[0] = 0;
+    out[1] = 5;
+    out[2] = (header.packet / 256) as u8;
+    out[3] = (header.packet % 256) as u8;
+    out[4] = header.unused;
+    out[5] = header.avl;
+    out[6] = count;
+}
+
+// The acknowledgement (the paper's receipt): seven bytes; a refused datagram gets its refusal and no byte.
+pub fn acknowledge_datagram(p: &[u8], out: &mut [u8]) -> Written
+    ensures answer { λ r. ⌜ writtenAs r ≡ writing (udpAcknowledgement 1280 255 (now (p .entry))) (now (out .entry)) ⌝ }
+    ensures buffer { λ r. ⌜ now (out .exit) ≡ leaving (udpAcknowledgement 1280 255 (now (p .entry))) (now (out .entry)) ⌝ }
+{
+    match judge_datagram(LARGEST, LONGEST, p, 0) {
+        DatagramWalk::Refused(r) => Written::Refused(r),
+        DatagramWalk::Taken {
+            codec: _,
+            count,
+            span: _,
+            header,
+        } => {
+            if out.len() < 7 {
+                return Written::Refused(Refusal {
+                    number: 18,
+                    index: 0,
+                });
+            }
+            put_acknowledgement(header, count, out);
+            Written::Bytes(7)
+        }
+    }
+}

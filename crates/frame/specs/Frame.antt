@@ -6,8 +6,10 @@ use lib.ListN.{length, take, drop}
 use lib.Dec.{eqb, leb}
 use Rattle.wire.specs.Numbers.{Bytes, numberAt, be}
 use Rattle.wire.specs.Sequences.{fields}
-use Rattle.wire.specs.Answers.{Answer, accepted, check}
+use Rattle.wire.specs.Answers.{Answer, accepted, refused, check}
 use Rattle.checksum.specs.Crc.{crc}
+use Rattle.frame.specs.declared.Framed.{Framed}
+use Rattle.frame.specs.declared.Framed.the-variants.{Field, Unframed}
 
 -- ---- the rules
 
@@ -52,3 +54,9 @@ unframe largest p =
 
 unfoldable pub lastFour : List ℕ → List ℕ
 lastFour p = drop (length p - 4) p
+
+-- ---- what the code answers: the data field's length, or the refusal's number
+
+unfoldable pub framing : Answer (List ℕ) → Framed
+framing (accepted d) = Field (length d)
+framing (refused number index) = Unframed number

@@ -1,0 +1,53 @@
+// The TCP packet around a data field.
+ghost use mathlib.Core.Path.{_≡_};
+ghost use Prim.Native.Nat.{_+_, _≤_};
+ghost use lib.ListN.{length, take, drop};
+ghost use lib.Seq.{sets};
+ghost use Rattle.frame.specs.Frame.{framed, unframe, framing};
+
+// The length of the data field, which starts at 8; or the number of the refusal.
+pub enum Framed {
+    Field(usize),
+    Unframed(u8),
+}
+
+pub fn unframed(largest: usize, p: &[u8]) -> Framed
+    ensures { λ r. ⌜ r ≡ framing (unframe largest (now (p .entry))) ⌝ }
+{
+    if p.len() < 8 {
+        return Framed::Unframed(1);
+    }
+    let zeros = wire::be32(p, 0);
+    if zeros != 0 {
+        return Framed::Unframed(2);
+    }
+    let size = wire::be32(p, 4) as usize;
+    if size < 3 {
+        return Framed::Unframed(3);
+    }
+    let whole = size + 12;
+    if largest < whole {
+        return Framed::Unframed(3);
+    }
+    if p.len() != whole {
+        return Framed::Unframed(4);
+    }
+    let end = 8 + size;
+    let sum = wire::be32(p, end);
+    if sum != (checksum::crc16(&p[8..end]) as u32) {
+        return Framed::Unframed(5);
+    }
+    Framed::Field(size)
+}
+
+// Writes the four zeros, the length and the CRC around the data field of `size` bytes that stands at 8.
+pub fn put_frame(out: &mut [u8], size: usize)
+    requires { ⌜ size + 12 ≤ length (now out) ⌝ }
+    ensures { λ r. ⌜ now (out .exit) ≡ sets (now (out .entry)) 0 (framed (take size (drop 8 (now (out .entry))))) ⌝ }
+{
+    let end = 8 + size;
+    let sum = checksum::crc16(&out[8..end]);
+    wire::put_be(out, 0, 4, 0);
+    wire::put_be(out, 4, 4, size as u64);
+    wire::put_be(out, end, 4, sum as u64);
+}

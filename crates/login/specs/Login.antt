@@ -5,6 +5,8 @@ use mathlib.Core.Bool.{Bool, true, false}
 use mathlib.Core.List.{List, [], _∷_}
 use lib.ListN.{length}
 use lib.Dec.{leb}
+use Rattle.login.specs.declared.LoginAnswer.{LoginAnswer}
+use Rattle.login.specs.declared.LoginAnswer.the-variants.{Imei, Refused}
 use Rattle.wire.specs.Numbers.{pick}
 use Rattle.wire.specs.Answers.{Answer, accepted, refused, check, told}
 use Rattle.wire.specs.Imei.{imeiText, readImei}
@@ -29,3 +31,9 @@ isAccepted (refused number index) = false
 -- 01 for a well-formed login of a unit that the caller knows, else 00
 unfoldable pub loginAnswer : Bool → List ℕ → List ℕ
 loginAnswer known p = pick known (pick (isAccepted (readLogin p)) (1 ∷ []) (0 ∷ [])) (0 ∷ [])
+
+-- ---- what the code's answer says
+
+unfoldable pub loginAs : LoginAnswer → Answer ℕ
+loginAs (Imei imei) = accepted imei
+loginAs (Refused r) = refused (r .number) (r .index)

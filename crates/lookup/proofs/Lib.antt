@@ -1,2 +1,1 @@
-pub mod ElementLaws
 pub mod PlaceLaws

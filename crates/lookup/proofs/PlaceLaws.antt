@@ -31,10 +31,11 @@ use Rattle.packet.specs.DataPackets.{packetBytes, DataPacket, readPacket}
 use Rattle.packet.proofs.PacketLaws.{packet-exact}
 use Rattle.datagram.specs.Datagrams.{Datagram, headerBytes, contentBytes, datagramBytes, UdpPacket, readDatagram}
 use Rattle.datagram.proofs.DatagramLaws.{datagram-exact}
-use Rattle.lookup.specs.Elements.{Located, Placed, elements, placeRecords}
-use Rattle.lookup.specs.Places.{part, Inside, Tiles}
-use Rattle.lookup.specs.Lookups.{nth, firstWith, Source, tcpSource, udpSource, placedRecord, Found, foundIn, valueIn}
-use Rattle.lookup.proofs.ElementLaws.{elements-inside}
+use Rattle.element.specs.Elements.{Located, elements, nth, firstWith}
+use Rattle.element.specs.Places.{part, Inside}
+use Rattle.lookup.specs.Places.{Placed, placeRecords, Tiles}
+use Rattle.lookup.specs.Lookups.{Source, tcpSource, udpSource, placedRecord, Found, foundIn, valueIn}
+use Rattle.element.proofs.ElementLaws.{elements-inside}
 
 -- ---- the records fill the input
 

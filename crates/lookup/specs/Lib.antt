@@ -1,4 +1,3 @@
-pub mod Elements
 pub mod Places
-pub mod Results
 pub mod Lookups
+pub mod Answers

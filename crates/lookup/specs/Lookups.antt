@@ -10,19 +10,10 @@ use Rattle.avl.specs.Codecs.{widthsOf}
 use Rattle.avl.specs.DataField.{AvlData}
 use Rattle.packet.specs.DataPackets.{readPacket}
 use Rattle.datagram.specs.Datagrams.{readDatagram}
-use Rattle.lookup.specs.Elements.{Located, Placed, elements, placeRecords}
-use Rattle.lookup.specs.Results.{RecordResult, recordResult}
-
--- the n-th of a list, from 0, else 16
-unfoldable pub nth : {A : Type 0} → ℕ → List A → Answer A
-nth n [] = refused 16 0
-nth zero (a ∷ l) = accepted a
-nth (suc n) (a ∷ l) = nth n l
-
--- the first with this ID, else 16
-unfoldable pub firstWith : ℕ → List Located → Answer Located
-firstWith id [] = refused 16 0
-firstWith id (e ∷ l) = pick (eqb (e .id) id) (accepted e) (firstWith id l)
+use Rattle.element.specs.declared.RecordFields.{RecordFields}
+use Rattle.element.specs.Elements.{Located, elements, nth, firstWith}
+use Rattle.lookup.specs.Places.{Placed, placeRecords}
+use Rattle.element.specs.Results.{recordResult}
 
 -- ---- what is looked in: accepted data, and the offset of its first record in the input
 
@@ -39,7 +30,7 @@ udpSource largest longest p = onAccepted (readDatagram largest longest p) (λ g.
 unfoldable pub placedRecord : Source → ℕ → Answer Placed
 placedRecord x n = nth n (placeRecords (widthsOf (x .content .codec)) (x .base) (x .content .records))
 
-unfoldable pub recordByNumber : Answer Source → ℕ → Answer RecordResult
+unfoldable pub recordByNumber : Answer Source → ℕ → Answer RecordFields
 recordByNumber source n = onAccepted source (λ x. onAccepted (placedRecord x n) (λ r. accepted (recordResult (r .content))))
 
 -- ---- a value: its ID, kind, offset from the input's start, and its bytes

@@ -1,20 +1,19 @@
--- Where things lie: a value within its record, and records one behind another in the input.
+-- Records one behind another in the input.
 use Prim.Native.Nat.{ℕ, _+_, _≤_}
 use mathlib.Core.Path.{_≡_}
 use mathlib.Core.List.{List, [], _∷_}
-use lib.ListN.{length, take, drop}
+use lib.ListN.{length}
 use Rattle.avl.specs.declared.Widths.{Widths}
-use Rattle.avl.specs.Records.{recordBytes}
-use Rattle.lookup.specs.Elements.{Located, Placed}
+use Rattle.avl.specs.Records.{AvlRecord, recordBytes}
+use Rattle.element.specs.Places.{part}
 
--- the `n` bytes of `s` from `at` on
-unfoldable pub part : List ℕ → ℕ → ℕ → List ℕ
-part s at n = take n (drop at s)
+pub record Placed : Type 0 where
+  pub start : ℕ
+  pub content : AvlRecord
 
--- a value lies within the bytes of its record
-pub record Inside (e : Located) (bytes : List ℕ) : Type 0 where
-  pub within : e .place + length (e .value) ≤ length bytes
-  pub stands : part bytes (e .place) (length (e .value)) ≡ e .value
+unfoldable pub placeRecords : Widths → ℕ → List AvlRecord → List Placed
+placeRecords w at [] = []
+placeRecords w at (r ∷ rs) = record { start = at; content = r } ∷ placeRecords w (at + length (recordBytes w r)) rs
 
 -- the records fill the input from `from` to `to`, each beginning where the one before ends
 abbrev pub Tiles : Widths → List ℕ → ℕ → ℕ → List Placed → Type 0

@@ -5,7 +5,9 @@ use mathlib.Core.List.{List}
 use lib.ListN.{length}
 use Rattle.wire.specs.Numbers.{be}
 use Rattle.wire.specs.Answers.{Answer, accepted, refused, onAccepted}
-use Rattle.avl.specs.DataField.{AvlData, dataBytes, DataRules, readData}
+use Rattle.avl.specs.DataField.{AvlData, dataBytes, DataRules, readData, DataResult, dataResult}
+use Rattle.packet.specs.declared.PacketAnswer.{PacketAnswer}
+use Rattle.packet.specs.declared.PacketAnswer.the-variants.{Accepted, Refused}
 use Rattle.frame.specs.Frame.{framed, FrameRules, unframe}
 
 -- ---- the rules
@@ -24,6 +26,9 @@ pub record DataPacket (largest longest : ℕ) (a : AvlData) (p : List ℕ) : Typ
 unfoldable pub readPacket : ℕ → ℕ → List ℕ → Answer AvlData
 readPacket largest longest p = onAccepted (unframe largest p) (readData longest)
 
+unfoldable pub answerPacket : ℕ → ℕ → List ℕ → Answer DataResult
+answerPacket largest longest p = onAccepted (readPacket largest longest p) (λ a. accepted (dataResult a))
+
 -- ---- the acknowledgement: the number of records in four bytes, 0 for a refused packet
 
 unfoldable pub acknowledged : Answer AvlData → ℕ
@@ -32,3 +37,9 @@ acknowledged (refused number index) = 0
 
 unfoldable pub tcpAcknowledgement : ℕ → ℕ → List ℕ → List ℕ
 tcpAcknowledgement largest longest p = be 4 (acknowledged (readPacket largest longest p))
+
+-- ---- what the code's answer says
+
+unfoldable pub packetAs : PacketAnswer → Answer DataResult
+packetAs (Accepted codec count) = accepted (record { codec = codec; count = count })
+packetAs (Refused r) = refused (r .number) (r .index)

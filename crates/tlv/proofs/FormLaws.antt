@@ -197,7 +197,7 @@ plain w e i =
     }
 
 plain-widths : (codec : ℕ) → Plain (widthsOf codec)
-unfolding widthsOf codec8 codec8E codec16
+unfolding widthsOf
 plain-widths codec =
     pick-either Plain (eqb codec 0x08) codec8 (pick (eqb codec 0x8E) codec8E codec16) (plain codec8 (lit≤ tt) (lit≤ tt))
     (pick-either Plain (eqb codec 0x8E) codec8E codec16 (plain codec8E (lit≤ tt) (lit≤ tt)) (plain codec16 (lit≤ tt) (lit≤ tt)))

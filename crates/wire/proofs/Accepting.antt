@@ -3,6 +3,7 @@ use Prim.Native.Nat.{ℕ}
 use native.Mathlib.Omega.{arith}
 use mathlib.Core.Path.{_≡_, refl, ap}
 use mathlib.Core.Bool.{Bool, true, false}
+use Rattle.wire.specs.declared.Fault.{Fault}
 use Rattle.wire.specs.Numbers.{pick}
 use Rattle.wire.specs.Reading.{Read, got, bad}
 use Rattle.wire.specs.Answers.{Answer, accepted, refused, onAccepted, told, check}
@@ -30,6 +31,14 @@ pub check-passed : {A : Type 0} (test : Bool) (number : ℕ) (rest : Answer A) �
 unfolding check
 check-passed test number rest e = simp e
 
+pub check-failed : {A : Type 0} (test : Bool) (number : ℕ) (rest : Answer A) → test ≡ false → check test number rest ≡ refused number 0
+unfolding check
+check-failed test number rest e = simp e
+
+pub onAccepted-refused : {A B : Type 0} (r : Answer A) (f : A → Answer B) {n i : ℕ} → r ≡ refused n i → onAccepted r f ≡ refused n i
+unfolding onAccepted
+onAccepted-refused r f e = ap (λ x. onAccepted x f) e
+
 pub onAccepted-accepted : {A B : Type 0} (r : Answer A) (f : A → Answer B) {b : B} → onAccepted r f ≡ accepted b → (a : A) × (r ≡ accepted a) × (f a ≡ accepted b)
 unfolding onAccepted
 onAccepted-accepted (accepted a) f e = (a, refl, e)
@@ -43,6 +52,10 @@ pub told-accepted : {A : Type 0} (r : Read A) {a : A} → told r ≡ accepted a 
 unfolding told
 told-accepted (got b n) e = (n, ap (λ x. got x n) (cc))
 told-accepted (bad x) e = absurd (let z : _≡_ {A = ℕ} 0 1 = cc in omega arith)
+
+pub told-bad : {A : Type 0} (r : Read A) {x : Fault} → r ≡ bad x → told r ≡ refused (x .number) (x .index)
+unfolding told
+told-bad r e = ap told e
 
 pub told-got : {A : Type 0} (r : Read A) {a : A} {n : ℕ} → r ≡ got a n → told r ≡ accepted a
 unfolding told

@@ -20,7 +20,7 @@ use Rattle.wire.proofs.Accepting.{both-true}
 use Rattle.wire.proofs.Exactness.{Meets, meets-then, meets-next, meets-pure, meets-here, meets-require, then-got, here-got, require-got, Exact, number-exact, repeat-sound, repeat-complete}
 
 -- two digits in a byte, the first at most `most`
-pair-exact : (most : ℕ) → most ≤ 9 → Exact (pairUpTo most) packedPair (λ d. d < suc most * 10)
+pub pair-exact : (most : ℕ) → most ≤ 9 → Exact (pairUpTo most) packedPair (λ d. d < suc most * 10)
 unfolding pairUpTo pure
 pair-exact most small =
     record {

@@ -19,7 +19,7 @@ use Rattle.wire.proofs.Exactness.{meets-then, meets-next, meets-pure, m
 digit-bytes : (d : ℕ) → d < 10 → be 1 (48 + d) ≡ asciiDigit d
 digit-bytes d h = one-byte (48 + d) (omega arith)
 
-digit-exact : Exact textDigit asciiDigit (λ d. d < 10)
+pub digit-exact : Exact textDigit asciiDigit (λ d. d < 10)
 unfolding textDigit pure
 digit-exact =
     record {
@@ -67,7 +67,7 @@ imei-exact =
           ∙ ap (λ (x : ℕ). got x next) (value-digits 10 15 imei (lit< tt) h);
     }
 
-length-digitBytes : (ds : List ℕ) → length (joined asciiDigit ds) ≡ length ds
+pub length-digitBytes : (ds : List ℕ) → length (joined asciiDigit ds) ≡ length ds
 length-digitBytes [] = refl
 length-digitBytes (d ∷ ds) = ap suc (length-digitBytes ds)
 

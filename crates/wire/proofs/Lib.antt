@@ -8,3 +8,7 @@ pub mod ImeiPacked
 pub mod SignedLaws
 pub mod Shifts
 pub mod Complement
+pub mod Walking
+pub mod DigitLaws
+pub mod BufferLaws
+pub mod Storing

@@ -1,8 +1,8 @@
 -- Neighbouring big-endian numbers joined by a shift and an or, at any widths.
 use Prim.Native.Nat.{ℕ, zero, suc, _+_, _*_, _%_, _^_, _≤_, _<_}
-use native.Mathlib.Nat.{add-zero, zero-add, add-suc, add-assoc, mul-one, mul-add, pow-suc}
+use native.Mathlib.Nat.{add-zero, zero-add, add-suc, add-assoc, mul-one, pow-suc}
 use native.Mathlib.Omega.{arith}
-use mathlib.Core.Path.{_≡_, refl, sym, ap, ap₂, _∙_, subst}
+use mathlib.Core.Path.{_≡_, refl, sym, ap, _∙_, subst}
 use mathlib.Core.List.{List}
 use lib.ListN.{getD}
 use lib.Pow.{pow-add, shl-exact}
@@ -23,7 +23,7 @@ unfolding numberAt
 number-add s at v zero = simp (add-zero, mul-one)
 number-add s at v (suc w) = rw (add-suc, number-add s at v w, ← add-assoc at v w, pow-suc) (omega arith)
 
--- in `b` bits
+-- the shift and the or of the machine, in `b` bits
 pub number-or : (s : List ℕ) (at v w b : ℕ) → Bytes s → 8 * v + 8 * w ≤ b
     → bitOr (numberAt s at v * 2 ^ (8 * w) % 2 ^ b) (numberAt s (at + v) w) ≡ numberAt s at (v + w)
 number-or s at v w b h f =

@@ -4,6 +4,9 @@ use mathlib.Core.Bool.{Bool}
 use mathlib.Core.List.{List, _++_}
 use lib.ListN.{length, drop}
 use lib.Dec.{leb}
+use Rattle.wire.specs.declared.Refusal.{Refusal}
+use Rattle.wire.specs.declared.Written.{Written}
+use Rattle.wire.specs.declared.Written.the-variants.{Bytes, Refused}
 use Rattle.wire.specs.Numbers.{pick}
 use Rattle.wire.specs.Answers.{Answer, accepted, refused, onAccepted, check}
 
@@ -15,3 +18,8 @@ writing result out = onAccepted result (λ b. check (leb (length b) (length out)
 unfoldable pub leaving : Answer (List ℕ) → List ℕ → List ℕ
 leaving (accepted b) out = pick (leb (length b) (length out)) (b ++ drop (length b) out) out
 leaving (refused number index) out = out
+
+-- what the code's answer says
+unfoldable pub writtenAs : Written → Answer ℕ
+writtenAs (Bytes n) = accepted n
+writtenAs (Refused r) = refused (r .number) (r .index)

@@ -7,6 +7,8 @@ use lib.Dec.{leb}
 use Rattle.wire.specs.declared.Fault.{Fault}
 use Rattle.wire.specs.declared.Walk.{Walk}
 use Rattle.wire.specs.declared.Walk.the-variants.{On, Stopped}
+use Rattle.wire.specs.declared.Decimal.{Decimal}
+use Rattle.wire.specs.declared.Decimal.the-variants.{Of, Unread}
 use Rattle.wire.specs.Numbers.{numberAt, pick}
 
 -- what was read and the offset behind it, or why not
@@ -18,6 +20,11 @@ pub data Read (A : Type 0) : Type 0 where
 unfoldable pub walked : {A : Type 0} → Read A → Walk
 walked (got a next) = On next
 walked (bad x) = Stopped x
+
+-- the number that was read, or why it was not
+unfoldable pub numbered : Read ℕ → Decimal
+numbered (got n next) = Of n next
+numbered (bad x) = Unread x
 
 -- a reader takes the bytes and the offset to read at
 abbrev pub Reader : Type 0 → Type 0

@@ -1,8 +1,11 @@
-// Reading numbers out of bytes: big-endian of a fixed width or of any width up to 8, and the two's complement; what a walk over bytes answers.
+// Numbers in bytes: big-endian at a width, and the two's complement.
 ghost use mathlib.Core.Path.{_≡_};
-ghost use Prim.Native.Nat.{_+_, _≤_};
+ghost use Prim.Native.Nat.{_+_, _≤_, _<_};
 ghost use lib.ListN.{length};
-ghost use Rattle.wire.specs.Numbers.{numberAt, signed};
+ghost use lib.Seq.{sets};
+ghost use Rattle.wire.specs.Numbers.{numberAt, signed, valueFrom, be, le};
+ghost use Rattle.wire.specs.Reading.{numbered, _>>=_ as bind, pure, repeat};
+ghost use Rattle.wire.specs.Imei.{textDigit, readImei, pairUpTo, readPacked};
 
 // Why a walk stopped: the refusal's number, the record's index, and the offset at which the offending field starts.
 pub struct Fault {
@@ -17,26 +20,22 @@ pub enum Walk {
     Stopped(Fault),
 }
 
-pub fn be16(s: &[u8], at: usize) -> u16
-    requires { ⌜ at + 2 ≤ length (now s) ⌝ }
-    ensures { λ r. ⌜ r ≡ numberAt (now (s .entry)) at 2 ⌝ }
-{
-    ((s[at] as u16) << 8) | (s[at + 1] as u16)
+// A number that was read and the offset behind it, or why it was not.
+pub enum Decimal {
+    Of(u64, usize),
+    Unread(Fault),
 }
 
-// Each wider number is two halves.
-pub fn be32(s: &[u8], at: usize) -> u32
-    requires { ⌜ at + 4 ≤ length (now s) ⌝ }
-    ensures { λ r. ⌜ r ≡ numberAt (now (s .entry)) at 4 ⌝ }
-{
-    ((be16(s, at) as u32) << 16) | (be16(s, at + 2) as u32)
+// Why an input is refused: the number of document 01 and the record's index.
+pub struct Refusal {
+    pub number: u8,
+    pub index: usize,
 }
 
-pub fn be64(s: &[u8], at: usize) -> u64
-    requires { ⌜ at + 8 ≤ length (now s) ⌝ }
-    ensures { λ r. ⌜ r ≡ numberAt (now (s .entry)) at 8 ⌝ }
-{
-    ((be32(s, at) as u64) << 32) | (be32(s, at + 4) as u64)
+// How many bytes were written, or why none were.
+pub enum Written {
+    Bytes(usize),
+    Refused(Refusal),
 }
 
 pub fn number(s: &[u8], at: usize, w: usize) -> u64
@@ -52,7 +51,29 @@ pub fn number(s: &[u8], at: usize, w: usize) -> u64
     n
 }
 
-// The two's complement by the number's distance from -1, so that each cast keeps the value.
+pub fn be16(s: &[u8], at: usize) -> u16
+    requires { ⌜ at + 2 ≤ length (now s) ⌝ }
+    ensures { λ r. ⌜ r ≡ numberAt (now (s .entry)) at 2 ⌝ }
+{
+    number(s, at, 2) as u16
+}
+
+pub fn be32(s: &[u8], at: usize) -> u32
+    requires { ⌜ at + 4 ≤ length (now s) ⌝ }
+    ensures { λ r. ⌜ r ≡ numberAt (now (s .entry)) at 4 ⌝ }
+{
+    number(s, at, 4) as u32
+}
+
+// By two halves it compiles to one load; by a run of eight bytes it does not.
+pub fn be64(s: &[u8], at: usize) -> u64
+    requires { ⌜ at + 8 ≤ length (now s) ⌝ }
+    ensures { λ r. ⌜ r ≡ numberAt (now (s .entry)) at 8 ⌝ }
+{
+    (number(s, at, 4) << 32) | number(s, at + 4, 4)
+}
+
+// A negative number by its distance from -1, so that each cast keeps the value.
 pub fn signed16(x: u16) -> i16
     ensures { λ r. ⌜ r ≡ signed 2 x ⌝ }
 {
@@ -69,4 +90,176 @@ pub fn signed32(x: u32) -> i32
         return x as i32;
     }
     -1 - ((0xFFFF_FFFF - x) as i32)
+}
+
+fn unread(number: u8, place: usize) -> Decimal
+    ensures { λ r. ⌜ r ≡ Decimal.Unread (record { number = number; index = 0; place = place }) ⌝ }
+{
+    Decimal::Unread(Fault {
+        number,
+        index: 0,
+        place,
+    })
+}
+
+fn text_digit(s: &[u8], at: usize) -> Decimal
+    requires { ⌜ at ≤ length (now s) ⌝ }
+    ensures { λ r. ⌜ r ≡ numbered (textDigit (now (s .entry)) at) ⌝ }
+{
+    let end = at + 1;
+    if s.len() < end {
+        return unread(8, at);
+    }
+    let c = s[at];
+    if c < 48 {
+        return unread(15, at);
+    }
+    if 57 < c {
+        return unread(15, at);
+    }
+    Decimal::Of((c - 48) as u64, end)
+}
+
+// An IMEI as text: its length, 15, and its digits.
+pub fn read_imei(s: &[u8], at: usize) -> Decimal
+    requires { ⌜ at ≤ length (now s) ⌝ }
+    ensures { λ r. ⌜ r ≡ numbered (readImei (now (s .entry)) at) ⌝ }
+{
+    let start = at + 2;
+    if s.len() < start {
+        return unread(8, at);
+    }
+    let size = be16(s, at);
+    if size != 15 {
+        return unread(15, at);
+    }
+    let mut value: u64 = 0;
+    let mut next = start;
+    let mut left: usize = 15;
+    while 0 < left {
+        match text_digit(s, next) {
+            Decimal::Of(d, to) => {
+                value = value * 10 + d;
+                next = to;
+            }
+            Decimal::Unread(x) => return Decimal::Unread(x),
+        }
+        left -= 1;
+    }
+    Decimal::Of(value, next)
+}
+
+// Two digits in a byte, the first at most `most`.
+fn pair_up_to(most: u8, s: &[u8], at: usize) -> Decimal
+    requires { ⌜ at ≤ length (now s) ⌝ }
+    ensures { λ r. ⌜ r ≡ numbered (pairUpTo most (now (s .entry)) at) ⌝ }
+{
+    let end = at + 1;
+    if s.len() < end {
+        return unread(8, at);
+    }
+    let b = s[at];
+    if most < b / 16 {
+        return unread(15, at);
+    }
+    if 9 < b % 16 {
+        return unread(15, at);
+    }
+    Decimal::Of((b / 16 * 10 + b % 16) as u64, end)
+}
+
+// `n` pairs of digits behind the digits that gave `first`.
+fn pairs_from(first: u64, n: usize, s: &[u8], at: usize) -> Decimal
+    requires { ⌜ (first < 100) × (n < 8) × (at ≤ length (now s)) ⌝ }
+    ensures { λ r. ⌜ r ≡ numbered (bind (repeat n (pairUpTo 9)) (λ ds. pure (valueFrom 100 first ds)) (now (s .entry)) at) ⌝ }
+{
+    let mut value = first;
+    let mut next = at;
+    let mut left = n;
+    while 0 < left {
+        match pair_up_to(9, s, next) {
+            Decimal::Of(d, to) => {
+                value = value * 100 + d;
+                next = to;
+            }
+            Decimal::Unread(x) => return Decimal::Unread(x),
+        }
+        left -= 1;
+    }
+    Decimal::Of(value, next)
+}
+
+// An IMEI in `w` bytes, two digits a byte.
+pub fn read_packed(s: &[u8], at: usize, w: usize) -> Decimal
+    requires { ⌜ (at ≤ length (now s)) × (w ≤ 8) ⌝ }
+    ensures { λ r. ⌜ r ≡ numbered (readPacked w (now (s .entry)) at) ⌝ }
+{
+    if w == 0 {
+        return Decimal::Of(0, at);
+    }
+    match pair_up_to(0, s, at) {
+        Decimal::Of(first, next) => pairs_from(first, w - 1, s, next),
+        Decimal::Unread(x) => Decimal::Unread(x),
+    }
+}
+
+// The value of `n` ASCII digits.
+pub fn text_number(n: usize, s: &[u8], at: usize) -> Decimal
+    requires { ⌜ (n ≤ 15) × (at ≤ length (now s)) ⌝ }
+    ensures { λ r. ⌜ r ≡ numbered (bind (repeat n textDigit) (λ ds. pure (valueFrom 10 0 ds)) (now (s .entry)) at) ⌝ }
+{
+    let mut value: u64 = 0;
+    let mut next = at;
+    let mut left = n;
+    while 0 < left {
+        match text_digit(s, next) {
+            Decimal::Of(d, to) => {
+                value = value * 10 + d;
+                next = to;
+            }
+            Decimal::Unread(x) => return Decimal::Unread(x),
+        }
+        left -= 1;
+    }
+    Decimal::Of(value, next)
+}
+
+// Stores the `w` lowest bytes of `n`, the highest first.
+pub fn put_be(out: &mut [u8], at: usize, w: usize, n: u64)
+    requires { ⌜ at + w ≤ length (now out) ⌝ }
+    ensures { λ r. ⌜ now (out .exit) ≡ sets (now (out .entry)) at (be w n) ⌝ }
+{
+    let mut rest = n;
+    let mut left = w;
+    while 0 < left {
+        left -= 1;
+        out[at + left] = (rest % 256) as u8;
+        rest = rest / 256;
+    }
+}
+
+// Stores the `w` lowest bytes of `n`, the lowest first.
+pub fn put_le(out: &mut [u8], at: usize, w: usize, n: u64)
+    requires { ⌜ at + w ≤ length (now out) ⌝ }
+    ensures { λ r. ⌜ now (out .exit) ≡ sets (now (out .entry)) at (le w n) ⌝ }
+{
+    let mut rest = n;
+    let mut i: usize = 0;
+    while i < w {
+        out[at + i] = (rest % 256) as u8;
+        rest = rest / 256;
+        i += 1;
+    }
+}
+
+// Stores the bytes of `src`.
+pub fn put_bytes(out: &mut [u8], at: usize, src: &[u8])
+    requires { ⌜ at + length (now src) ≤ length (now out) ⌝ }
+    ensures { λ r. ⌜ now (out .exit) ≡ sets (now (out .entry)) at (now (src .entry)) ⌝ }
+{
+    let mut i: usize = 0;
+    while i < src.len() {
+        out[at + i] = src[i];
+        i += 1;
+    }
 }

@@ -1,18 +1,15 @@
-use Rattle.checksum.proofs.CrcLaws.{crcFrom-nil, crcFrom-cons}
-use Rattle.checksum.specs.Crc.{absorb, crcFrom, crc}
-use lib.Seq.{drop-cons}
-use lib.ListN.{length, drop, getD, drop-of-length-le}
-use mathlib.Core.List.{[]}
-use mathlib.Core.Path.{_≡_, refl, ap, _∙_}
+-- Invariant: the CRC of the rest from `c` is the CRC of the whole.
+use Prim.Native.Nat.{suc, _-_, _≤_, zero-le}
 use native.Mathlib.Omega.{arith}
 use native.Mathlib.Numerals.{add-one}
-use Prim.Native.Nat.{ℕ, zero, suc, _+_, _-_, _≤_, _<_, zero-le}
+use mathlib.Core.Path.{_≡_, refl}
+use lib.Seq.{drop-cons}
+use lib.ListN.{length, drop, getD, drop-of-length-le}
 use borrow.Author.Needs.{needs}
+use Rattle.checksum.proofs.CrcLaws.{crcFrom-nil, crcFrom-cons}
+use Rattle.checksum.specs.Crc.{crcFrom, crc}
 use Rattle.checksum.proofs.crc16.Statement.{statement}
 use Rattle.checksum.proofs.crc16.Tie as tie
-use Rattle.checksum.proofs.crc16.Reads as reads
-use Rattle.checksum.proofs.crc16.Lts as lts
-use Rattle.checksum.proofs.absorb_byte.Reads as absorb-byte-reads
 
 abbrev Inv-loop : tie.InvT-loop
 Inv-loop s c₀ i₀ c i = (i ≤ length s) × (crcFrom c (drop i s) ≡ crc s)
@@ -20,34 +17,27 @@ Inv-loop s c₀ i₀ c i = (i ≤ length s) × (crcFrom c (drop i s) ≡ crc s)
 abbrev μ-loop : tie.MeasureT-loop
 μ-loop s c₀ i₀ c i = length s - i
 
--- src/lib.rt:29:5
 loop-holds : tie.Need-loop-holds Inv-loop μ-loop
 unfolding crc
 loop-holds c = (zero-le, refl)
 
--- src/lib.rt:30:28
 shared-slice-read-absorb-byte : tie.Need-shared-slice-read-absorb-byte Inv-loop μ-loop
 shared-slice-read-absorb-byte c = search needs
 
--- src/lib.rt:30:9
 absorb-byte-requires : tie.Need-absorb-byte-requires Inv-loop μ-loop
 absorb-byte-requires c κs = search needs
 
--- src/lib.rt:31:9
 add-i : tie.Need-add-i Inv-loop μ-loop
 add-i c = search needs
 
--- src/lib.rt:29:5
 loop-less : tie.Need-loop-less Inv-loop μ-loop
 loop-less c = search needs
 
--- src/lib.rt:29:5
 loop-again : tie.Need-loop-again Inv-loop μ-loop
 loop-again c = let s = c .before .before .before .before .before .args .s .now in
     let i = c .before .before .before .loop .i in
     (omega arith, cc (add-one i, drop-cons s i 0 (omega arith), crcFrom-cons (c .before .before .before .loop .c) (getD s i 0) (drop (suc i) s)))
 
--- src/lib.rt:24:1
 returns : tie.Need-returns Inv-loop μ-loop
 returns c = let s = c .before .before .before .args .s .now in
     let passed : length s ≤ c .before .loop .i = omega arith in

@@ -1,14 +1,13 @@
+-- Invariant: `n` is the number in the bytes passed.
+use Prim.Native.Nat.{_+_, _-_, _≤_}
+use native.Mathlib.Omega.{arith}
+use mathlib.Core.Path.{_≡_}
+use borrow.Author.Needs.{needs}
 use Rattle.wire.proofs.Shifts.{number-one, number-or}
 use Rattle.wire.proofs.Widths.{getD-bytes}
 use Rattle.wire.specs.Numbers.{numberAt}
-use mathlib.Core.Path.{_≡_}
-use Prim.Native.Nat.{_+_, _-_, _≤_}
-use native.Mathlib.Omega.{arith}
-use borrow.Author.Needs.{needs}
 use Rattle.wire.proofs.number.Statement.{statement}
 use Rattle.wire.proofs.number.Tie as tie
-use Rattle.wire.proofs.number.Reads as reads
-use Rattle.wire.proofs.number.Lts as lts
 
 abbrev Inv-loop : tie.InvT-loop
 Inv-loop s at w n₀ i₀ n i = (i ≤ w) × (n ≡ numberAt s at i)
@@ -16,39 +15,31 @@ Inv-loop s at w n₀ i₀ n i = (i ≤ w) × (n ≡ numberAt s at i)
 abbrev μ-loop : tie.MeasureT-loop
 μ-loop s at w n₀ i₀ n i = w - i
 
--- src/lib.rt:35:5
 loop-holds : tie.Need-loop-holds Inv-loop μ-loop
 unfolding numberAt
 loop-holds c = search needs
 
--- src/lib.rt:36:27
 add-n : tie.Need-add-n Inv-loop μ-loop
 add-n c = search needs
 
--- src/lib.rt:36:25
 shared-slice-read-n : tie.Need-shared-slice-read-n Inv-loop μ-loop
 shared-slice-read-n c = search needs
 
--- src/lib.rt:36:25
 cast-n : tie.Need-cast-n Inv-loop μ-loop
 cast-n c = omega (arith, c .shared-slice-known .given (c .before .before .before .args .at + c .before .before .loop .i))
 
--- src/lib.rt:37:9
 add-i : tie.Need-add-i Inv-loop μ-loop
 add-i c = search needs
 
--- src/lib.rt:35:5
 loop-less : tie.Need-loop-less Inv-loop μ-loop
 loop-less c = search needs
 
--- src/lib.rt:35:5
 loop-again : tie.Need-loop-again Inv-loop μ-loop
 loop-again c = let s = c .before .before .before .args .s .now in
     let at = c .before .before .before .args .at in
     let i = c .before .before .loop .i in
     (omega arith, cc (number-one s (at + i), number-or s at i 1 64 (getD-bytes s (λ k. c .shared-slice-known .given k .fits)) (omega arith)))
 
--- src/lib.rt:29:1
 returns : tie.Need-returns Inv-loop μ-loop
 returns c = let done : c .before .loop .i ≡ c .before .before .args .w = omega arith in cc
 

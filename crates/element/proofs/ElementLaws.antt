@@ -14,8 +14,8 @@ use Rattle.wire.proofs.Placed.{Between, between-split, between-moved, between-b
 use Rattle.avl.specs.declared.Widths.{Widths}
 use Rattle.avl.specs.Codecs.{kinds}
 use Rattle.avl.specs.Records.{Element, Fixed, AvlRecord, elementCount, total, lengthBytes, elementBytes, groupBytes, groupsBytes, fixedBytes, recordBytes, GroupsRules, RecordRules}
-use Rattle.lookup.specs.Elements.{Located, leadSize, locateGroup, locateGroups, fixedSize, elements}
-use Rattle.lookup.specs.Places.{part, Inside}
+use Rattle.element.specs.Elements.{Located, leadSize, locateGroup, locateGroups, fixedSize, elements}
+use Rattle.element.specs.Places.{part, Inside}
 
 inside : {s : List ℕ} {next : ℕ} (e : Located) → Between s (e .place) (e .value) next → Inside e s
 unfolding part
@@ -24,6 +24,10 @@ inside e f = record { within = omega (arith, f .inside, f .size); stands = betwe
 length-pick : (variable : Bool) (n : ℕ) → length (pick variable (be 2 n) []) ≡ pick variable 2 0
 length-pick true n = length-digits 256 2 n
 length-pick false n = refl
+
+pub length-element : (w : Widths) (kind : ℕ) (e : Element) → length (elementBytes w kind e) ≡ leadSize w kind + length (e .value)
+unfolding elementBytes lengthBytes leadSize
+length-element w kind e = simp (length-append, length-digits, length-pick) (omega arith)
 
 group-inside : (w : Widths) (kind : ℕ) (s : List ℕ) (at : ℕ) (g : List Element) (next : ℕ)
     → Between s at (joined (elementBytes w kind) g) next → All (λ e. Inside e s) (locateGroup w kind at g)
@@ -64,7 +68,7 @@ elements-inside w r =
 
 -- ---- the number of elements
 
-length-group : (w : Widths) (kind at : ℕ) (g : List Element) → length (locateGroup w kind at g) ≡ length g
+pub length-group : (w : Widths) (kind at : ℕ) (g : List Element) → length (locateGroup w kind at g) ≡ length g
 unfolding locateGroup
 length-group w kind at [] = refl
 length-group w kind at (e ∷ g) = ap suc (length-group w kind _ g)

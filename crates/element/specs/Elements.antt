@@ -4,9 +4,10 @@ use mathlib.Core.List.{List, [], _∷_, _++_}
 use lib.ListN.{length}
 use lib.Dec.{eqb}
 use Rattle.wire.specs.Numbers.{pick}
+use Rattle.wire.specs.Answers.{Answer, accepted, refused}
 use Rattle.avl.specs.declared.Widths.{Widths}
 use Rattle.avl.specs.Codecs.{kinds}
-use Rattle.avl.specs.Records.{Element, AvlRecord, elementBytes, groupBytes, recordBytes}
+use Rattle.avl.specs.Records.{Element, AvlRecord, elementBytes, groupBytes}
 
 pub record Located : Type 0 where
   pub kind : ℕ
@@ -36,12 +37,13 @@ fixedSize w = 24 + w .event + w .generation + w .count
 unfoldable pub elements : Widths → AvlRecord → List Located
 elements w r = locateGroups w (kinds w) (fixedSize w) (r .groups)
 
--- ---- records one behind another
+-- the n-th of a list, from 0, else 16
+unfoldable pub nth : {A : Type 0} → ℕ → List A → Answer A
+nth n [] = refused 16 0
+nth zero (a ∷ l) = accepted a
+nth (suc n) (a ∷ l) = nth n l
 
-pub record Placed : Type 0 where
-  pub start : ℕ
-  pub content : AvlRecord
-
-unfoldable pub placeRecords : Widths → ℕ → List AvlRecord → List Placed
-placeRecords w at [] = []
-placeRecords w at (r ∷ rs) = record { start = at; content = r } ∷ placeRecords w (at + length (recordBytes w r)) rs
+-- the first with this ID, else 16
+unfoldable pub firstWith : ℕ → List Located → Answer Located
+firstWith id [] = refused 16 0
+firstWith id (e ∷ l) = pick (eqb (e .id) id) (accepted e) (firstWith id l)

@@ -1,0 +1,140 @@
+-- What the writer gives is read back, and every acceptable command is what the writer writes of its own fields.
+use Prim.Native.Nat.{ℕ, zero, suc, _+_, _-_, _*_, _^_, _≤_, _<_}
+use native.Mathlib.Omega.{arith}
+use mathlib.Core.Path.{_≡_, refl, sym, ap, _∙_, subst}
+use mathlib.Core.Bool.{false}
+use mathlib.Core.List.{List, [], _∷_}
+use lib.ListN.{length}
+use lib.Dec.{eqb, leb, lit<}
+use borrow.Author.Tests.{le-leb, leb-true, eq-eqb, eqb-true}
+use Rattle.wire.specs.Numbers.{Bytes, digits, be, pick, valueFrom}
+use Rattle.wire.specs.Sequences.{joined, All}
+use Rattle.wire.specs.Reading.{Read, here, require, number, repeat}
+use Rattle.wire.specs.Answers.{accepted, told}
+use Rattle.wire.specs.Imei.{asciiDigit, textDigit, packedPair, packed}
+use Rattle.wire.proofs.Widths.{bytes-append, bytes-be, length-digits, digits-small, value-digits, value-lt}
+use Rattle.wire.proofs.Enclosed.{bytes-enclosed}
+use Rattle.wire.proofs.Placed.{between-whole}
+use Rattle.wire.proofs.Exactness.{Meets, meets-then, meets-next, meets-pure, meets-require, repeat-complete}
+use Rattle.wire.proofs.Accepting.{both-true, check-accepted, check-passed, onAccepted-accepted, onAccepted-passed, told-accepted, told-got}
+use Rattle.wire.proofs.ImeiText.{digit-exact, length-digitBytes}
+use Rattle.frame.specs.Frame.{framed}
+use Rattle.command.specs.declared.Layout.{Layout}
+use Rattle.command.specs.Layouts.{types, layoutOf, member}
+use Rattle.command.specs.Commands.{Command, bodyBytes, mismatch, commandField, CommandPacket, readCommand}
+use Rattle.command.specs.Writing.{givenImei, packetOf, commandBytes}
+use Rattle.command.proofs.CommandLaws.{mismatch-sound, mismatch-complete}
+use Rattle.command.proofs.PacketLaws.{command-complete}
+use Rattle.command.proofs.WriterLaws.{length-field}
+
+-- ---- the IMEI as text
+
+anything : {A : Type 0} (r : Read A) → Meets r (λ a next. Unit {0})
+anything r = record { if-got = λ a n e. tt }
+
+digit-small : (s : List ℕ) (at : ℕ) → Meets (textDigit s at) (λ d next. d < 10)
+unfolding textDigit
+digit-small s at =
+    meets-then here _ s at (anything (here s at)) (λ start n₀ k₀.
+    meets-then (number 1) _ s n₀ (anything (number 1 s n₀)) (λ c n₁ k₁.
+    meets-next (require (pick (leb 48 c) (leb c 57) false) 15 start) _ s n₁ (meets-require _ _ _ s n₁) (λ u n₂ k₂.
+    let high : c ≤ 57 = leb-true c 57 (both-true (leb 48 c) (leb c 57) (k₂ .0) .1) in
+    meets-pure (c - 48) s n₂ (omega arith))))
+
+digits-given : (n : ℕ) (s : List ℕ) (at : ℕ) → Meets (repeat n textDigit s at) (λ ds next. (length ds ≡ n) × All (λ d. d < 10) ds)
+unfolding repeat
+digits-given zero s at = meets-pure [] s at (refl, tt)
+digits-given (suc n) s at =
+    meets-then textDigit _ s at (digit-small s at) (λ d mid k.
+    meets-then (repeat n textDigit) _ s mid (digits-given n s mid) (λ ds next r.
+    meets-pure (d ∷ ds) s next (ap suc (r .0), (k, r .1))))
+
+given-range : (l : Layout) (s : List ℕ) (n : ℕ) → givenImei l s ≡ accepted n → n < 10 ^ (2 * l .imei - 1)
+unfolding givenImei
+given-range l s n e =
+    let count = check-accepted (eqb (length s) (2 * l .imei - 1)) 15 _ e in
+    let read = onAccepted-accepted (told (repeat (length s) textDigit s 0)) _ (count .1) in
+    let ds = read .0 in
+    let walk = told-accepted _ (read .1) in
+    let k = digits-given (length s) s 0 .if-got ds (walk .0) (walk .1) in
+    let value : valueFrom 10 0 ds ≡ n = cc in
+    let size : length ds ≡ 2 * l .imei - 1 = k .0 ∙ eqb-true (length s) (2 * l .imei - 1) (count .0) in
+    subst (λ (x : ℕ). x < 10 ^ (2 * l .imei - 1)) value (subst (λ (w : ℕ). valueFrom 10 0 ds < 10 ^ w) size (value-lt 10 ds (k .1)))
+
+given-digits : (l : Layout) (imei : ℕ) → imei < 10 ^ (2 * l .imei - 1) → givenImei l (joined asciiDigit (digits 10 (2 * l .imei - 1) imei)) ≡ accepted imei
+unfolding givenImei
+given-digits l imei h =
+    let w = 2 * l .imei - 1 in
+    let ds = digits 10 w imei in
+    let s = joined asciiDigit ds in
+    let size : length s ≡ w = length-digitBytes ds ∙ length-digits 10 w imei in
+    check-passed (eqb (length s) w) 15 _ (eq-eqb (length s) w size)
+    ∙ onAccepted-passed (told (repeat (length s) textDigit s 0)) _
+    (told-got _ (ap (λ (n : ℕ). repeat n textDigit s 0) (length-digitBytes ds) ∙ repeat-complete digit-exact ds s 0 (length s) (digits-small 10 w imei (lit< tt)) (between-whole s)))
+    ∙ ap accepted (value-digits 10 w imei (lit< tt) h)
+
+-- ---- bytes
+
+bytes-pairs : (ds : List ℕ) → All (λ d. d < 100) ds → Bytes (joined packedPair ds)
+bytes-pairs [] h = tt
+bytes-pairs (d ∷ ds) h = (let small : d < 100 = h .0 in omega arith, bytes-pairs ds (h .1))
+
+bytes-packed : (w imei : ℕ) → Bytes (packed w imei)
+unfolding packed
+bytes-packed w imei = bytes-pairs (digits 100 w imei) (digits-small 100 w imei (lit< tt))
+
+bytes-field : (l : Layout) (c : Command) → Bytes (c .text) → Bytes (commandField l c)
+unfolding commandField
+bytes-field l c h =
+    bytes-enclosed (c .codec) 1 (bodyBytes l c)
+    (bytes-append (be 1 (c .type)) _ (bytes-be 1 (c .type))
+    (bytes-append (be 4 (l .imei + length (c .text))) _ (bytes-be 4 (l .imei + length (c .text)))
+    (bytes-append (packed (l .imei) (c .imei)) (c .text) (bytes-packed (l .imei) (c .imei)) h)))
+
+-- ---- both ways
+
+-- what is written is read, with the same codec, type, IMEI and text
+pub written-read : (largest codec type : ℕ) (imei text p : List ℕ) → largest ≤ 256 ^ 4 → Bytes text → commandBytes largest codec type imei text ≡ accepted p
+    → (l : Layout) × (n : ℕ) × (layoutOf codec ≡ accepted l) × (givenImei l imei ≡ accepted n)
+    × (readCommand largest p ≡ accepted (record { codec = codec; type = type; imei = n; text = text }))
+unfolding commandBytes packetOf
+written-read largest codec type imei text p limit h e =
+    let row = onAccepted-accepted (layoutOf codec) _ e in
+    let l = row .0 in
+    let kind = check-accepted (member type (types l)) 13 _ (row .2) in
+    let given = onAccepted-accepted (givenImei l imei) _ (kind .1) in
+    let n = given .0 in
+    let c : Command = record { codec = codec; type = type; imei = n; text = text } in
+    let empty = check-accepted (mismatch type text) 14 _ (given .2) in
+    let short = check-accepted (leb (length (commandField l c) + 12) largest) 14 _ (empty .1) in
+    let most : length (commandField l c) + 12 ≤ largest = leb-true _ _ (short .0) in
+    let whole : p ≡ framed (commandField l c) = cc in (
+      l,
+      n,
+      row .1,
+      given .1,
+      command-complete largest p c (record {
+        row = l;
+        rules = record {
+          layout = row .1;
+          typeAllowed = kind .0;
+          imeiRange = given-range l imei n (given .1);
+          textBytes = h;
+          mismatchEmpty = mismatch-sound type text (empty .0);
+        };
+        frame = record { bytes = bytes-field l c h; least = omega (arith, length-field l c); most = most; counted = omega arith };
+        whole = whole;
+      }),
+    )
+
+pub read-written : (largest : ℕ) (c : Command) (p : List ℕ) (k : CommandPacket largest c p)
+    → commandBytes largest (c .codec) (c .type) (joined asciiDigit (digits 10 (2 * k .row .imei - 1) (c .imei))) (c .text) ≡ accepted p
+unfolding commandBytes packetOf
+read-written largest c p k =
+    let l = k .row in
+    onAccepted-passed (layoutOf (c .codec)) _ (k .rules .layout)
+    ∙ check-passed (member (c .type) (types l)) 13 _ (k .rules .typeAllowed)
+    ∙ onAccepted-passed (givenImei l (joined asciiDigit (digits 10 (2 * l .imei - 1) (c .imei)))) _ (given-digits l (c .imei) (k .rules .imeiRange))
+    ∙ check-passed (mismatch (c .type) (c .text)) 14 _ (mismatch-complete (c .type) (c .text) (k .rules .mismatchEmpty))
+    ∙ check-passed (leb (length (commandField l c) + 12) largest) 14 _ (le-leb _ _ (k .frame .most))
+    ∙ ap accepted (sym (k .whole))

@@ -1,0 +1,66 @@
+-- The text of an accepted command stands in the packet at the offset that is answered.
+use Prim.Native.Nat.{ℕ, _+_, _≤_}
+use native.Mathlib.Omega.{arith}
+use mathlib.Core.Path.{_≡_, refl, sym, ap, ap₂, _∙_}
+use mathlib.Core.List.{List, []}
+use lib.ListN.{length, take, drop}
+use Rattle.wire.specs.Numbers.{Bytes, digits, be}
+use Rattle.wire.specs.Envelope.{enclosed}
+use Rattle.wire.specs.Answers.{Answer, accepted, refused, onAccepted}
+use Rattle.wire.specs.Imei.{packed}
+use Rattle.wire.proofs.Placed.{Between, between-split, between-moved, between-bytes, between-is, between-whole}
+use Rattle.wire.proofs.Accepting.{onAccepted-accepted, onAccepted-passed}
+use Rattle.wire.proofs.ImeiPacked.{length-packed}
+use Rattle.frame.specs.Frame.{framed}
+use Rattle.command.specs.declared.Layout.{Layout}
+use Rattle.command.specs.declared.CommandFields.{CommandFields}
+use Rattle.command.specs.Layouts.{layoutOf}
+use Rattle.command.specs.Commands.{Command, bodyBytes, commandField, readCommand, answerCommand, textView}
+use Rattle.command.proofs.CommandLaws.{layout-unique}
+use Rattle.command.proofs.PacketLaws.{command-exact}
+
+text-between : (l : Layout) (c : Command) (p : List ℕ) → p ≡ framed (commandField l c)
+    → Between p (15 + l .imei) (c .text) (15 + l .imei + length (c .text))
+unfolding framed commandField enclosed digits
+text-between l c p e =
+    let d = commandField l c in
+    let f₁ = between-split (be 4 0) (between-bytes e (between-whole p)) in
+    let f₂ = between-split (be 4 (length d)) (f₁ .1) in
+    let f₃ = between-split d (f₂ .1) in
+    let g₁ = between-split (be 1 (c .codec)) (f₃ .0) in
+    let g₂ = between-split (be 1 1) (g₁ .1) in
+    let g₃ = between-split (bodyBytes l c) (g₂ .1) in
+    let h₁ = between-split (be 1 (c .type)) (g₃ .0) in
+    let h₂ = between-split (be 4 (l .imei + length (c .text))) (h₁ .1) in
+    let h₃ = between-split (packed (l .imei) (c .imei)) (h₂ .1) in
+    let start = ap (λ (n : ℕ). 15 + n) (length-packed (l .imei) (c .imei)) in
+    between-moved start (h₃ .1 .size ∙ ap (λ (n : ℕ). n + length (c .text)) start) (h₃ .1)
+
+pub text-stands : (largest : ℕ) (p : List ℕ) (f : CommandFields) → Bytes p → answerCommand largest p ≡ accepted f
+    → (c : Command) × (readCommand largest p ≡ accepted c) × (take (f .size) (drop (f .offset) p) ≡ c .text) × (f .offset + f .size ≤ length p)
+unfolding answerCommand
+text-stands largest p f h e =
+    let read = onAccepted-accepted (readCommand largest p) _ e in
+    let c = read .0 in
+    let row = onAccepted-accepted (layoutOf (c .codec)) _ (read .2) in
+    let l = row .0 in
+    let k = command-exact largest p c h .0 (read .1) in
+    let same : k .row ≡ l = layout-unique (c .codec) (k .rules .layout) (row .1) in
+    let fields : _≡_ {A = CommandFields} (record { codec = c .codec; kind = c .type; imei = c .imei; offset = 15 + l .imei; size = length (c .text) }) f = cc in
+    let offset : 15 + l .imei ≡ f .offset = ap (λ (x : CommandFields). x .offset) fields in
+    let size : length (c .text) ≡ f .size = ap (λ (x : CommandFields). x .size) fields in
+    let text = text-between l c p (k .whole ∙ ap (λ (m : Layout). framed (commandField m c)) same) in
+    (c, read .1, ap₂ (λ (n at : ℕ). take n (drop at p)) (sym size) (sym offset) ∙ between-is text, omega (arith, text .inside))
+
+accepted-again : {A B : Type 0} (r : Answer A) (f : A → Answer B) {n i : ℕ} → ((a : A) → r ≡ accepted a → (b : B) × (f a ≡ accepted b)) → onAccepted r f ≡ refused n i → r ≡ refused n i
+unfolding onAccepted
+accepted-again (accepted a) f h e = absurd (let k = h a refl in let z : _≡_ {A = ℕ} 0 1 = cc in omega arith)
+accepted-again (refused m j) f h e = ap₂ refused (cc) (cc)
+
+-- a refused packet has no text
+pub text-refused : (largest : ℕ) (p : List ℕ) {n i : ℕ} → Bytes p → answerCommand largest p ≡ refused n i → textView (readCommand largest p) ≡ []
+unfolding answerCommand textView
+text-refused largest p h e =
+    ap textView (accepted-again (readCommand largest p) _ (λ c r.
+    let k = command-exact largest p c h .0 r in
+    (_, onAccepted-passed (layoutOf (c .codec)) _ (k .rules .layout))) e)

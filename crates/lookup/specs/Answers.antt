@@ -1,0 +1,111 @@
+-- What the code answers, of what the definitions give.
+use Prim.Native.Nat.{ℕ, _+_, _-_, _≤_}
+use mathlib.Core.Path.{_≡_}
+use mathlib.Core.Bool.{Bool}
+use mathlib.Core.List.{List, []}
+use lib.ListN.{length}
+use Rattle.wire.specs.Reading.{got}
+use Rattle.wire.specs.Answers.{Answer, accepted, refused, onAccepted}
+use Rattle.avl.specs.Codecs.{widthsOf}
+use Rattle.avl.specs.Records.{AvlRecord, recordBytes}
+use Rattle.avl.specs.RecordReader.{avlRecord}
+use Rattle.element.specs.declared.Value.{Value}
+use Rattle.element.specs.declared.Wanted.{Wanted}
+use Rattle.element.specs.declared.RecordFields.{RecordFields}
+use Rattle.element.specs.Elements.{Located, elements}
+use Rattle.element.specs.Places.{part}
+use Rattle.element.specs.Results.{recordResult}
+use Rattle.element.specs.Search.{Readable, pickFrom}
+use Rattle.lookup.specs.declared.Part.{Part}
+use Rattle.lookup.specs.declared.RecordAnswer.{RecordAnswer}
+use Rattle.lookup.specs.declared.ValueAnswer.{ValueAnswer}
+use Rattle.lookup.specs.declared.KnownAnswer.{KnownAnswer}
+use Rattle.lookup.specs.Places.{Placed}
+use Rattle.lookup.specs.Lookups.{Source, placedRecord, Found, LastKnown}
+
+unfoldable pub recordAs : RecordAnswer → Answer RecordFields
+recordAs (RecordAnswer.Fields f) = accepted f
+recordAs (RecordAnswer.Refused r) = refused (r .number) (r .index)
+
+-- ---- a record as a part of the input
+
+pub record PartResult : Type 0 where
+  pub codec : ℕ
+  pub start : ℕ
+  pub end : ℕ
+
+unfoldable pub partOf : Answer Source → ℕ → Answer PartResult
+partOf source n =
+    onAccepted source
+    (λ x. onAccepted (placedRecord x n)
+    (λ r. accepted
+    (record { codec = x .content .codec; start = r .start; end = r .start + length (recordBytes (widthsOf (x .content .codec)) (r .content)) })))
+
+-- the last record
+unfoldable pub lastPart : Answer Source → Answer PartResult
+lastPart source = onAccepted source (λ x. partOf (accepted x) (length (x .content .records) - 1))
+
+unfoldable pub partAs : Part → Answer PartResult
+partAs (Part.Of codec start end) = accepted (record { codec = codec; start = start; end = end })
+partAs (Part.Refused r) = refused (r .number) (r .index)
+
+-- the part is a record of the input, and can be read
+abbrev pub PartIn : List ℕ → Part → Type 0
+PartIn p (Part.Of codec start end) = (start ≤ end) × ((end ≤ length p) × Readable 255 (widthsOf codec) (part p start (end - start)))
+PartIn p (Part.Refused r) = Unit {0}
+
+-- the answer is the fields of the record that the part is
+abbrev pub RecordIn : List ℕ → Part → RecordAnswer → Type 0
+RecordIn p (Part.Of codec start end) answer =
+    (x : AvlRecord) (n : ℕ) → avlRecord 255 (widthsOf codec) (part p start (end - start)) 0 ≡ got x n → answer ≡ RecordAnswer.Fields (recordResult x)
+RecordIn p (Part.Refused r) answer = answer ≡ RecordAnswer.Refused r
+
+-- ---- a value
+
+-- an element's value, its offset counted from the input's start
+unfoldable pub movedBy : ℕ → Answer Located → ValueAnswer
+movedBy start (accepted e) = ValueAnswer.Found (record { id = e .id; kind = e .kind; offset = start + e .place; size = length (e .value) })
+movedBy start (refused number index) = ValueAnswer.Refused (record { number = 16; index = 0 })
+
+-- the answer is the wanted element of the record that the part is
+abbrev pub ValueIn : List ℕ → Part → Wanted → ValueAnswer → Type 0
+ValueIn p (Part.Of codec start end) wanted answer =
+    (x : AvlRecord) (n : ℕ) → avlRecord 255 (widthsOf codec) (part p start (end - start)) 0 ≡ got x n
+    → answer ≡ movedBy start (pickFrom wanted 0 (elements (widthsOf codec) x))
+ValueIn p (Part.Refused r) wanted answer = answer ≡ ValueAnswer.Refused r
+
+-- the bytes of a value, which lie in the input
+abbrev pub Within : List ℕ → ValueAnswer → Type 0
+Within p (ValueAnswer.Found v) = v .offset + v .size ≤ length p
+Within p (ValueAnswer.Refused r) = Unit {0}
+
+unfoldable pub viewOf : List ℕ → ValueAnswer → List ℕ
+viewOf p (ValueAnswer.Found v) = part p (v .offset) (v .size)
+viewOf p (ValueAnswer.Refused r) = []
+
+unfoldable pub valueResult : Found → Value
+valueResult f = record { id = f .id; kind = f .kind; offset = f .offset; size = length (f .value) }
+
+unfoldable pub answerValue : Answer Found → Answer Value
+answerValue found = onAccepted found (λ f. accepted (valueResult f))
+
+unfoldable pub valueAs : ValueAnswer → Answer Value
+valueAs (ValueAnswer.Found v) = accepted v
+valueAs (ValueAnswer.Refused r) = refused (r .number) (r .index)
+
+-- ---- the last known value
+
+pub record KnownResult : Type 0 where
+  pub older : Bool
+  pub value : Value
+
+unfoldable pub answerKnown : Answer LastKnown → Answer KnownResult
+answerKnown known = onAccepted known (λ k. accepted (record { older = k .older; value = valueResult (k .found) }))
+
+unfoldable pub knownAs : KnownAnswer → Answer KnownResult
+knownAs (KnownAnswer.Found older v) = accepted (record { older = older; value = v })
+knownAs (KnownAnswer.Refused r) = refused (r .number) (r .index)
+
+unfoldable pub knownView : Answer LastKnown → List ℕ
+knownView (accepted k) = k .found .value
+knownView (refused number index) = []

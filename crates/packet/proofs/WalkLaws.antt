@@ -1,0 +1,71 @@
+-- Which way the judge of a packet goes, by what the frame answers.
+use Prim.Native.Nat.{ℕ, _+_, _-_, _/_, _%_, _≤_, _<_}
+use native.Mathlib.Omega.{arith}
+use mathlib.Core.Path.{_≡_, refl, sym, ap, ap₂, _∙_}
+use mathlib.Core.List.{List, [], _∷_, _++_}
+use lib.ListN.{length, take, drop, length-drop}
+use lib.Seq.{length-take-le}
+use Rattle.wire.specs.Numbers.{Bytes, digits, be}
+use Rattle.wire.specs.Answers.{accepted, refused, onAccepted}
+use Rattle.wire.proofs.Accepting.{onAccepted-passed}
+use Rattle.frame.specs.declared.Framed.{Framed}
+use Rattle.frame.specs.Frame.{unframe, framing}
+use Rattle.frame.proofs.FramingLaws.{framing-field, framing-unframed}
+use Rattle.avl.specs.DataField.{readData, dataResult}
+use Rattle.walk.specs.declared.Span.{Span}
+use Rattle.walk.proofs.TakenLaws.{TakenOf}
+use Rattle.packet.specs.DataPackets.{readPacket, answerPacket, acknowledged, tcpAcknowledgement}
+
+pub unframed-refused : (largest longest : ℕ) (p : List ℕ) (n : ℕ) → framing (unframe largest p) ≡ Framed.Unframed n → readPacket largest longest p ≡ refused n 0
+unfolding readPacket onAccepted
+unframed-refused largest longest p n e = ap (λ r. onAccepted r (readData longest)) (framing-unframed largest p n e)
+
+module _ (largest : ℕ) (p : List ℕ) (n : ℕ) (e : framing (unframe largest p) ≡ Framed.Field n) (b : Bytes p) where
+  -- the data field lies in the packet
+  pub field-inside : (8 + n ≤ length p) × (3 ≤ n)
+  field-inside = let f = framing-field largest p n e b in omega arith
+
+  -- the part that is handed on
+  field-part : take (8 + n - 8) (drop 8 p) ≡ take n (drop 8 p)
+  field-part =
+      let same : 8 + n - 8 ≡ n = omega arith in
+      ap (λ (k : ℕ). take k (drop 8 p)) same
+
+  pub field-long : 3 ≤ length (take (8 + n - 8) (drop 8 p))
+  field-long =
+      let f = framing-field largest p n e b in
+      let k = length-take-le n (drop 8 p) (simp length-drop (omega arith)) in
+      omega (arith, ap length field-part)
+
+  pub field-read : (longest : ℕ) → readData longest (take (8 + n - 8) (drop 8 p)) ≡ readPacket largest longest p
+  unfolding readPacket
+  field-read longest = ap (readData longest) field-part ∙ sym (onAccepted-passed (unframe largest p) (readData longest) (framing-field largest p n e b .0))
+
+-- ---- what the walk tells of the answers
+
+module _ (largest longest : ℕ) (p : List ℕ) where
+  pub answer-taken : {want codec count : ℕ} {span : Span} → TakenOf want (readPacket largest longest p) codec count span
+      → answerPacket largest longest p ≡ accepted (record { codec = codec; count = count })
+  unfolding answerPacket dataResult
+  answer-taken k =
+      onAccepted-passed (readPacket largest longest p) _ (k .accepts) ∙ ap₂ (λ (x y : ℕ). accepted (record { codec = x; count = y })) (k .codecIs) (k .countIs)
+
+  pub answer-refused : {n i : ℕ} → readPacket largest longest p ≡ refused n i → answerPacket largest longest p ≡ refused n i
+  unfolding answerPacket onAccepted
+  answer-refused e = ap (λ r. onAccepted r (λ a. accepted (dataResult a))) e
+
+  pub count-taken : {want codec count : ℕ} {span : Span} → TakenOf want (readPacket largest longest p) codec count span
+      → acknowledged (readPacket largest longest p) ≡ count
+  unfolding acknowledged
+  count-taken k = ap acknowledged (k .accepts) ∙ k .countIs
+
+  pub count-refused : {n i : ℕ} → readPacket largest longest p ≡ refused n i → acknowledged (readPacket largest longest p) ≡ 0
+  unfolding acknowledged
+  count-refused e = ap acknowledged e
+
+  pub acknowledgement-bytes : {n : ℕ} → n ≡ acknowledged (readPacket largest longest p) → n < 256 → 0 ∷ 0 ∷ 0 ∷ n ∷ [] ≡ tcpAcknowledgement largest longest p
+  unfolding tcpAcknowledgement digits
+  acknowledgement-bytes {n} e h =
+      let high : n / 256 ≡ 0 = omega arith in
+      let low : n % 256 ≡ n = omega arith in
+      sym (ap₂ (λ (a b : ℕ). digits 256 3 a ++ (b ∷ [])) high low) ∙ ap (be 4) e

@@ -1,0 +1,34 @@
+use Rattle.packet.proofs.WalkLaws.{count-taken, count-refused}
+use Rattle.packet.specs.DataPackets.{readPacket}
+use Rattle.walk.proofs.TakenLaws.{taken, not-taken}
+use mathlib.Core.Path.{_≡_, sym, ap, _∙_}
+use borrow.Author.Needs.{needs}
+use Rattle.packet.proofs.record_count.Statement.{statement}
+use Rattle.packet.proofs.record_count.Tie as tie
+use Rattle.packet.proofs.record_count.Reads as reads
+use Rattle.packet.proofs.record_count.Lts as lts
+use Rattle.packet.proofs.judge_packet.Reads as judge-packet-reads
+
+-- src/lib.rt:54:11
+judge-packet-requires : tie.Need-judge-packet-requires
+judge-packet-requires c κs = search needs
+
+-- src/lib.rt:57:13
+enum-known-count : tie.Need-enum-known-count
+enum-known-count c = search needs
+
+-- src/lib.rt:60:33
+enum-told : tie.Need-enum-told
+enum-told c = search needs
+
+-- src/lib.rt:51:1
+returns : tie.Need-returns
+returns c = sym (count-taken 1280 255 (c .before .before .before .before .before .args .p .now) (taken 0 (readPacket 1280 255 (c .before .before .before .before .before .args .p .now)) (sym (c .before .before .before .judge-packet .ensures) ∙ c .before .count .given .1)))
+
+-- src/lib.rt:51:1
+returns-2 : tie.Need-returns-2
+returns-2 c = sym (count-refused 1280 255 (c .before .before .before .before .args .p .now) (not-taken 0 (readPacket 1280 255 (c .before .before .before .before .args .p .now)) (sym (c .before .before .judge-packet .ensures) ∙ c .enum-told .given .1)))
+
+pub record-count-spec : {M : Type 1} → statement M
+record-count-spec =
+    tie.close (tie.spec judge-packet-requires enum-known-count enum-told returns returns-2)

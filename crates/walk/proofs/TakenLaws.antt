@@ -1,0 +1,34 @@
+-- What the answer of the data field's walk tells of the judge.
+use Prim.Native.Nat.{ℕ}
+use native.Mathlib.Omega.{arith}
+use mathlib.Core.Path.{_≡_, refl, ap, ap₂}
+use mathlib.Core.List.{List}
+use lib.ListN.{length}
+use Rattle.wire.specs.declared.Refusal.{Refusal}
+use Rattle.wire.specs.Answers.{Answer, accepted, refused}
+use Rattle.walk.specs.declared.Span.{Span}
+use Rattle.walk.specs.declared.DataWalk.{DataWalk}
+use Rattle.walk.specs.declared.DataWalk.the-variants.{Taken, Refused}
+use Rattle.avl.specs.Codecs.{widthsOf}
+use Rattle.avl.specs.DataField.{AvlData}
+use Rattle.walk.specs.Walks.{spanOf, dataWalk}
+
+-- an accepted data field, as the walk tells of it
+pub record TakenOf (want : ℕ) (r : Answer AvlData) (codec count : ℕ) (span : Span) : Type 0 where
+  pub content : AvlData
+  pub accepts : r ≡ accepted content
+  pub codecIs : content .codec ≡ codec
+  pub countIs : length (content .records) ≡ count
+  pub spanIs : spanOf (widthsOf (content .codec)) want 0 (content .records) ≡ span
+
+pub taken : (want : ℕ) (r : Answer AvlData) {codec count : ℕ} {span : Span} → dataWalk want r ≡ Taken codec count span → TakenOf want r codec count span
+unfolding dataWalk
+taken want (accepted a) e = record { content = a; accepts = refl; codecIs = cc; countIs = cc; spanIs = cc }
+taken want (refused n i) e = absurd (let z : _≡_ {A = ℕ} 0 1 = cc in omega arith)
+
+pub not-taken : (want : ℕ) (r : Answer AvlData) {x : Refusal} → dataWalk want r ≡ Refused x → r ≡ refused (x .number) (x .index)
+unfolding dataWalk
+not-taken want (accepted a) e = absurd (let z : _≡_ {A = ℕ} 0 1 = cc in omega arith)
+not-taken want (refused n i) {x} e =
+    let same : _≡_ {A = Refusal} (record { number = n; index = i }) x = cc in
+    ap₂ refused (ap (λ (y : Refusal). y .number) same) (ap (λ (y : Refusal). y .index) same)

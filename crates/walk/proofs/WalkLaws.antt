@@ -1,0 +1,497 @@
+-- How the walk's functions go from one definition to the next: what each step reads, and what an answer tells of it.
+use Prim.Native.Nat.{ℕ, zero, suc, _+_, _-_, _*_, _^_, _≤_, _<_}
+use native.Mathlib.Nat.{mul-le-mul, pow-le-pow-right}
+use native.Mathlib.Numerals.{add-one}
+use native.Mathlib.Omega.{arith}
+use mathlib.Core.Path.{_≡_, refl, sym, ap, ap₂, _∙_}
+use mathlib.Core.Bool.{Bool, true, false}
+use mathlib.Core.List.{List, [], _∷_}
+use lib.ListN.{length}
+use lib.Dec.{eqb, leb}
+use borrow.Author.Tests.{eq-eqb, ne-eqb, le-leb, lt-leb}
+use Rattle.wire.specs.declared.Fault.{Fault}
+use Rattle.wire.specs.declared.Walk.{Walk}
+use Rattle.wire.specs.declared.Walk.the-variants.{On, Stopped}
+use Rattle.wire.specs.Numbers.{Bytes, numberAt, pick}
+use Rattle.wire.specs.Reading.{Read, got, bad, walked, Reader, andThen, _>>=_, _>>_, pure, require, number, bytes, upTo, repeat}
+use Rattle.wire.specs.Envelope.{codecOf, firstCount, lastCount, inner}
+use Rattle.wire.specs.Answers.{Answer, accepted, refused, check, told, onAccepted}
+use Rattle.wire.proofs.Widths.{number-lt, byte-pos}
+use Rattle.wire.proofs.Enclosed.{bytes-inner}
+use Rattle.wire.proofs.Accepting.{pick-true, pick-false, pick-either, check-passed, check-failed}
+use Rattle.wire.proofs.Exactness.{Exact, then-got, here-got, require-got, repeat-sound}
+use Rattle.wire.proofs.Walking.{short, then-bad, require-bad, bytes-got, bytes-bad, number-there, number-missing, upTo-there, walked-on, walked-stopped, walked-got, walked-bad}
+use Rattle.avl.specs.declared.Widths.{Widths}
+use Rattle.walk.specs.declared.Counted.{Counted}
+use Rattle.walk.specs.declared.Counted.the-variants.{Of}
+use Rattle.walk.specs.declared.Tally.the-variants.{Sums, Unsummed}
+use Rattle.walk.specs.declared.Span.{Span}
+use Rattle.walk.specs.declared.Records.{Records}
+use Rattle.walk.specs.declared.Records.the-variants.{All, Broken}
+use Rattle.walk.specs.declared.DataWalk.the-variants.{Taken, Refused}
+use Rattle.avl.specs.Codecs.{codec8, codec8E, codec16, widthsOf, isDataCodec, kinds}
+use Rattle.avl.specs.Records.{Element, Fixed, AvlRecord, total, elementCount, recordBytes}
+use Rattle.avl.specs.RecordReader.{valueSize, element, group, groups, fixedFields, avlRecord, tagged, inRecord, avlRecords, atEnd, allRecords}
+use Rattle.avl.specs.DataField.{AvlData, readData}
+use Rattle.walk.specs.Walks.{Narrow, counted, tallied, spanOf, spanned, dataWalk}
+use Rattle.avl.proofs.RecordLaws.{element-exact, group-exact, record-exact, all-sound}
+
+-- what was read lies inside
+pub walked-inside : {A : Type 0} {m : Reader A} {write : A → List ℕ} {Ok : A → Type 0} → Exact m write Ok → (s : List ℕ) (at : ℕ) {to : ℕ} → Bytes s → at ≤ length s
+    → walked (m s at) ≡ On to → to ≤ length s
+walked-inside x s at b h e = x .sound s at b h .if-got _ _ (walked-on _ e .1) .0 .inside
+
+-- ---- widths
+
+pub narrow : (codec : ℕ) → Narrow (widthsOf codec)
+unfolding widthsOf
+narrow codec =
+    pick-either Narrow (eqb codec 0x08) codec8 _ narrow8 (pick-either Narrow (eqb codec 0x8E) codec8E codec16 narrow8E narrow16)
+  where
+    narrow8 : Narrow codec8
+    narrow8 = omega arith
+
+    narrow8E : Narrow codec8E
+    narrow8E = omega arith
+
+    narrow16 : Narrow codec16
+    narrow16 = omega arith
+
+-- two bytes hold a count
+count-bound : {w : Widths} → Narrow w → 256 ^ w .count ≤ 65536
+count-bound n = pow-le-pow-right byte-pos (n .count)
+
+-- ---- the fixed fields
+
+-- the fields before the last
+pub fixed-start : (w : Widths) (s : List ℕ) (at : ℕ) → at + 8 + 1 + 4 + 4 + 2 + 2 + 1 + 2 + w .event ≤ length s → numberAt s (at + 8) 1 ≤ 2
+    → (f : ℕ → Fixed) × (fixedFields w s at ≡ (upTo (w .generation) 7 11 >>= λ n. pure (f n)) s (at + 8 + 1 + 4 + 4 + 2 + 2 + 1 + 2 + w .event))
+unfolding fixedFields
+fixed-start w s at h k = (
+  _,
+  number-there _ s at 8 (omega arith)
+      ∙ upTo-there _ s (at + 8) 1 2 10 (omega arith) k
+      ∙ number-there _ s (at + 8 + 1) 4 (omega arith)
+      ∙ number-there _ s (at + 8 + 1 + 4) 4 (omega arith)
+      ∙ number-there _ s (at + 8 + 1 + 4 + 4) 2 (omega arith)
+      ∙ number-there _ s (at + 8 + 1 + 4 + 4 + 2) 2 (omega arith)
+      ∙ number-there _ s (at + 8 + 1 + 4 + 4 + 2 + 2) 1 (omega arith)
+      ∙ number-there _ s (at + 8 + 1 + 4 + 4 + 2 + 2 + 1) 2 (omega arith)
+      ∙ number-there _ s (at + 8 + 1 + 4 + 4 + 2 + 2 + 1 + 2) (w .event) h,
+)
+
+-- ---- an element
+
+module _ (s : List ℕ) (at : ℕ) (kind : ℕ) where
+  pub variable-size : kind ≡ 9 → valueSize kind s at ≡ number 2 s at
+  unfolding valueSize
+  variable-size e = ap (λ (m : Reader ℕ). m s at) (pick-true (eqb kind 9) (number 2) (pure kind) (eq-eqb kind 9 e))
+
+  pub fixed-size : (kind ≡ 9 → ⊥) → valueSize kind s at ≡ got kind at
+  unfolding valueSize pure
+  fixed-size ne = ap (λ (m : Reader ℕ). m s at) (pick-false (eqb kind 9) (number 2) (pure kind) (ne-eqb kind 9 ne))
+
+-- an element whose value's length is known
+module _ (w : Widths) (kind : ℕ) (s : List ℕ) (at : ℕ) {size mid : ℕ} (h : at + w .id ≤ length s) (sized : valueSize kind s (at + w .id) ≡ got size mid) where
+  pub element-there : mid + size ≤ length s → (e : Element) × (element w kind s at ≡ got e (mid + size))
+  unfolding element pure
+  element-there k = (
+    _,
+    number-there _ s at (w .id) h ∙ then-got (valueSize kind) _ s (at + w .id) sized ∙ then-got (bytes size) _ s mid (bytes-got size s mid k),
+  )
+
+  pub element-cut : length s < mid + size → element w kind s at ≡ bad (short mid)
+  unfolding element
+  element-cut k = number-there _ s at (w .id) h ∙ then-got (valueSize kind) _ s (at + w .id) sized ∙ then-bad (bytes size) _ s mid (bytes-bad size s mid k)
+
+-- ---- lists
+
+-- with one more at the front
+unfoldable pub consed : {A : Type 0} → A → Read (List A) → Read (List A)
+consed a (got l next) = got (a ∷ l) next
+consed a (bad x) = bad x
+
+andThen-consed : {A : Type 0} (a : A) (r : Read (List A)) → andThen r (λ l next. got (a ∷ l) next) ≡ consed a r
+unfolding andThen consed
+andThen-consed a (got l next) = refl
+andThen-consed a (bad x) = refl
+
+walked-consed : {A : Type 0} (a : A) (r : Read (List A)) → walked (consed a r) ≡ walked r
+unfolding walked consed
+walked-consed a (got l next) = refl
+walked-consed a (bad x) = refl
+
+list-on : {A : Type 0} (m : Reader A) (rest : Reader (List A)) (s : List ℕ) (at : ℕ) {a : A} {mid : ℕ} → m s at ≡ got a mid
+    → (m >>= λ a. rest >>= λ l. pure (a ∷ l)) s at ≡ consed a (rest s mid)
+unfolding _>>=_ pure
+list-on m rest s at {a} {mid} e = then-got m (λ a. rest >>= λ l. pure (a ∷ l)) s at e ∙ andThen-consed a (rest s mid)
+
+module _ {A : Type 0} (m : Reader A) (s : List ℕ) where
+  pub repeat-none : (n at : ℕ) → n ≤ 0 → walked (repeat n m s at) ≡ On at
+  unfolding repeat pure walked
+  repeat-none zero at h = refl
+  repeat-none (suc n) at h = absurd (omega arith)
+
+  pub repeat-on : (n at : ℕ) {a : A} {mid : ℕ} → 0 < n → m s at ≡ got a mid → walked (repeat (n - 1) m s mid) ≡ walked (repeat n m s at)
+  unfolding repeat
+  repeat-on zero at h e = absurd (omega arith)
+  repeat-on (suc n) at {a} {mid} h e =
+      let less : suc n - 1 ≡ n = omega arith in
+      ap (λ (k : ℕ). walked (repeat k m s mid)) less ∙ sym (ap walked (list-on m (repeat n m) s at e) ∙ walked-consed a (repeat n m s mid))
+
+  pub repeat-stops : (n at : ℕ) {x : Fault} → 0 < n → m s at ≡ bad x → walked (repeat n m s at) ≡ Stopped x
+  unfolding repeat
+  repeat-stops zero at h e = absurd (omega arith)
+  repeat-stops (suc n) at h e = walked-bad _ (then-bad m _ s at e)
+
+-- values of a fixed width are stepped over at once
+pub fixed-elements : (w : Widths) (kind : ℕ) (s : List ℕ) (n at : ℕ) → (kind ≡ 9 → ⊥) → at + n * (w .id + kind) ≤ length s
+    → walked (repeat n (element w kind) s at) ≡ On (at + n * (w .id + kind))
+fixed-elements w kind s zero at ne h = repeat-none (element w kind) s zero at (omega arith) ∙ ap On (omega arith)
+fixed-elements w kind s (suc n) at ne h =
+    let first = element-there w kind s at (omega arith) (fixed-size s (at + w .id) kind ne) (omega arith) in
+    let less : suc n - 1 ≡ n = omega arith in
+    sym (repeat-on (element w kind) s (suc n) at (omega arith) (first .1))
+    ∙ ap (λ (k : ℕ). walked (repeat k (element w kind) s (at + w .id + kind))) less
+    ∙ fixed-elements w kind s n (at + w .id + kind) ne (omega arith)
+    ∙ ap On (omega arith)
+
+-- ---- a group
+
+pub group-missing : (w : Widths) (kind : ℕ) (s : List ℕ) (at : ℕ) → length s < at + w .count → counted (group w kind s at) ≡ Counted.Stopped (short at)
+unfolding group counted
+group-missing w kind s at h = ap counted (number-missing _ s at (w .count) h)
+
+-- of a group whose count is known
+module _ (w : Widths) (kind : ℕ) (s : List ℕ) (at : ℕ) {n : ℕ} (is : n ≡ numberAt s at (w .count)) where
+  pub group-extent : Narrow w → kind ≤ 9 → Bytes s → n * (w .id + kind) ≤ 65535 * 11
+  group-extent narrow k b =
+      let few : n ≤ 65535 = omega (arith, number-lt s at (w .count) b, count-bound narrow) in
+      let wide : w .id + kind ≤ 11 = omega arith in
+      mul-le-mul few wide
+
+  group-repeats : at + w .count ≤ length s → group w kind s at ≡ repeat n (element w kind) s (at + w .count)
+  unfolding group
+  group-repeats h = number-there _ s at (w .count) h ∙ ap (λ (k : ℕ). repeat k (element w kind) s (at + w .count)) (sym is)
+
+  pub group-stops : {x : Fault} → at + w .count ≤ length s → walked (repeat n (element w kind) s (at + w .count)) ≡ Walk.Stopped x
+      → counted (group w kind s at) ≡ Counted.Stopped x
+  unfolding counted
+  group-stops h e = ap counted (group-repeats h ∙ walked-stopped _ e)
+
+  pub group-of : {next : ℕ} → Bytes s → at + w .count ≤ length s → walked (repeat n (element w kind) s (at + w .count)) ≡ On next
+      → counted (group w kind s at) ≡ Of n next
+  unfolding counted
+  group-of {next} b h e =
+      let l = walked-on _ e in
+      let size = repeat-sound (element-exact w kind) n s (at + w .count) b h .if-got _ _ (l .1) .1 .0 in
+      ap counted (group-repeats h ∙ l .1) ∙ ap (λ (k : ℕ). Of k next) size
+
+-- what is known of a group that was read
+pub record GroupRead (w : Widths) (kind : ℕ) (s : List ℕ) (at n next : ℕ) : Type 0 where
+  pub elements : List Element
+  pub read : group w kind s at ≡ got elements next
+  pub size : length elements ≡ n
+  pub few : n ≤ 65535
+  pub inside : next ≤ length s
+
+counted-of : (r : Read (List Element)) {n next : ℕ} → counted r ≡ Of n next → (g : List Element) × (r ≡ got g next) × (length g ≡ n)
+unfolding counted
+counted-of (got g m) e = (g, ap (got g) (cc), cc)
+counted-of (bad x) e = absurd (let z : _≡_ {A = ℕ} 0 1 = cc in omega arith)
+
+counted-stopped : (r : Read (List Element)) {x : Fault} → counted r ≡ Counted.Stopped x → r ≡ bad x
+unfolding counted
+counted-stopped (got g m) e = absurd (let z : _≡_ {A = ℕ} 0 1 = cc in omega arith)
+counted-stopped (bad y) e = ap bad (cc)
+
+pub group-read : (w : Widths) (kind : ℕ) (s : List ℕ) (at : ℕ) {n next : ℕ} → Narrow w → Bytes s → at ≤ length s → counted (group w kind s at) ≡ Of n next
+    → GroupRead w kind s at n next
+group-read w kind s at narrow b h e =
+    let g = counted-of _ e in
+    let sound = group-exact w kind .sound s at b h .if-got _ _ (g .1) in
+    record {
+      elements = g .0;
+      read = g .1;
+      size = g .2;
+      few = omega (arith, sound .1 .countFits, g .2, count-bound narrow);
+      inside = sound .0 .inside;
+    }
+
+-- ---- groups
+
+module _ (w : Widths) (k : ℕ) (ks : List ℕ) (s : List ℕ) (at : ℕ) where
+  pub groups-on : {n mid : ℕ} (g : GroupRead w k s at n mid) → groups w (k ∷ ks) s at ≡ consed (g .elements) (groups w ks s mid)
+  unfolding groups
+  groups-on g = list-on (group w k) (groups w ks) s at (g .read)
+
+  pub groups-stop : {x : Fault} → counted (group w k s at) ≡ Counted.Stopped x → groups w (k ∷ ks) s at ≡ bad x
+  unfolding groups
+  groups-stop e = then-bad (group w k) _ s at (counted-stopped _ e)
+
+  pub groups-later : {n mid : ℕ} {x : Fault} → GroupRead w k s at n mid → groups w ks s mid ≡ bad x → groups w (k ∷ ks) s at ≡ bad x
+  unfolding consed
+  groups-later g e = groups-on g ∙ ap (consed (g .elements)) e
+
+pub tallied-bad : (r : Read (List (List Element))) {x : Fault} → r ≡ bad x → tallied r ≡ Unsummed x
+unfolding tallied
+tallied-bad r e = ap tallied e
+
+-- four groups, and a fifth where there are variable values
+module _ {w : Widths} {s : List ℕ} {at n₁ a₁ n₂ a₂ n₃ a₃ n₄ a₄ : ℕ} (g₁ : GroupRead w 1 s at n₁ a₁) (g₂ : GroupRead w 2 s a₁ n₂ a₂) (g₃ : GroupRead w 4 s a₂ n₃ a₃)
+    (g₄ : GroupRead w 8 s a₃ n₄ a₄) where
+  abbrev four : Read (List (List Element)) → Read (List (List Element))
+  four r = consed (g₁ .elements) (consed (g₂ .elements) (consed (g₃ .elements) (consed (g₄ .elements) r)))
+
+  four-groups : groups w (kinds w) s at ≡ four (groups w (pick (w .variable) (9 ∷ []) []) s a₄)
+  unfolding kinds
+  four-groups =
+      groups-on w 1 _ s at g₁
+      ∙ ap (consed (g₁ .elements)) (groups-on w 2 _ s a₁ g₂ ∙ ap (consed (g₂ .elements)) (groups-on w 4 _ s a₂ g₃ ∙ ap (consed (g₃ .elements)) (groups-on w 8 _ s a₃ g₄)))
+
+  -- with what the groups behind them are
+  behind : {gs : List (List Element)} {next : ℕ} → groups w (pick (w .variable) (9 ∷ []) []) s a₄ ≡ got gs next
+      → tallied (groups w (kinds w) s at) ≡ Sums (n₁ + n₂ + n₃ + n₄) (n₁ + n₂ + n₃ + n₄ + elementCount gs) next
+  unfolding consed tallied total elementCount
+  behind {gs} {next} e =
+      ap tallied (four-groups ∙ ap four e)
+      ∙ ap₂ (λ (t n : ℕ). Sums t n next) (omega (arith, g₁ .size, g₂ .size, g₃ .size, g₄ .size)) (omega (arith, g₁ .size, g₂ .size, g₃ .size, g₄ .size))
+
+  pub tally-fixed : w .variable ≡ false → tallied (groups w (kinds w) s at) ≡ Sums (n₁ + n₂ + n₃ + n₄) (n₁ + n₂ + n₃ + n₄) a₄
+  unfolding groups pure elementCount
+  tally-fixed e =
+      behind (ap (λ (ks : List ℕ). groups w ks s a₄) (pick-false (w .variable) (9 ∷ []) [] e)) ∙ ap (λ (n : ℕ). Sums (n₁ + n₂ + n₃ + n₄) n a₄) (omega arith)
+
+  nine : w .variable ≡ true → groups w (pick (w .variable) (9 ∷ []) []) s a₄ ≡ groups w (9 ∷ []) s a₄
+  nine e = ap (λ (ks : List ℕ). groups w ks s a₄) (pick-true (w .variable) (9 ∷ []) [] e)
+
+  pub tally-variable : {n₅ a₅ : ℕ} → w .variable ≡ true → GroupRead w 9 s a₄ n₅ a₅
+      → tallied (groups w (kinds w) s at) ≡ Sums (n₁ + n₂ + n₃ + n₄) (n₁ + n₂ + n₃ + n₄ + n₅) a₅
+  unfolding groups pure consed elementCount
+  tally-variable {n₅} {a₅} e g₅ =
+      behind (nine e ∙ groups-on w 9 [] s a₄ g₅) ∙ ap (λ (n : ℕ). Sums (n₁ + n₂ + n₃ + n₄) n a₅) (omega (arith, g₅ .size))
+
+  pub tally-unread : {x : Fault} → w .variable ≡ true → counted (group w 9 s a₄) ≡ Counted.Stopped x
+      → tallied (groups w (kinds w) s at) ≡ Unsummed x
+  unfolding consed tallied
+  tally-unread e z = ap tallied (four-groups ∙ ap four (nine e ∙ groups-stop w 9 [] s a₄ z))
+
+-- ---- a record
+
+tallied-sums : (r : Read (List (List Element))) {t n next : ℕ} → tallied r ≡ Sums t n next → (gs : List (List Element)) × (r ≡ got gs next) × (total gs ≡ t)
+unfolding tallied
+tallied-sums (got gs m) e = (gs, ap (got gs) (cc), cc)
+tallied-sums (bad x) e = absurd (let z : _≡_ {A = ℕ} 0 1 = cc in omega arith)
+
+tallied-unsummed : (r : Read (List (List Element))) {x : Fault} → tallied r ≡ Unsummed x → r ≡ bad x
+unfolding tallied
+tallied-unsummed (got gs m) e = absurd (let z : _≡_ {A = ℕ} 0 1 = cc in omega arith)
+tallied-unsummed (bad y) e = ap bad (cc)
+
+module _ (longest : ℕ) (w : Widths) (s : List ℕ) (at : ℕ) where
+  pub record-unfixed : {x : Fault} → walked (fixedFields w s at) ≡ Stopped x → walked (avlRecord longest w s at) ≡ Stopped x
+  unfolding avlRecord
+  record-unfixed e = walked-bad _ (here-got _ s at ∙ then-bad (fixedFields w) _ s at (walked-stopped _ e))
+
+  module _ {a₁ : ℕ} (fixed : walked (fixedFields w s at) ≡ On a₁) where
+    pub record-missing : length s < a₁ + w .count → walked (avlRecord longest w s at) ≡ Stopped (short a₁)
+    unfolding avlRecord
+    record-missing h =
+        walked-bad _ (here-got _ s at ∙ then-got (fixedFields w) _ s at (walked-on _ fixed .1) ∙ number-missing _ s a₁ (w .count) h)
+
+    pub record-unsummed : {x : Fault} → a₁ + w .count ≤ length s → tallied (groups w (kinds w) s (a₁ + w .count)) ≡ Unsummed x
+        → walked (avlRecord longest w s at) ≡ Stopped x
+    unfolding avlRecord
+    record-unsummed h e =
+        walked-bad _
+        (here-got _ s at
+        ∙ then-got (fixedFields w) _ s at (walked-on _ fixed .1)
+        ∙ number-there _ s a₁ (w .count) h
+        ∙ then-bad (groups w (kinds w)) _ s (a₁ + w .count) (tallied-unsummed _ e))
+
+    module _ {sum t n end : ℕ} (h : a₁ + w .count ≤ length s) (is : sum ≡ numberAt s a₁ (w .count))
+        (sums : tallied (groups w (kinds w) s (a₁ + w .count)) ≡ Sums t n end) where
+      -- the two rules at the end of a record
+      record-rules : (r : AvlRecord) × (avlRecord longest w s at ≡ (require (eqb sum t) 9 at >> (require (leb end (at + longest)) 12 at >> pure r)) s end)
+      unfolding avlRecord
+      record-rules =
+          let f = walked-on _ fixed in
+          let g = tallied-sums _ sums in
+          let r : AvlRecord = record { fixed = f .0; groups = g .0 } in (
+            r,
+            here-got _ s at
+                ∙ then-got (fixedFields w) _ s at (f .1)
+                ∙ number-there _ s a₁ (w .count) h
+                ∙ then-got (groups w (kinds w)) _ s (a₁ + w .count) (g .1)
+                ∙ here-got _ s end
+                ∙ ap₂ (λ (a b : ℕ). (require (eqb a b) 9 at >> (require (leb end (at + longest)) 12 at >> pure r)) s end) (sym is) (g .2),
+          )
+
+      pub record-uneven : (sum ≡ t → ⊥) → walked (avlRecord longest w s at) ≡ Stopped (record { number = 9; index = 0; place = at })
+      record-uneven ne = walked-bad _ (record-rules .1 ∙ require-bad _ 9 at _ s end (ne-eqb sum t ne))
+
+      pub record-long : sum ≡ t → at + longest < end → walked (avlRecord longest w s at) ≡ Stopped (record { number = 12; index = 0; place = at })
+      record-long e k =
+          walked-bad _ (record-rules .1 ∙ require-got _ 9 at _ s end (eq-eqb sum t e) ∙ require-bad _ 12 at _ s end (lt-leb end (at + longest) k))
+
+      pub record-on : sum ≡ t → end ≤ at + longest → walked (avlRecord longest w s at) ≡ On end
+      unfolding pure
+      record-on e k =
+          walked-got _ (record-rules .1 ∙ require-got _ 9 at _ s end (eq-eqb sum t e) ∙ require-got _ 12 at _ s end (le-leb end (at + longest) k))
+
+-- ---- records
+
+abbrev pub nowhere : Span
+nowhere = record { start = 0; end = 0 }
+
+-- where the record `want` lies among records, the first of which begins at `at` and has this index; what was found before where it is none of them
+unfoldable pub spanFrom : Widths → ℕ → ℕ → Span → ℕ → List AvlRecord → Span
+spanFrom w want index found at [] = found
+spanFrom w want index found at (r ∷ rs) =
+    spanFrom w want (suc index) (pick (eqb index want) (record { start = at; end = at + length (recordBytes w r) }) found) (at + length (recordBytes w r)) rs
+
+span-past : (w : Widths) (want index : ℕ) (found : Span) (at : ℕ) (rs : List AvlRecord) → want < index → spanFrom w want index found at rs ≡ found
+unfolding spanFrom
+span-past w want index found at [] h = refl
+span-past w want index found at (r ∷ rs) h =
+    span-past w want (suc index) _ (at + length (recordBytes w r)) rs (omega arith)
+    ∙ pick-false (eqb index want) _ found (ne-eqb index want (λ e. omega arith))
+
+span-ahead : (w : Widths) (want index n at : ℕ) (rs : List AvlRecord) → index + n ≡ want
+    → spanFrom w want index nowhere at rs ≡ spanOf w n at rs
+unfolding spanFrom spanOf
+span-ahead w want index zero at [] e = refl
+span-ahead w want index (suc n) at [] e = refl
+span-ahead w want index zero at (r ∷ rs) e =
+    span-past w want (suc index) _ (at + length (recordBytes w r)) rs (omega arith)
+    ∙ pick-true (eqb index want) _ nowhere (eq-eqb index want (omega arith))
+span-ahead w want index (suc n) at (r ∷ rs) e =
+    ap (λ (x : Span). spanFrom w want (suc index) x (at + length (recordBytes w r)) rs) (pick-false (eqb index want) _ _ (ne-eqb index want (λ same. omega arith)))
+    ∙ span-ahead w want (suc index) n (at + length (recordBytes w r)) rs (omega arith)
+
+module _ (w : Widths) (s : List ℕ) (count want : ℕ) where
+  -- the answer where these records are what is left, from `at` on
+  unfoldable pub answered : ℕ → Span → ℕ → Read (List AvlRecord) → Records
+  answered index found at (got rs next) =
+      pick (eqb next (length s)) (All (spanFrom w want index found at rs)) (Broken (record { number = 8; index = count; place = next }))
+  answered index found at (bad x) = Broken x
+
+  answered-whole : (r : Read (List AvlRecord)) → answered 0 nowhere 0 r ≡ spanned w want (andThen r (λ rs next. (atEnd count >> pure rs) s next))
+  unfolding answered andThen spanned atEnd _>>_ _>>=_ pure
+  answered-whole (bad x) = refl
+  answered-whole (got rs next) = go (eqb next (length s))
+    where
+      go : (b : Bool) → pick b (All (spanFrom w want 0 nowhere 0 rs)) (Broken (record { number = 8; index = count; place = next }))
+          ≡ spanned w want (andThen (pick b (got (tt {0}) next) (bad (record { number = 8; index = count; place = next }))) (λ u n. got rs n))
+      go true = ap All (span-ahead w want 0 want 0 rs (omega arith))
+      go false = refl
+
+  answered-consed : (index : ℕ) (found : Span) (at : ℕ) (r : AvlRecord) (x : Read (List AvlRecord)) → answered index found at (consed r x)
+      ≡ answered (suc index) (pick (eqb index want) (record { start = at; end = at + length (recordBytes w r) }) found) (at + length (recordBytes w r)) x
+  unfolding answered consed spanFrom
+  answered-consed index found at r (got rs next) = refl
+  answered-consed index found at r (bad x) = refl
+
+  module _ (longest : ℕ) where
+    -- the answer from the record `i` on
+    unfoldable pub answerFrom : ℕ → Span → ℕ → Records
+    answerFrom i found next = answered i found next (avlRecords longest w i (count - i) s next)
+
+    pub answer-whole : answerFrom 0 nowhere 0 ≡ spanned w want (allRecords longest w count s 0)
+    unfolding answerFrom allRecords _>>=_
+    answer-whole =
+        ap (λ (n : ℕ). answered 0 nowhere 0 (avlRecords longest w 0 n s 0)) (omega arith) ∙ answered-whole (avlRecords longest w 0 count s 0)
+
+    module _ (i : ℕ) (found : Span) (next : ℕ) where
+      -- the first of the records that are left
+      one-more : i < count → avlRecords longest w i (count - i) s next
+          ≡ (inRecord i (avlRecord longest w) >>= λ r. avlRecords longest w (i + 1) (count - (i + 1)) >>= λ rs. pure (r ∷ rs)) s next
+      unfolding avlRecords
+      one-more h =
+          let more : count - i ≡ suc (count - (i + 1)) = omega arith in
+          ap (λ (n : ℕ). avlRecords longest w i n s next) more
+          ∙ ap (λ (k : ℕ). (inRecord i (avlRecord longest w) >>= λ r. avlRecords longest w k (count - (i + 1)) >>= λ rs. pure (r ∷ rs)) s next) (sym (add-one i))
+
+      pub answer-broken : {x : Fault} → i < count → walked (avlRecord longest w s next) ≡ Stopped x
+          → answerFrom i found next ≡ Broken (record { number = x .number; index = i; place = x .place })
+      unfolding answerFrom answered inRecord tagged
+      answer-broken h e =
+          ap (answered i found next) (one-more h ∙ then-bad (inRecord i (avlRecord longest w)) _ s next (ap (tagged i) (walked-stopped _ e)))
+
+      pub answer-on : {to : ℕ} → Bytes s → next ≤ length s → i < count → walked (avlRecord longest w s next) ≡ On to
+          → answerFrom (i + 1) (pick (eqb i want) (record { start = next; end = to }) found) to ≡ answerFrom i found next
+      unfolding answerFrom inRecord tagged
+      answer-on {to} b k h e =
+          let r = walked-on _ e in
+          let rest = avlRecords longest w (i + 1) (count - (i + 1)) in
+          let size = record-exact longest w .sound s next b k .if-got _ _ (r .1) .0 .size in
+          sym (ap (answered i found next) (one-more h ∙ list-on (inRecord i (avlRecord longest w)) rest s next (ap (tagged i) (r .1)))
+          ∙ answered-consed i found next (r .0) (rest s to)
+          ∙ ap₂ (λ (m n : ℕ). answered m (pick (eqb i want) (record { start = next; end = n }) found) n (rest s to)) (sym (add-one i)) (sym size))
+
+      pub answer-over : count ≤ i → (next ≡ length s → ⊥) → answerFrom i found next ≡ Broken (record { number = 8; index = count; place = next })
+      unfolding answerFrom answered avlRecords pure
+      answer-over h ne =
+          let none : count - i ≡ 0 = omega arith in
+          ap (λ (n : ℕ). answered i found next (avlRecords longest w i n s next)) none ∙ pick-false (eqb next (length s)) _ _ (ne-eqb next (length s) ne)
+
+      pub answer-done : count ≤ i → next ≡ length s → answerFrom i found next ≡ All found
+      unfolding answerFrom answered avlRecords pure spanFrom
+      answer-done h e =
+          let none : count - i ≡ 0 = omega arith in
+          ap (λ (n : ℕ). answered i found next (avlRecords longest w i n s next)) none ∙ pick-true (eqb next (length s)) _ _ (eq-eqb next (length s) e)
+
+-- ---- a data field
+
+spanned-all : (w : Widths) (want : ℕ) (r : Read (List AvlRecord)) {span : Span} → spanned w want r ≡ All span
+    → (rs : List AvlRecord) × (next : ℕ) × (r ≡ got rs next) × (spanOf w want 0 rs ≡ span)
+unfolding spanned
+spanned-all w want (got rs next) e = (rs, next, refl, cc)
+spanned-all w want (bad x) e = absurd (let z : _≡_ {A = ℕ} 0 1 = cc in omega arith)
+
+spanned-broken : (w : Widths) (want : ℕ) (r : Read (List AvlRecord)) {x : Fault} → spanned w want r ≡ Broken x → r ≡ bad x
+unfolding spanned
+spanned-broken w want (got rs next) e = absurd (let z : _≡_ {A = ℕ} 0 1 = cc in omega arith)
+spanned-broken w want (bad y) e = ap bad (cc)
+
+-- the records of a data field, and what it is with them
+abbrev pub recordsOf : ℕ → List ℕ → Read (List AvlRecord)
+recordsOf longest d = allRecords longest (widthsOf (codecOf d)) (firstCount d) (inner d) 0
+
+abbrev withRecords : ℕ → Read (List AvlRecord) → Answer AvlData
+withRecords codec r = onAccepted (told r) (λ rs. accepted (record { codec = codec; records = rs }))
+
+module _ (longest want : ℕ) (d : List ℕ) where
+  pub data-unknown : isDataCodec (codecOf d) ≡ false → dataWalk want (readData longest d) ≡ Refused (record { number = 6; index = 0 })
+  unfolding readData dataWalk
+  data-unknown e = ap (dataWalk want) (check-failed _ 6 _ e)
+
+  module _ (known : isDataCodec (codecOf d) ≡ true) where
+    pub data-none : firstCount d < 1 → dataWalk want (readData longest d) ≡ Refused (record { number = 7; index = 0 })
+    unfolding readData dataWalk
+    data-none h = ap (dataWalk want) (check-passed _ 6 _ known ∙ check-failed _ 7 _ (lt-leb 1 (firstCount d) h))
+
+    module _ (some : 1 ≤ firstCount d) where
+      pub data-uneven : (firstCount d ≡ lastCount d → ⊥) → dataWalk want (readData longest d) ≡ Refused (record { number = 7; index = 0 })
+      unfolding readData dataWalk
+      data-uneven ne =
+          ap (dataWalk want) (check-passed _ 6 _ known ∙ check-passed _ 7 _ (le-leb 1 (firstCount d) some) ∙ check-failed _ 7 _ (ne-eqb (firstCount d) (lastCount d) ne))
+
+      module _ (even : firstCount d ≡ lastCount d) where
+        data-walk : readData longest d ≡ withRecords (codecOf d) (recordsOf longest d)
+        unfolding readData
+        data-walk =
+            check-passed _ 6 _ known ∙ check-passed _ 7 _ (le-leb 1 (firstCount d) some) ∙ check-passed _ 7 _ (eq-eqb (firstCount d) (lastCount d) even)
+
+        pub data-broken : {x : Fault} → spanned (widthsOf (codecOf d)) want (recordsOf longest d) ≡ Broken x
+            → dataWalk want (readData longest d) ≡ Refused (record { number = x .number; index = x .index })
+        unfolding told onAccepted dataWalk
+        data-broken e = ap (dataWalk want) (data-walk ∙ ap (withRecords (codecOf d)) (spanned-broken _ want _ e))
+
+        pub data-taken : {span : Span} → Bytes d → spanned (widthsOf (codecOf d)) want (recordsOf longest d) ≡ All span
+            → dataWalk want (readData longest d) ≡ Taken (codecOf d) (firstCount d) span
+        unfolding told onAccepted dataWalk
+        data-taken b e =
+            let rs = spanned-all _ want _ e in
+            let size = all-sound longest (widthsOf (codecOf d)) (firstCount d) (inner d) (bytes-inner d b) .if-got _ _ (rs .2) .1 in
+            ap (dataWalk want) (data-walk ∙ ap (withRecords (codecOf d)) (rs .2)) ∙ ap₂ (Taken (codecOf d)) size (rs .3)

@@ -1,0 +1,108 @@
+use Prim.Native.Nat.{ℕ, _+_}
+use mathlib.Core.Path.{sym, _∙_, ap}
+use borrow.Author.Needs.{needs}
+use Rattle.wire.specs.Reading.{got}
+use Rattle.wire.proofs.Walking.{walked-bad, walked-got, number-there, number-missing, number-got, number-bad, then-bad}
+use Rattle.avl.specs.RecordReader.{valueSize, element}
+use Rattle.walk.proofs.element_at.Tie as tie
+use Rattle.walk.proofs.WalkLaws.{variable-size, fixed-size, element-there, element-cut}
+use Rattle.walk.proofs.element_at.Statement.{statement}
+
+add-a1 : tie.Need-add-a1
+add-a1 c = search needs
+
+missing-requires : tie.Need-missing-requires
+missing-requires c κs = search needs
+
+returns : tie.Need-returns
+unfolding element
+returns c =
+    let args = c .before .before .before .args in
+    c .missing .ensures ∙ sym (walked-bad _ (number-missing _ (args .s .now) (args .at) (args .w .id) (c .before .if1 .taken)))
+
+add-a2 : tie.Need-add-a2
+add-a2 c = search needs
+
+missing-requires-2 : tie.Need-missing-requires-2
+missing-requires-2 c κs = search needs
+
+returns-2 : tie.Need-returns-2
+unfolding element
+returns-2 c =
+    let args = c .before .before .before .before .before .args in
+    let s = args .s .now in
+    let at = args .at in
+    let id = args .w .id in
+    let kind = args .kind in
+    c .missing2 .ensures ∙ sym (walked-bad _
+    (number-there _ s at id (c .before .before .before .if1 .left)
+    ∙ then-bad (valueSize kind) _ s (at + id) (variable-size s (at + id) kind (c .before .before .if2 .taken) ∙ number-bad 2 s (at + id) (c .before .if3 .taken))))
+
+be16-requires : tie.Need-be16-requires
+be16-requires c κs = search needs
+
+cast-a3 : tie.Need-cast-a3
+cast-a3 c = search needs
+
+add-a3 : tie.Need-add-a3
+add-a3 c = search needs
+
+missing-requires-3 : tie.Need-missing-requires-3
+missing-requires-3 c κs = search needs
+
+returns-3 : tie.Need-returns-3
+returns-3 c =
+    let args = c .before .before .before .before .before .before .before .args in
+    let s = args .s .now in
+    let a1 = args .at + args .w .id in
+    let sized = variable-size s a1 (args .kind) (c .before .before .before .before .if2 .taken) ∙ number-got 2 s a1 (c .before .before .before .if3 .left) ∙ ap (λ (n : ℕ). got n (a1 + 2)) (sym (c .before .before .be16 .ensures)) in
+    c .missing3 .ensures ∙ sym (walked-bad _ (element-cut (args .w) (args .kind) s (args .at) (c .before .before .before .before .before .if1 .left) sized (c .before .if4 .taken)))
+
+returns-4 : tie.Need-returns-4
+returns-4 c =
+    let args = c .before .before .before .before .before .before .args in
+    let s = args .s .now in
+    let a1 = args .at + args .w .id in
+    let sized = variable-size s a1 (args .kind) (c .before .before .before .if2 .taken) ∙ number-got 2 s a1 (c .before .before .if3 .left) ∙ ap (λ (n : ℕ). got n (a1 + 2)) (sym (c .before .be16 .ensures)) in
+    sym (walked-got _ (element-there (args .w) (args .kind) s (args .at) (c .before .before .before .before .if1 .left) sized (c .if4 .left) .1))
+
+add-a2-2 : tie.Need-add-a2-2
+add-a2-2 c = search needs
+
+missing-requires-4 : tie.Need-missing-requires-4
+missing-requires-4 c κs = search needs
+
+returns-5 : tie.Need-returns-5
+returns-5 c =
+    let args = c .before .before .before .before .before .args in
+    let s = args .s .now in
+    let sized = fixed-size s (args .at + args .w .id) (args .kind) (c .before .before .if2 .left) in
+    c .missing4 .ensures ∙ sym (walked-bad _ (element-cut (args .w) (args .kind) s (args .at) (c .before .before .before .if1 .left) sized (c .before .if5 .taken)))
+
+returns-6 : tie.Need-returns-6
+returns-6 c =
+    let args = c .before .before .before .before .args in
+    let s = args .s .now in
+    let sized = fixed-size s (args .at + args .w .id) (args .kind) (c .before .if2 .left) in
+    sym (walked-got _ (element-there (args .w) (args .kind) s (args .at) (c .before .before .if1 .left) sized (c .if5 .left) .1))
+
+pub element-at-spec : {M : Type 1} → statement M
+element-at-spec =
+    tie.close
+    (tie.spec
+    add-a1
+    missing-requires
+    returns
+    add-a2
+    missing-requires-2
+    returns-2
+    be16-requires
+    cast-a3
+    add-a3
+    missing-requires-3
+    returns-3
+    returns-4
+    add-a2-2
+    missing-requires-4
+    returns-5
+    returns-6)

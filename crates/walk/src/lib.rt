@@ -1,0 +1,481 @@
+// The walk over records: the width set of each codec, and the functions that read it.
+use avl::Widths;
+use wire::Fault;
+use wire::Refusal;
+use wire::Walk;
+ghost use mathlib.Core.Path.{_≡_};
+ghost use Prim.Native.Nat.{_+_, _≤_, _<_};
+ghost use lib.ListN.{length};
+ghost use Rattle.wire.specs.Reading.{walked, repeat};
+ghost use Rattle.avl.specs.Codecs.{codec8, codec8E, codec16, widthsOf, isDataCodec, kinds};
+ghost use Rattle.avl.specs.RecordReader.{fixedFields, element, group, groups, avlRecord, allRecords};
+ghost use Rattle.avl.specs.DataField.{readData};
+ghost use Rattle.walk.specs.Walks.{Narrow, counted, tallied, spanned, dataWalk};
+
+pub struct Codec8;
+
+impl Codec8 {
+    pub const CODEC: u8 = 0x08;
+
+    const EVENT: usize = 1;
+
+    const GENERATION: usize = 0;
+
+    const COUNT: usize = 1;
+
+    const ID: usize = 1;
+
+    const VARIABLE: bool = false;
+
+    pub fn widths() -> Widths
+        ensures { λ r. ⌜ r ≡ codec8 ⌝ }
+    {
+        Widths {
+            event: Codec8::EVENT,
+            generation: Codec8::GENERATION,
+            count: Codec8::COUNT,
+            id: Codec8::ID,
+            variable: Codec8::VARIABLE,
+        }
+    }
+}
+
+pub struct Codec8E;
+
+impl Codec8E {
+    pub const CODEC: u8 = 0x8E;
+
+    const EVENT: usize = 2;
+
+    const GENERATION: usize = 0;
+
+    const COUNT: usize = 2;
+
+    const ID: usize = 2;
+
+    const VARIABLE: bool = true;
+
+    pub fn widths() -> Widths
+        ensures { λ r. ⌜ r ≡ codec8E ⌝ }
+    {
+        Widths {
+            event: Codec8E::EVENT,
+            generation: Codec8E::GENERATION,
+            count: Codec8E::COUNT,
+            id: Codec8E::ID,
+            variable: Codec8E::VARIABLE,
+        }
+    }
+}
+
+pub struct Codec16;
+
+impl Codec16 {
+    pub const CODEC: u8 = 0x10;
+
+    const EVENT: usize = 2;
+
+    const GENERATION: usize = 1;
+
+    const COUNT: usize = 1;
+
+    const ID: usize = 2;
+
+    const VARIABLE: bool = false;
+
+    pub fn widths() -> Widths
+        ensures { λ r. ⌜ r ≡ codec16 ⌝ }
+    {
+        Widths {
+            event: Codec16::EVENT,
+            generation: Codec16::GENERATION,
+            count: Codec16::COUNT,
+            id: Codec16::ID,
+            variable: Codec16::VARIABLE,
+        }
+    }
+}
+
+pub fn widths_of(codec: u8) -> Widths
+    ensures { λ r. ⌜ r ≡ widthsOf codec ⌝ }
+{
+    if codec == Codec8::CODEC {
+        return Codec8::widths();
+    }
+    if codec == Codec8E::CODEC {
+        return Codec8E::widths();
+    }
+    Codec16::widths()
+}
+
+pub fn is_data_codec(codec: u8) -> bool
+    ensures { λ r. ⌜ r ≡ isDataCodec codec ⌝ }
+{
+    if codec == Codec8::CODEC {
+        return true;
+    }
+    if codec == Codec8E::CODEC {
+        return true;
+    }
+    codec == Codec16::CODEC
+}
+
+// A field whose bytes are not all there.
+fn missing(at: usize) -> Walk
+    ensures { λ r. ⌜ r ≡ Walk.Stopped (record { number = 8; index = 0; place = at }) ⌝ }
+{
+    Walk::Stopped(Fault {
+        number: 8,
+        index: 0,
+        place: at,
+    })
+}
+
+// How many elements a group has and where it ends, or why it is broken.
+pub enum Counted {
+    Of(usize, usize),
+    Stopped(Fault),
+}
+
+// The total that the groups of a record ask for, the number of their elements and where they end; or why they are broken.
+pub enum Tally {
+    Sums(usize, usize, usize),
+    Unsummed(Fault),
+}
+
+// A record's first byte and the one behind its last.
+pub struct Span {
+    pub start: usize,
+    pub end: usize,
+}
+
+// Where the wanted record lies among the records, or why they are broken.
+pub enum Records {
+    All(Span),
+    Broken(Fault),
+}
+
+// A data field's codec and count and where the wanted record lies between the counts; or the refusal.
+pub enum DataWalk {
+    Taken { codec: u8, count: u8, span: Span },
+    Refused(Refusal),
+}
+
+// The fixed fields of the record at `at`.
+fn fixed_fields(w: Widths, s: &[u8], at: usize) -> Walk
+    requires { ⌜ Narrow w ⌝ }
+    requires { ⌜ at ≤ length (now s) ⌝ }
+    ensures { λ r. ⌜ r ≡ walked (fixedFields w (now (s .entry)) at) ⌝ }
+{
+    let event = w.event;
+    let generation = w.generation;
+    let a1 = at + 8;
+    let a2 = a1 + 1;
+    let a8 = a2 + 4 + 4 + 2 + 2 + 1 + 2;
+    let a9 = a8 + event;
+    let a10 = a9 + generation;
+    if s.len() < a10 {
+        return fixed_missing(w, s, at);
+    }
+    if 2 < s[a1] {
+        return Walk::Stopped(Fault {
+            number: 10,
+            index: 0,
+            place: a1,
+        });
+    }
+    if 7 < wire::number(s, a9, generation) {
+        return Walk::Stopped(Fault {
+            number: 11,
+            index: 0,
+            place: a9,
+        });
+    }
+    Walk::On(a10)
+}
+
+// The same where some field is missing.
+fn fixed_missing(w: Widths, s: &[u8], at: usize) -> Walk
+    requires { ⌜ Narrow w ⌝ }
+    requires { ⌜ at ≤ length (now s) ⌝ }
+    requires { ⌜ length (now s) < at + 24 + w .event + w .generation ⌝ }
+    ensures { λ r. ⌜ r ≡ walked (fixedFields w (now (s .entry)) at) ⌝ }
+{
+    let event = w.event;
+    let a1 = at + 8;
+    let a2 = a1 + 1;
+    if s.len() < a1 {
+        return missing(at);
+    }
+    if s.len() < a2 {
+        return missing(a1);
+    }
+    if 2 < s[a1] {
+        return Walk::Stopped(Fault {
+            number: 10,
+            index: 0,
+            place: a1,
+        });
+    }
+    let a3 = a2 + 4;
+    if s.len() < a3 {
+        return missing(a2);
+    }
+    let a4 = a3 + 4;
+    if s.len() < a4 {
+        return missing(a3);
+    }
+    let a5 = a4 + 2;
+    if s.len() < a5 {
+        return missing(a4);
+    }
+    let a6 = a5 + 2;
+    if s.len() < a6 {
+        return missing(a5);
+    }
+    let a7 = a6 + 1;
+    if s.len() < a7 {
+        return missing(a6);
+    }
+    let a8 = a7 + 2;
+    if s.len() < a8 {
+        return missing(a7);
+    }
+    let a9 = a8 + event;
+    if s.len() < a9 {
+        return missing(a8);
+    }
+    missing(a9)
+}
+
+// The element of a kind at `at`: its ID, the length of a variable value, the value.
+fn element_at(w: Widths, kind: usize, s: &[u8], at: usize) -> Walk
+    requires { ⌜ Narrow w ⌝ }
+    requires { ⌜ kind ≤ 9 ⌝ }
+    requires { ⌜ at ≤ length (now s) ⌝ }
+    ensures { λ r. ⌜ r ≡ walked (element w kind (now (s .entry)) at) ⌝ }
+{
+    let id = w.id;
+    let a1 = at + id;
+    if s.len() < a1 {
+        return missing(at);
+    }
+    if kind == 9 {
+        let a2 = a1 + 2;
+        if s.len() < a2 {
+            return missing(a1);
+        }
+        let a3 = a2 + (wire::be16(s, a1) as usize);
+        if s.len() < a3 {
+            return missing(a2);
+        }
+        return Walk::On(a3);
+    }
+    let a2 = a1 + kind;
+    if s.len() < a2 {
+        return missing(a1);
+    }
+    Walk::On(a2)
+}
+
+// `n` elements of a kind, one behind another.
+fn elements_at(w: Widths, kind: usize, s: &[u8], at: usize, n: usize) -> Walk
+    requires { ⌜ Narrow w ⌝ }
+    requires { ⌜ kind ≤ 9 ⌝ }
+    requires { ⌜ at ≤ length (now s) ⌝ }
+    ensures { λ r. ⌜ r ≡ walked (repeat n (element w kind) (now (s .entry)) at) ⌝ }
+{
+    let mut next = at;
+    let mut left = n;
+    while 0 < left {
+        match element_at(w, kind, s, next) {
+            Walk::On(to) => next = to,
+            Walk::Stopped(x) => return Walk::Stopped(x),
+        }
+        left -= 1;
+    }
+    Walk::On(next)
+}
+
+// A group: its count and its elements. Values of a fixed width are stepped over at once where they are all there.
+fn group_at(w: Widths, kind: usize, s: &[u8], at: usize) -> Counted
+    requires { ⌜ Narrow w ⌝ }
+    requires { ⌜ kind ≤ 9 ⌝ }
+    requires { ⌜ at ≤ length (now s) ⌝ }
+    ensures { λ r. ⌜ r ≡ counted (group w kind (now (s .entry)) at) ⌝ }
+{
+    let count = w.count;
+    let id = w.id;
+    let start = at + count;
+    if s.len() < start {
+        return Counted::Stopped(Fault {
+            number: 8,
+            index: 0,
+            place: at,
+        });
+    }
+    let n = wire::number(s, at, count) as usize;
+    if kind < 9 {
+        let end = start + n * (id + kind);
+        if end <= s.len() {
+            return Counted::Of(n, end);
+        }
+    }
+    match elements_at(w, kind, s, start, n) {
+        Walk::On(next) => Counted::Of(n, next),
+        Walk::Stopped(x) => Counted::Stopped(x),
+    }
+}
+
+// A group's count and end.
+struct Group {
+    count: usize,
+    end: usize,
+}
+
+// The groups of a record, in the order of their kinds.
+pub fn groups_at(w: Widths, s: &[u8], at: usize) -> Tally
+    requires { ⌜ Narrow w ⌝ }
+    requires { ⌜ at ≤ length (now s) ⌝ }
+    ensures { λ r. ⌜ r ≡ tallied (groups w (kinds w) (now (s .entry)) at) ⌝ }
+{
+    let g1 = match group_at(w, 1, s, at) {
+        Counted::Of(n, to) => Group { count: n, end: to },
+        Counted::Stopped(x) => return Tally::Unsummed(x),
+    };
+    let g2 = match group_at(w, 2, s, g1.end) {
+        Counted::Of(n, to) => Group { count: n, end: to },
+        Counted::Stopped(x) => return Tally::Unsummed(x),
+    };
+    let g4 = match group_at(w, 4, s, g2.end) {
+        Counted::Of(n, to) => Group { count: n, end: to },
+        Counted::Stopped(x) => return Tally::Unsummed(x),
+    };
+    let g8 = match group_at(w, 8, s, g4.end) {
+        Counted::Of(n, to) => Group { count: n, end: to },
+        Counted::Stopped(x) => return Tally::Unsummed(x),
+    };
+    let fixed = g1.count + g2.count + g4.count + g8.count;
+    let variable = w.variable;
+    if !variable {
+        return Tally::Sums(fixed, fixed, g8.end);
+    }
+    match group_at(w, 9, s, g8.end) {
+        Counted::Of(n, to) => Tally::Sums(fixed, fixed + n, to),
+        Counted::Stopped(x) => Tally::Unsummed(x),
+    }
+}
+
+// A record: its fixed fields, its total, its groups; then the total's rule and the record's length.
+fn record_at(longest: usize, w: Widths, s: &[u8], at: usize) -> Walk
+    requires { ⌜ Narrow w ⌝ }
+    requires { ⌜ longest ≤ 65535 ⌝ }
+    requires { ⌜ at ≤ length (now s) ⌝ }
+    ensures { λ r. ⌜ r ≡ walked (avlRecord longest w (now (s .entry)) at) ⌝ }
+{
+    let count = w.count;
+    let a1 = match fixed_fields(w, s, at) {
+        Walk::On(to) => to,
+        Walk::Stopped(x) => return Walk::Stopped(x),
+    };
+    let a2 = a1 + count;
+    if s.len() < a2 {
+        return missing(a1);
+    }
+    let sum = wire::number(s, a1, count) as usize;
+    match groups_at(w, s, a2) {
+        Tally::Unsummed(x) => Walk::Stopped(x),
+        Tally::Sums(total, _, end) => {
+            if sum != total {
+                return Walk::Stopped(Fault {
+                    number: 9,
+                    index: 0,
+                    place: at,
+                });
+            }
+            if at + longest < end {
+                return Walk::Stopped(Fault {
+                    number: 12,
+                    index: 0,
+                    place: at,
+                });
+            }
+            Walk::On(end)
+        }
+    }
+}
+
+// The records that fill `s`, and where the one with number `want` lies.
+fn all_records(longest: usize, w: Widths, s: &[u8], count: usize, want: usize) -> Records
+    requires { ⌜ Narrow w ⌝ }
+    requires { ⌜ longest ≤ 65535 ⌝ }
+    ensures { λ r. ⌜ r ≡ spanned w want (allRecords longest w count (now (s .entry)) 0) ⌝ }
+{
+    let mut next: usize = 0;
+    let mut start: usize = 0;
+    let mut end: usize = 0;
+    let mut i: usize = 0;
+    while i < count {
+        match record_at(longest, w, s, next) {
+            Walk::On(to) => {
+                if i == want {
+                    start = next;
+                    end = to;
+                }
+                next = to;
+            }
+            Walk::Stopped(x) => {
+                return Records::Broken(Fault {
+                    number: x.number,
+                    index: i,
+                    place: x.place,
+                });
+            }
+        }
+        i += 1;
+    }
+    if next != s.len() {
+        return Records::Broken(Fault {
+            number: 8,
+            index: count,
+            place: next,
+        });
+    }
+    Records::All(Span { start, end })
+}
+
+// The data field `d`: codec, count, records, count again.
+pub fn read_data(longest: usize, d: &[u8], want: usize) -> DataWalk
+    requires { ⌜ longest ≤ 65535 ⌝ }
+    requires { ⌜ 3 ≤ length (now d) ⌝ }
+    ensures { λ r. ⌜ r ≡ dataWalk want (readData longest (now (d .entry))) ⌝ }
+{
+    let codec = d[0];
+    let count = d[1];
+    let last = d.len() - 1;
+    if !is_data_codec(codec) {
+        return DataWalk::Refused(Refusal {
+            number: 6,
+            index: 0,
+        });
+    }
+    if count < 1 {
+        return DataWalk::Refused(Refusal {
+            number: 7,
+            index: 0,
+        });
+    }
+    if count != d[last] {
+        return DataWalk::Refused(Refusal {
+            number: 7,
+            index: 0,
+        });
+    }
+    match all_records(longest, widths_of(codec), &d[2..last], count as usize, want) {
+        Records::All(span) => DataWalk::Taken { codec, count, span },
+        Records::Broken(x) => DataWalk::Refused(Refusal {
+            number: x.number,
+            index: x.index,
+        }),
+    }
+}
