@@ -11,6 +11,7 @@ use Rattle.wire.specs.Reading.{Read, got, bad}
 use Rattle.wire.specs.Answers.{accepted, refused, check, told, onAccepted}
 use Rattle.wire.specs.Envelope.{codecOf, firstCount, lastCount, inner}
 use Rattle.wire.proofs.Enclosed.{bytes-inner}
+use Rattle.wire.proofs.Accepting.{told-got}
 use Rattle.command.specs.declared.Layout.{Layout}
 use Rattle.command.specs.declared.BodyWalk.the-variants.{Of, Stopped}
 use Rattle.command.specs.Layouts.{layoutOf}
@@ -18,13 +19,13 @@ use Rattle.command.specs.Commands.{Command, commandBody, readField}
 use Rattle.command.specs.Walks.{bodyAs, answered}
 use Rattle.command.proofs.CommandLaws.{layout-codec, body-sound}
 
-pub body-of : (r : Read Command) {type imei size : ℕ} → bodyAs r ≡ Of type imei size
+body-of : (r : Read Command) {type imei size : ℕ} → bodyAs r ≡ Of type imei size
     → (c : Command) × (next : ℕ) × (r ≡ got c next) × (c .type ≡ type) × (c .imei ≡ imei) × (length (c .text) ≡ size)
 unfolding bodyAs
 body-of (got c n) e = (c, n, refl, cc, cc, cc)
 body-of (bad x) e = absurd (let z : _≡_ {A = ℕ} 0 1 = cc in omega arith)
 
-pub body-stopped : (r : Read Command) {x : Fault} → bodyAs r ≡ Stopped x → r ≡ bad x
+body-stopped : (r : Read Command) {x : Fault} → bodyAs r ≡ Stopped x → r ≡ bad x
 unfolding bodyAs
 body-stopped (got c n) e = absurd (let z : _≡_ {A = ℕ} 0 1 = cc in omega arith)
 body-stopped (bad y) e = ap bad (cc)
@@ -45,18 +46,20 @@ module _ (d : List ℕ) where
       last-wrong e = simp (row, eq-eqb _ _ first, ne-eqb _ _ e)
 
       module _ (last : lastCount d ≡ 1) where
-        pub field-walk : readField d ≡ told (commandBody l (length (inner d)) (inner d) 0)
+        field-walk : readField d ≡ told (commandBody l (length (inner d)) (inner d) 0)
         unfolding readField onAccepted check
         field-walk = simp (row, eq-eqb _ _ first, eq-eqb _ _ last)
 
         pub field-taken : {type imei size : ℕ} → Bytes d → bodyAs (commandBody l (length (inner d)) (inner d) 0) ≡ Of type imei size
             → answered (readField d) ≡ accepted (record { codec = codecOf d; kind = type; imei = imei; offset = 15 + l .imei; size = size })
-        unfolding answered told onAccepted
+        unfolding answered onAccepted
         field-taken h e =
             let k = body-of _ e in
+            let c = k .0 in
             let same : l .codec ≡ codecOf d = layout-codec (codecOf d) row in
-            let codec : k .0 .codec ≡ codecOf d = body-sound l (inner d) (ap layoutOf same ∙ row) (bytes-inner d h) .if-got (k .0) (k .1) (k .2) .0 ∙ same in
-            simp (field-walk, k .2, codec, row, k .3, k .4, k .5)
+            let codec : c .codec ≡ codecOf d = body-sound l (inner d) (ap layoutOf same ∙ row) (bytes-inner d h) .if-got c (k .1) (k .2) .0 ∙ same in
+            let read : readField d ≡ accepted c = field-walk ∙ told-got _ (k .2) in
+            simp (read, codec, row, k .3, k .4, k .5)
 
         pub field-stopped : {x : Fault} → bodyAs (commandBody l (length (inner d)) (inner d) 0) ≡ Stopped x → answered (readField d) ≡ refused (x .number) (x .index)
         unfolding answered told onAccepted

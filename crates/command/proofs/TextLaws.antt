@@ -52,15 +52,16 @@ text-stands largest p f h e =
     let text = text-between l c p (k .whole ∙ ap (λ (m : Layout). framed (commandField m c)) same) in
     (c, read .1, ap₂ (λ (n at : ℕ). take n (drop at p)) (sym size) (sym offset) ∙ between-is text, omega (arith, text .inside))
 
-accepted-again : {A B : Type 0} (r : Answer A) (f : A → Answer B) {n i : ℕ} → ((a : A) → r ≡ accepted a → (b : B) × (f a ≡ accepted b)) → onAccepted r f ≡ refused n i → r ≡ refused n i
+-- a refusal of two steps of which the second never refuses is one of the first
+first-refused : {A B : Type 0} (r : Answer A) (f : A → Answer B) {n i : ℕ} → ((a : A) → r ≡ accepted a → (b : B) × (f a ≡ accepted b)) → onAccepted r f ≡ refused n i → r ≡ refused n i
 unfolding onAccepted
-accepted-again (accepted a) f h e = absurd (let k = h a refl in let z : _≡_ {A = ℕ} 0 1 = cc in omega arith)
-accepted-again (refused m j) f h e = ap₂ refused (cc) (cc)
+first-refused (accepted a) f h e = absurd (let k = h a refl in let z : _≡_ {A = ℕ} 0 1 = cc in omega arith)
+first-refused (refused m j) f h e = ap₂ refused (cc) (cc)
 
 -- a refused packet has no text
 pub text-refused : (largest : ℕ) (p : List ℕ) {n i : ℕ} → Bytes p → answerCommand largest p ≡ refused n i → textView (readCommand largest p) ≡ []
 unfolding answerCommand textView
 text-refused largest p h e =
-    ap textView (accepted-again (readCommand largest p) _ (λ c r.
+    ap textView (first-refused (readCommand largest p) _ (λ c r.
     let k = command-exact largest p c h .0 r in
     (_, onAccepted-passed (layoutOf (c .codec)) _ (k .rules .layout))) e)

@@ -52,7 +52,7 @@ told-value base n m s at = go (repeat n m s at)
 -- ---- the blocks
 
 module _ (l : Layout) (c : Command) where
-  pub length-body : length (bodyBytes l c) ≡ 5 + l .imei + length (c .text)
+  length-body : length (bodyBytes l c) ≡ 5 + l .imei + length (c .text)
   unfolding digits
   length-body = omega (arith, length-append (packed (l .imei) (c .imei)) (c .text), length-packed (l .imei) (c .imei))
 

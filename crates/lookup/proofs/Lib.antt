@@ -1,1 +1,3 @@
 pub mod PlaceLaws
+pub mod PartLaws
+pub mod KnownLaws

@@ -124,9 +124,9 @@ first-id id (a ∷ l) e h = first-cases (eqb (a .id) id) a e _ h (λ t same. cc 
 
 -- ---- a record in its place
 
-record Kept (longest : ℕ) (w : Widths) (p : List ℕ) (r : Placed) : Type 0 where
-  rules : RecordRules longest w (r .content)
-  stands : Between p (r .start) (recordBytes w (r .content)) (r .start + length (recordBytes w (r .content)))
+pub record Kept (longest : ℕ) (w : Widths) (p : List ℕ) (r : Placed) : Type 0 where
+  pub rules : RecordRules longest w (r .content)
+  pub stands : Between p (r .start) (recordBytes w (r .content)) (r .start + length (recordBytes w (r .content)))
 
 all-kept : (longest : ℕ) (w : Widths) (p : List ℕ) (rs : List AvlRecord) (from to : ℕ) → All (RecordRules longest w) rs
     → Tiles w p from to (placeRecords w from rs) → All (Kept longest w p) (placeRecords w from rs)
@@ -135,7 +135,7 @@ all-kept longest w p [] from to h k = tt
 all-kept longest w p (r ∷ rs) from to h k =
     (record { rules = h .0; stands = between-bytes (k .2) (between-take p from _ (k .1)) }, all-kept longest w p rs _ to (h .1) (k .3))
 
-kept : (longest : ℕ) (p : List ℕ) (x : Source) (n : ℕ) (r : Placed) → Stored longest p x → placedRecord x n ≡ accepted r
+pub kept : (longest : ℕ) (p : List ℕ) (x : Source) (n : ℕ) (r : Placed) → Stored longest p x → placedRecord x n ≡ accepted r
     → Kept longest (widthsOf (x .content .codec)) p r
 unfolding placedRecord
 kept longest p x n r h e = nth-member n _ r e _ (all-kept longest _ p (x .content .records) (x .base) _ (h .rules .each) (h .tiles .1))

@@ -1,7 +1,15 @@
 // Records and values by number and by ID, in TCP packets and datagrams.
+use avl::Widths;
+use datagram::DatagramWalk;
+use element::ElementAnswer;
 use element::RecordFields;
 use element::Value;
+use element::Wanted;
+use walk::DataWalk;
 use wire::Refusal;
+ghost use mathlib.Core.Path.{_≡_};
+ghost use Rattle.lookup.specs.Lookups.{tcpSource, udpSource, recordByNumber, valueByNumber, valueById, view, lastKnown};
+ghost use Rattle.lookup.specs.Answers.{recordAs, partAs, partOf, lastPart, PartIn, RecordIn, ValueIn, Within, viewOf, answerValue, valueAs, answerKnown, knownAs, knownView};
 
 pub enum RecordAnswer {
     Fields(RecordFields),
@@ -23,4 +31,221 @@ pub enum KnownAnswer {
 enum Part {
     Of { codec: u8, start: usize, end: usize },
     Refused(Refusal),
+}
+
+// ---- records as parts of the input
+
+fn packet_part(p: &[u8], n: usize) -> Part
+    ensures { λ r. ⌜ partAs r ≡ partOf (tcpSource 1280 255 (now (p .entry))) n ⌝ }
+{
+    match packet::judge_packet(packet::LARGEST, packet::LONGEST, p, n) {
+        DataWalk::Refused(r) => Part::Refused(r),
+        DataWalk::Taken { codec, count, span } => {
+            if n < (count as usize) {
+                return Part::Of {
+                    codec,
+                    start: 10 + span.start,
+                    end: 10 + span.end,
+                };
+            }
+            Part::Refused(Refusal {
+                number: 16,
+                index: 0,
+            })
+        }
+    }
+}
+
+fn datagram_part(p: &[u8], n: usize) -> Part
+    ensures { λ r. ⌜ partAs r ≡ partOf (udpSource 1280 255 (now (p .entry))) n ⌝ }
+{
+    match datagram::judge_datagram(datagram::LARGEST, datagram::LONGEST, p, n) {
+        DatagramWalk::Refused(r) => Part::Refused(r),
+        DatagramWalk::Taken {
+            codec,
+            count,
+            span,
+            header: _,
+        } => {
+            if n < (count as usize) {
+                return Part::Of {
+                    codec,
+                    start: 25 + span.start,
+                    end: 25 + span.end,
+                };
+            }
+            Part::Refused(Refusal {
+                number: 16,
+                index: 0,
+            })
+        }
+    }
+}
+
+// The last record of a TCP packet: its number is one below the first count.
+fn last_part(p: &[u8]) -> Part
+    ensures { λ r. ⌜ partAs r ≡ lastPart (tcpSource 1280 255 (now (p .entry))) ⌝ }
+{
+    if p.len() < 10 {
+        return packet_part(p, 0);
+    }
+    let count = p[9] as usize;
+    if count < 1 {
+        return packet_part(p, 0);
+    }
+    packet_part(p, count - 1)
+}
+
+// ---- records by number
+
+fn record_in(p: &[u8], part: Part) -> RecordAnswer
+    requires { ⌜ PartIn (now p) part ⌝ }
+    ensures { λ r. ⌜ RecordIn (now (p .entry)) part r ⌝ }
+{
+    match part {
+        Part::Refused(r) => RecordAnswer::Refused(r),
+        Part::Of { codec, start, end } => RecordAnswer::Fields(element::fields_of(
+            walk::widths_of(codec),
+            &p[start..end],
+        )),
+    }
+}
+
+pub fn record_in_packet(p: &[u8], n: usize) -> RecordAnswer
+    ensures { λ r. ⌜ recordAs r ≡ recordByNumber (tcpSource 1280 255 (now (p .entry))) n ⌝ }
+{
+    record_in(p, packet_part(p, n))
+}
+
+pub fn record_in_datagram(p: &[u8], n: usize) -> RecordAnswer
+    ensures { λ r. ⌜ recordAs r ≡ recordByNumber (udpSource 1280 255 (now (p .entry))) n ⌝ }
+{
+    record_in(p, datagram_part(p, n))
+}
+
+// ---- values by number and by ID
+
+fn value_in(p: &[u8], part: Part, wanted: Wanted) -> ValueAnswer
+    requires { ⌜ PartIn (now p) part ⌝ }
+    ensures { λ r. ⌜ ValueIn (now (p .entry)) part wanted r ⌝ }
+{
+    match part {
+        Part::Refused(r) => ValueAnswer::Refused(r),
+        Part::Of { codec, start, end } => match element::find_element(
+            walk::widths_of(codec),
+            &p[start..end],
+            wanted,
+        ) {
+            ElementAnswer::Nothing => ValueAnswer::Refused(Refusal {
+                number: 16,
+                index: 0,
+            }),
+            ElementAnswer::At(v) => ValueAnswer::Found(Value {
+                id: v.id,
+                kind: v.kind,
+                offset: start + v.offset,
+                size: v.size,
+            }),
+        },
+    }
+}
+
+pub fn value_in_packet(p: &[u8], n: usize, k: usize) -> ValueAnswer
+    ensures { λ r. ⌜ valueAs r ≡ answerValue (valueByNumber (tcpSource 1280 255 (now (p .entry))) n k) ⌝ }
+{
+    value_in(p, packet_part(p, n), Wanted::Number(k))
+}
+
+pub fn value_in_datagram(p: &[u8], n: usize, k: usize) -> ValueAnswer
+    ensures { λ r. ⌜ valueAs r ≡ answerValue (valueByNumber (udpSource 1280 255 (now (p .entry))) n k) ⌝ }
+{
+    value_in(p, datagram_part(p, n), Wanted::Number(k))
+}
+
+pub fn id_in_packet(p: &[u8], n: usize, id: u16) -> ValueAnswer
+    ensures { λ r. ⌜ valueAs r ≡ answerValue (valueById (tcpSource 1280 255 (now (p .entry))) n id) ⌝ }
+{
+    value_in(p, packet_part(p, n), Wanted::Id(id))
+}
+
+pub fn id_in_datagram(p: &[u8], n: usize, id: u16) -> ValueAnswer
+    ensures { λ r. ⌜ valueAs r ≡ answerValue (valueById (udpSource 1280 255 (now (p .entry))) n id) ⌝ }
+{
+    value_in(p, datagram_part(p, n), Wanted::Id(id))
+}
+
+// ---- the same as views: parts of the input, empty on every refusal
+
+fn view_of(p: &[u8], answer: ValueAnswer) -> &[u8]
+    requires { ⌜ Within (now p) answer ⌝ }
+    ensures { λ r. ⌜ now r ≡ viewOf (now (p .entry)) answer ⌝ }
+{
+    match answer {
+        ValueAnswer::Refused(_) => &p[0..0],
+        ValueAnswer::Found(v) => {
+            let start = v.offset;
+            let end = v.offset + v.size;
+            &p[start..end]
+        }
+    }
+}
+
+pub fn view_in_packet(p: &[u8], n: usize, k: usize) -> &[u8]
+    ensures { λ r. ⌜ now r ≡ view (valueByNumber (tcpSource 1280 255 (now (p .entry))) n k) ⌝ }
+{
+    view_of(p, value_in_packet(p, n, k))
+}
+
+pub fn view_in_datagram(p: &[u8], n: usize, k: usize) -> &[u8]
+    ensures { λ r. ⌜ now r ≡ view (valueByNumber (udpSource 1280 255 (now (p .entry))) n k) ⌝ }
+{
+    view_of(p, value_in_datagram(p, n, k))
+}
+
+pub fn id_view_in_packet(p: &[u8], n: usize, id: u16) -> &[u8]
+    ensures { λ r. ⌜ now r ≡ view (valueById (tcpSource 1280 255 (now (p .entry))) n id) ⌝ }
+{
+    view_of(p, id_in_packet(p, n, id))
+}
+
+pub fn id_view_in_datagram(p: &[u8], n: usize, id: u16) -> &[u8]
+    ensures { λ r. ⌜ now r ≡ view (valueById (udpSource 1280 255 (now (p .entry))) n id) ⌝ }
+{
+    view_of(p, id_in_datagram(p, n, id))
+}
+
+// ---- the last known value of an ID: in the newer packet's last record, else in the older's
+
+pub fn last_known(newer: &[u8], older: &[u8], id: u16) -> KnownAnswer
+    ensures { λ r. ⌜ knownAs r ≡ answerKnown (lastKnown id (tcpSource 1280 255 (now (newer .entry))) (tcpSource 1280 255 (now (older .entry)))) ⌝ }
+{
+    let part = last_part(newer);
+    if let Part::Refused(r) = part {
+        return KnownAnswer::Refused(r);
+    }
+    if let ValueAnswer::Found(value) = value_in(newer, part, Wanted::Id(id)) {
+        return KnownAnswer::Found {
+            older: false,
+            value,
+        };
+    }
+    match value_in(older, last_part(older), Wanted::Id(id)) {
+        ValueAnswer::Found(value) => KnownAnswer::Found { older: true, value },
+        ValueAnswer::Refused(r) => KnownAnswer::Refused(r),
+    }
+}
+
+pub fn last_known_view<'a>(newer: &'a [u8], older: &'a [u8], id: u16) -> &'a [u8]
+    ensures { λ r. ⌜ now r ≡ knownView (lastKnown id (tcpSource 1280 255 (now (newer .entry))) (tcpSource 1280 255 (now (older .entry)))) ⌝ }
+{
+    match last_known(newer, older, id) {
+        KnownAnswer::Refused(_) => &newer[0..0],
+        KnownAnswer::Found { older: past, value } => {
+            if past {
+                view_of(older, ValueAnswer::Found(value))
+            } else {
+                view_of(newer, ValueAnswer::Found(value))
+            }
+        }
+    }
 }

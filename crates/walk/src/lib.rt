@@ -265,11 +265,11 @@ fn element_at(w: Widths, kind: usize, s: &[u8], at: usize) -> Walk
         if s.len() < a2 {
             return missing(a1);
         }
-        let a3 = a2 + (wire::be16(s, a1) as usize);
-        if s.len() < a3 {
+        let end = a2 + (wire::be16(s, a1) as usize);
+        if s.len() < end {
             return missing(a2);
         }
-        return Walk::On(a3);
+        return Walk::On(end);
     }
     let a2 = a1 + kind;
     if s.len() < a2 {

@@ -41,11 +41,11 @@ returns-2 c =
 be16-requires : tie.Need-be16-requires
 be16-requires c κs = search needs
 
-cast-a3 : tie.Need-cast-a3
-cast-a3 c = search needs
+cast-end : tie.Need-cast-end
+cast-end c = search needs
 
-add-a3 : tie.Need-add-a3
-add-a3 c = search needs
+add-end : tie.Need-add-end
+add-end c = search needs
 
 missing-requires-3 : tie.Need-missing-requires-3
 missing-requires-3 c κs = search needs
@@ -97,8 +97,8 @@ element-at-spec =
     missing-requires-2
     returns-2
     be16-requires
-    cast-a3
-    add-a3
+    cast-end
+    add-end
     missing-requires-3
     returns-3
     returns-4

@@ -1,0 +1,29 @@
+use Rattle.capi.specs.Flat.{flatWritten}
+use mathlib.Core.Path.{_≡_, sym, ap, _∙_}
+use borrow.Author.Needs.{needs}
+use Rattle.capi.proofs.brundilope_acknowledge_datagram.Statement.{statement}
+use Rattle.capi.proofs.brundilope_acknowledge_datagram.Tie as tie
+use Rattle.capi.proofs.brundilope_acknowledge_datagram.Reads as reads
+use Rattle.capi.proofs.brundilope_acknowledge_datagram.Lts as lts
+use Rattle.capi.proofs.flat_written.Reads as flat-written-reads
+use Rattle.datagram.proofs.acknowledge_datagram.Reads as acknowledge-datagram-reads
+
+-- src/lib.rt:144:18
+acknowledge-datagram-requires : tie.Need-acknowledge-datagram-requires
+acknowledge-datagram-requires c κs = search needs
+
+-- src/lib.rt:144:5
+flat-written-requires : tie.Need-flat-written-requires
+flat-written-requires c κs = search needs
+
+-- src/lib.rt:139:1
+same-length : tie.Need-same-length
+same-length c = search needs
+
+-- src/lib.rt:139:1
+returns : tie.Need-returns
+returns c = (c .flat-written .ensures ∙ ap flatWritten (c .before .before .before .acknowledge-datagram .ensures .0), c .before .before .before .acknowledge-datagram .ensures .1)
+
+pub brundilope-acknowledge-datagram-spec : {M : Type 1} → statement M
+brundilope-acknowledge-datagram-spec =
+    tie.close (tie.spec acknowledge-datagram-requires flat-written-requires same-length returns)

@@ -1,0 +1,25 @@
+use Rattle.capi.specs.Flat.{flatRecord}
+use mathlib.Core.Path.{_≡_, sym, ap, _∙_}
+use borrow.Author.Needs.{needs}
+use Rattle.capi.proofs.brundilope_record_in_packet.Statement.{statement}
+use Rattle.capi.proofs.brundilope_record_in_packet.Tie as tie
+use Rattle.capi.proofs.brundilope_record_in_packet.Reads as reads
+use Rattle.capi.proofs.brundilope_record_in_packet.Lts as lts
+use Rattle.capi.proofs.flat_record.Reads as flat-record-reads
+use Rattle.lookup.proofs.record_in_packet.Reads as record-in-packet-reads
+
+-- src/lib.rt:322:17
+record-in-packet-requires : tie.Need-record-in-packet-requires
+record-in-packet-requires c κs = search needs
+
+-- src/lib.rt:322:5
+flat-record-requires : tie.Need-flat-record-requires
+flat-record-requires c κs = search needs
+
+-- src/lib.rt:318:1
+returns : tie.Need-returns
+returns c = c .flat-record .ensures ∙ ap flatRecord (c .before .record-in-packet .ensures)
+
+pub brundilope-record-in-packet-spec : {M : Type 1} → statement M
+brundilope-record-in-packet-spec =
+    tie.close (tie.spec record-in-packet-requires flat-record-requires returns)

@@ -1,0 +1,25 @@
+use Rattle.capi.specs.Flat.{flatValue}
+use mathlib.Core.Path.{_≡_, sym, ap, _∙_}
+use borrow.Author.Needs.{needs}
+use Rattle.capi.proofs.brundilope_value_in_packet.Statement.{statement}
+use Rattle.capi.proofs.brundilope_value_in_packet.Tie as tie
+use Rattle.capi.proofs.brundilope_value_in_packet.Reads as reads
+use Rattle.capi.proofs.brundilope_value_in_packet.Lts as lts
+use Rattle.capi.proofs.flat_value.Reads as flat-value-reads
+use Rattle.lookup.proofs.value_in_packet.Reads as value-in-packet-reads
+
+-- src/lib.rt:336:16
+value-in-packet-requires : tie.Need-value-in-packet-requires
+value-in-packet-requires c κs = search needs
+
+-- src/lib.rt:336:5
+flat-value-requires : tie.Need-flat-value-requires
+flat-value-requires c κs = search needs
+
+-- src/lib.rt:332:1
+returns : tie.Need-returns
+returns c = c .flat-value .ensures ∙ ap flatValue (c .before .value-in-packet .ensures)
+
+pub brundilope-value-in-packet-spec : {M : Type 1} → statement M
+brundilope-value-in-packet-spec =
+    tie.close (tie.spec value-in-packet-requires flat-value-requires returns)

@@ -1,0 +1,92 @@
+-- How an answer is laid out flat: number 0 for an accepted input, else the refusal with all other fields 0.
+use Prim.Native.Nat.{ℕ}
+use Rattle.wire.specs.Answers.{Answer, accepted, refused}
+use Rattle.avl.specs.DataField.{DataResult}
+use Rattle.datagram.specs.Datagrams.{DatagramResult}
+use Rattle.command.specs.declared.CommandFields.{CommandFields}
+use mathlib.Core.Bool.{false}
+use lib.IntN.{pos}
+use Rattle.element.specs.declared.RecordFields.{RecordFields}
+use Rattle.element.specs.declared.Value.{Value}
+use Rattle.lookup.specs.Answers.{KnownResult}
+use Rattle.capi.specs.declared.RecordC.{RecordC}
+use Rattle.capi.specs.declared.ValueC.{ValueC}
+use Rattle.capi.specs.declared.KnownC.{KnownC}
+use Rattle.capi.specs.declared.WrittenC.{WrittenC}
+use Rattle.capi.specs.declared.PacketC.{PacketC}
+use Rattle.capi.specs.declared.DatagramC.{DatagramC}
+use Rattle.capi.specs.declared.LoginC.{LoginC}
+use Rattle.capi.specs.declared.CommandC.{CommandC}
+
+unfoldable pub flatWritten : Answer ℕ → WrittenC
+flatWritten (accepted n) = record { number = 0; index = 0; written = n }
+flatWritten (refused n i) = record { number = n; index = i; written = 0 }
+
+unfoldable pub flatPacket : Answer DataResult → PacketC
+flatPacket (accepted d) = record { number = 0; index = 0; codec = d .codec; count = d .count }
+flatPacket (refused n i) = record { number = n; index = i; codec = 0; count = 0 }
+
+unfoldable pub flatDatagram : Answer DatagramResult → DatagramC
+flatDatagram (accepted g) =
+    record {
+      number = 0;
+      index = 0;
+      codec = g .payload .codec;
+      count = g .payload .count;
+      packet = g .header .packet;
+      unused = g .header .unused;
+      avl = g .header .avl;
+      imei = g .header .imei;
+    }
+flatDatagram (refused n i) = record { number = n; index = i; codec = 0; count = 0; packet = 0; unused = 0; avl = 0; imei = 0 }
+
+unfoldable pub flatLogin : Answer ℕ → LoginC
+flatLogin (accepted imei) = record { number = 0; index = 0; imei = imei }
+flatLogin (refused n i) = record { number = n; index = i; imei = 0 }
+
+unfoldable pub flatCommand : Answer CommandFields → CommandC
+flatCommand (accepted f) = record { number = 0; index = 0; codec = f .codec; kind = f .kind; imei = f .imei; offset = f .offset; size = f .size }
+flatCommand (refused n i) = record { number = n; index = i; codec = 0; kind = 0; imei = 0; offset = 0; size = 0 }
+
+unfoldable pub flatRecord : Answer RecordFields → RecordC
+flatRecord (accepted f) =
+    record {
+      number = 0;
+      index = 0;
+      timestamp = f .timestamp;
+      priority = f .priority;
+      longitude = f .longitude;
+      latitude = f .latitude;
+      altitude = f .altitude;
+      angle = f .angle;
+      satellites = f .satellites;
+      speed = f .speed;
+      event = f .event;
+      generation = f .generation;
+      elements = f .elements;
+    }
+flatRecord (refused n i) =
+    record {
+      number = n;
+      index = i;
+      timestamp = 0;
+      priority = 0;
+      longitude = pos 0;
+      latitude = pos 0;
+      altitude = pos 0;
+      angle = 0;
+      satellites = 0;
+      speed = 0;
+      event = 0;
+      generation = 0;
+      elements = 0;
+    }
+
+unfoldable pub flatValue : Answer Value → ValueC
+flatValue (accepted v) = record { number = 0; index = 0; id = v .id; kind = v .kind; offset = v .offset; size = v .size }
+flatValue (refused n i) = record { number = n; index = i; id = 0; kind = 0; offset = 0; size = 0 }
+
+unfoldable pub flatKnown : Answer KnownResult → KnownC
+flatKnown (accepted k) =
+    record { number = 0; index = 0; older = k .older; id = k .value .id; kind = k .value .kind; offset = k .value .offset; size = k .value .size }
+flatKnown (refused n i) = record { number = n; index = i; older = false; id = 0; kind = 0; offset = 0; size = 0 }

@@ -1,0 +1,384 @@
+// The calls for C: flat answers. `number` is 0 where the input is accepted, else the refusal's number, with the record's index in `index`; all other fields are then 0.
+use command::CommandAnswer;
+use datagram::DatagramAnswer;
+use login::LoginAnswer;
+use lookup::KnownAnswer;
+use lookup::RecordAnswer;
+use lookup::ValueAnswer;
+use packet::PacketAnswer;
+use wire::Written;
+ghost use mathlib.Core.Path.{_≡_};
+ghost use Rattle.wire.specs.Answers.{accepted};
+ghost use Rattle.wire.specs.Buffers.{writing, leaving, writtenAs};
+ghost use Rattle.packet.specs.DataPackets.{answerPacket, tcpAcknowledgement};
+ghost use Rattle.datagram.specs.Datagrams.{answerDatagram, udpAcknowledgement};
+ghost use Rattle.login.specs.Login.{readLogin, loginAnswer};
+ghost use Rattle.command.specs.Commands.{answerCommand};
+ghost use Rattle.command.specs.Writing.{commandBytes};
+ghost use Rattle.capi.specs.Flat.{flatWritten, flatPacket, flatDatagram, flatLogin, flatCommand, flatRecord, flatValue, flatKnown};
+ghost use Rattle.lookup.specs.Lookups.{tcpSource, udpSource, recordByNumber, valueByNumber, valueById, lastKnown};
+ghost use Rattle.lookup.specs.Answers.{recordAs, valueAs, answerValue, answerKnown};
+
+#[repr(C)]
+pub struct WrittenC {
+    pub number: u8,
+    pub index: usize,
+    pub written: usize,
+}
+
+#[repr(C)]
+pub struct PacketC {
+    pub number: u8,
+    pub index: usize,
+    pub codec: u8,
+    pub count: u8,
+}
+
+#[repr(C)]
+pub struct DatagramC {
+    pub number: u8,
+    pub index: usize,
+    pub codec: u8,
+    pub count: u8,
+    pub packet: u16,
+    pub unused: u8,
+    pub avl: u8,
+    pub imei: u64,
+}
+
+#[repr(C)]
+pub struct LoginC {
+    pub number: u8,
+    pub index: usize,
+    pub imei: u64,
+}
+
+#[repr(C)]
+pub struct CommandC {
+    pub number: u8,
+    pub index: usize,
+    pub codec: u8,
+    pub kind: u8,
+    pub imei: u64,
+    pub offset: usize,
+    pub size: usize,
+}
+
+fn flat_written(w: Written) -> WrittenC
+    ensures { λ r. ⌜ r ≡ flatWritten (writtenAs w) ⌝ }
+{
+    match w {
+        Written::Bytes(n) => WrittenC {
+            number: 0,
+            index: 0,
+            written: n,
+        },
+        Written::Refused(r) => WrittenC {
+            number: r.number,
+            index: r.index,
+            written: 0,
+        },
+    }
+}
+
+#[no_mangle]
+pub extern "C" fn brundilope_read_packet(p: &[u8]) -> PacketC
+    ensures { λ r. ⌜ r ≡ flatPacket (answerPacket 1280 255 (now (p .entry))) ⌝ }
+{
+    match packet::read_packet(p) {
+        PacketAnswer::Accepted { codec, count } => PacketC {
+            number: 0,
+            index: 0,
+            codec,
+            count,
+        },
+        PacketAnswer::Refused(r) => PacketC {
+            number: r.number,
+            index: r.index,
+            codec: 0,
+            count: 0,
+        },
+    }
+}
+
+#[no_mangle]
+pub extern "C" fn brundilope_acknowledge_packet(p: &[u8], out: &mut [u8]) -> WrittenC
+    ensures answer { λ r. ⌜ r ≡ flatWritten (writing (accepted (tcpAcknowledgement 1280 255 (now (p .entry)))) (now (out .entry))) ⌝ }
+    ensures buffer { λ r. ⌜ now (out .exit) ≡ leaving (accepted (tcpAcknowledgement 1280 255 (now (p .entry)))) (now (out .entry)) ⌝ }
+{
+    flat_written(packet::acknowledge_packet(p, out))
+}
+
+#[no_mangle]
+pub extern "C" fn brundilope_read_datagram(p: &[u8]) -> DatagramC
+    ensures { λ r. ⌜ r ≡ flatDatagram (answerDatagram 1280 255 (now (p .entry))) ⌝ }
+{
+    match datagram::read_datagram(p) {
+        DatagramAnswer::Accepted {
+            codec,
+            count,
+            header,
+        } => DatagramC {
+            number: 0,
+            index: 0,
+            codec,
+            count,
+            packet: header.packet,
+            unused: header.unused,
+            avl: header.avl,
+            imei: header.imei,
+        },
+        DatagramAnswer::Refused(r) => DatagramC {
+            number: r.number,
+            index: r.index,
+            codec: 0,
+            count: 0,
+            packet: 0,
+            unused: 0,
+            avl: 0,
+            imei: 0,
+        },
+    }
+}
+
+#[no_mangle]
+pub extern "C" fn brundilope_acknowledge_datagram(p: &[u8], out: &mut [u8]) -> WrittenC
+    ensures answer { λ r. ⌜ r ≡ flatWritten (writing (udpAcknowledgement 1280 255 (now (p .entry))) (now (out .entry))) ⌝ }
+    ensures buffer { λ r. ⌜ now (out .exit) ≡ leaving (udpAcknowledgement 1280 255 (now (p .entry))) (now (out .entry)) ⌝ }
+{
+    flat_written(datagram::acknowledge_datagram(p, out))
+}
+
+#[no_mangle]
+pub extern "C" fn brundilope_read_login(p: &[u8]) -> LoginC
+    ensures { λ r. ⌜ r ≡ flatLogin (readLogin (now (p .entry))) ⌝ }
+{
+    match login::read_login(p) {
+        LoginAnswer::Imei(imei) => LoginC {
+            number: 0,
+            index: 0,
+            imei,
+        },
+        LoginAnswer::Refused(r) => LoginC {
+            number: r.number,
+            index: r.index,
+            imei: 0,
+        },
+    }
+}
+
+#[no_mangle]
+pub extern "C" fn brundilope_answer_login(p: &[u8], known: bool, out: &mut [u8]) -> WrittenC
+    ensures answer { λ r. ⌜ r ≡ flatWritten (writing (accepted (loginAnswer known (now (p .entry)))) (now (out .entry))) ⌝ }
+    ensures buffer { λ r. ⌜ now (out .exit) ≡ leaving (accepted (loginAnswer known (now (p .entry)))) (now (out .entry)) ⌝ }
+{
+    flat_written(login::answer_login(p, known, out))
+}
+
+#[no_mangle]
+pub extern "C" fn brundilope_read_command(p: &[u8]) -> CommandC
+    ensures { λ r. ⌜ r ≡ flatCommand (answerCommand 1280 (now (p .entry))) ⌝ }
+{
+    match command::read_command(p) {
+        CommandAnswer::Accepted(f) => CommandC {
+            number: 0,
+            index: 0,
+            codec: f.codec,
+            kind: f.kind,
+            imei: f.imei,
+            offset: f.offset,
+            size: f.size,
+        },
+        CommandAnswer::Refused(r) => CommandC {
+            number: r.number,
+            index: r.index,
+            codec: 0,
+            kind: 0,
+            imei: 0,
+            offset: 0,
+            size: 0,
+        },
+    }
+}
+
+#[no_mangle]
+pub extern "C" fn brundilope_write_command(
+    codec: u8,
+    kind: u8,
+    imei: &[u8],
+    text: &[u8],
+    out: &mut [u8],
+) -> WrittenC
+    ensures answer { λ r. ⌜ r ≡ flatWritten (writing (commandBytes 1280 codec kind (now (imei .entry)) (now (text .entry))) (now (out .entry))) ⌝ }
+    ensures buffer { λ r. ⌜ now (out .exit) ≡ leaving (commandBytes 1280 codec kind (now (imei .entry)) (now (text .entry))) (now (out .entry)) ⌝ }
+{
+    flat_written(command::write_command(codec, kind, imei, text, out))
+}
+
+// ---- looking up
+
+#[repr(C)]
+pub struct RecordC {
+    pub number: u8,
+    pub index: usize,
+    pub timestamp: u64,
+    pub priority: u8,
+    pub longitude: i32,
+    pub latitude: i32,
+    pub altitude: i16,
+    pub angle: u16,
+    pub satellites: u8,
+    pub speed: u16,
+    pub event: u16,
+    pub generation: u8,
+    pub elements: usize,
+}
+
+#[repr(C)]
+pub struct ValueC {
+    pub number: u8,
+    pub index: usize,
+    pub id: u16,
+    pub kind: u8,
+    pub offset: usize,
+    pub size: usize,
+}
+
+#[repr(C)]
+pub struct KnownC {
+    pub number: u8,
+    pub index: usize,
+    pub older: bool,
+    pub id: u16,
+    pub kind: u8,
+    pub offset: usize,
+    pub size: usize,
+}
+
+fn flat_record(a: RecordAnswer) -> RecordC
+    ensures { λ r. ⌜ r ≡ flatRecord (recordAs a) ⌝ }
+{
+    match a {
+        RecordAnswer::Fields(f) => RecordC {
+            number: 0,
+            index: 0,
+            timestamp: f.timestamp,
+            priority: f.priority,
+            longitude: f.longitude,
+            latitude: f.latitude,
+            altitude: f.altitude,
+            angle: f.angle,
+            satellites: f.satellites,
+            speed: f.speed,
+            event: f.event,
+            generation: f.generation,
+            elements: f.elements,
+        },
+        RecordAnswer::Refused(r) => RecordC {
+            number: r.number,
+            index: r.index,
+            timestamp: 0,
+            priority: 0,
+            longitude: 0,
+            latitude: 0,
+            altitude: 0,
+            angle: 0,
+            satellites: 0,
+            speed: 0,
+            event: 0,
+            generation: 0,
+            elements: 0,
+        },
+    }
+}
+
+fn flat_value(a: ValueAnswer) -> ValueC
+    ensures { λ r. ⌜ r ≡ flatValue (valueAs a) ⌝ }
+{
+    match a {
+        ValueAnswer::Found(v) => ValueC {
+            number: 0,
+            index: 0,
+            id: v.id,
+            kind: v.kind,
+            offset: v.offset,
+            size: v.size,
+        },
+        ValueAnswer::Refused(r) => ValueC {
+            number: r.number,
+            index: r.index,
+            id: 0,
+            kind: 0,
+            offset: 0,
+            size: 0,
+        },
+    }
+}
+
+#[no_mangle]
+pub extern "C" fn brundilope_record_in_packet(p: &[u8], n: usize) -> RecordC
+    ensures { λ r. ⌜ r ≡ flatRecord (recordByNumber (tcpSource 1280 255 (now (p .entry))) n) ⌝ }
+{
+    flat_record(lookup::record_in_packet(p, n))
+}
+
+#[no_mangle]
+pub extern "C" fn brundilope_record_in_datagram(p: &[u8], n: usize) -> RecordC
+    ensures { λ r. ⌜ r ≡ flatRecord (recordByNumber (udpSource 1280 255 (now (p .entry))) n) ⌝ }
+{
+    flat_record(lookup::record_in_datagram(p, n))
+}
+
+#[no_mangle]
+pub extern "C" fn brundilope_value_in_packet(p: &[u8], n: usize, k: usize) -> ValueC
+    ensures { λ r. ⌜ r ≡ flatValue (answerValue (valueByNumber (tcpSource 1280 255 (now (p .entry))) n k)) ⌝ }
+{
+    flat_value(lookup::value_in_packet(p, n, k))
+}
+
+#[no_mangle]
+pub extern "C" fn brundilope_value_in_datagram(p: &[u8], n: usize, k: usize) -> ValueC
+    ensures { λ r. ⌜ r ≡ flatValue (answerValue (valueByNumber (udpSource 1280 255 (now (p .entry))) n k)) ⌝ }
+{
+    flat_value(lookup::value_in_datagram(p, n, k))
+}
+
+#[no_mangle]
+pub extern "C" fn brundilope_id_in_packet(p: &[u8], n: usize, id: u16) -> ValueC
+    ensures { λ r. ⌜ r ≡ flatValue (answerValue (valueById (tcpSource 1280 255 (now (p .entry))) n id)) ⌝ }
+{
+    flat_value(lookup::id_in_packet(p, n, id))
+}
+
+#[no_mangle]
+pub extern "C" fn brundilope_id_in_datagram(p: &[u8], n: usize, id: u16) -> ValueC
+    ensures { λ r. ⌜ r ≡ flatValue (answerValue (valueById (udpSource 1280 255 (now (p .entry))) n id)) ⌝ }
+{
+    flat_value(lookup::id_in_datagram(p, n, id))
+}
+
+#[no_mangle]
+pub extern "C" fn brundilope_last_known(newer: &[u8], older: &[u8], id: u16) -> KnownC
+    ensures { λ r. ⌜ r ≡ flatKnown (answerKnown (lastKnown id (tcpSource 1280 255 (now (newer .entry))) (tcpSource 1280 255 (now (older .entry))))) ⌝ }
+{
+    match lookup::last_known(newer, older, id) {
+        KnownAnswer::Found { older: past, value } => KnownC {
+            number: 0,
+            index: 0,
+            older: past,
+            id: value.id,
+            kind: value.kind,
+            offset: value.offset,
+            size: value.size,
+        },
+        KnownAnswer::Refused(r) => KnownC {
+            number: r.number,
+            index: r.index,
+            older: false,
+            id: 0,
+            kind: 0,
+            offset: 0,
+            size: 0,
+        },
+    }
+}

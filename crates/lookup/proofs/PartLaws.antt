@@ -1,0 +1,336 @@
+-- A record as a part of the input, and what is looked up in it.
+use Prim.Native.Nat.{ℕ, zero, suc, _+_, _-_, _≤_, _<_}
+use native.Mathlib.Nat.{add-zero, add-assoc, not-suc-le-zero, le-of-suc-le-suc}
+use native.Mathlib.Omega.{arith}
+use mathlib.Core.Path.{_≡_, refl, sym, ap, ap₂, _∙_, subst}
+use mathlib.Core.List.{List, [], _∷_}
+use lib.ListN.{length, drop, length-drop}
+use lib.Seq.{length-take-le}
+use Rattle.wire.specs.declared.Refusal.{Refusal}
+use Rattle.wire.specs.Numbers.{Bytes}
+use Rattle.wire.specs.Sequences.{All}
+use Rattle.wire.specs.Reading.{got}
+use Rattle.wire.specs.Answers.{Answer, accepted, refused, onAccepted}
+use Rattle.wire.proofs.Widths.{bytes-take, bytes-drop}
+use Rattle.wire.proofs.Accepting.{pick-either, onAccepted-accepted, onAccepted-passed, onAccepted-refused}
+use Rattle.avl.specs.declared.Widths.{Widths}
+use Rattle.avl.specs.Codecs.{widthsOf}
+use Rattle.avl.specs.Records.{AvlRecord, recordBytes}
+use Rattle.avl.specs.DataField.{AvlData}
+use Rattle.avl.proofs.RecordLaws.{record-exact}
+use Rattle.avl.specs.RecordReader.{avlRecord}
+use Rattle.walk.specs.declared.Span.{Span}
+use Rattle.walk.specs.declared.DataWalk.{DataWalk}
+use Rattle.walk.specs.Walks.{spanOf, dataWalk}
+use Rattle.walk.proofs.TakenLaws.{taken, not-taken}
+use Rattle.packet.specs.DataPackets.{readPacket}
+use Rattle.datagram.specs.declared.Header.{Header}
+use Rattle.datagram.specs.declared.DatagramWalk.{DatagramWalk}
+use Rattle.datagram.specs.Datagrams.{readDatagram, datagramWalk}
+use Rattle.datagram.proofs.WalkLaws.{taken-from, refused-from}
+use Rattle.element.specs.declared.Value.{Value}
+use Rattle.element.specs.declared.Wanted.{Wanted}
+use Rattle.element.specs.declared.ElementAnswer.{ElementAnswer}
+use Rattle.element.specs.Elements.{Located, elements, nth}
+use Rattle.element.specs.Places.{part, Inside}
+use Rattle.element.specs.Results.{recordResult}
+use Rattle.element.specs.Search.{isWanted, pickFrom, locatedValue, elementAs}
+use Rattle.element.proofs.ElementLaws.{elements-inside}
+use Rattle.element.proofs.SearchLaws.{pick-number, pick-id}
+use Rattle.lookup.specs.declared.Part.{Part}
+use Rattle.lookup.specs.declared.RecordAnswer.{RecordAnswer}
+use Rattle.lookup.specs.declared.ValueAnswer.{ValueAnswer}
+use Rattle.lookup.specs.Places.{Placed, placeRecords}
+use Rattle.lookup.specs.Lookups.{Source, tcpSource, udpSource, placedRecord, Found, foundIn, valueIn, view}
+use Rattle.lookup.specs.Answers.{recordAs, PartResult, partOf, partAs, PartIn, RecordIn, ValueIn, movedBy, Within, viewOf, valueResult, answerValue, valueAs}
+use Rattle.lookup.proofs.PlaceLaws.{Stored, nth-member, first-member, kept, own-part, value-in-place}
+
+-- ---- the span of a record is its place
+
+span-placed : (w : Widths) (base at n : ℕ) (rs : List AvlRecord) → n < length rs
+    → (r : Placed)
+    × (nth n (placeRecords w (base + at) rs) ≡ accepted r)
+    × (r .start ≡ base + spanOf w n at rs .start)
+    × (r .start + length (recordBytes w (r .content)) ≡ base + spanOf w n at rs .end)
+unfolding placeRecords nth spanOf
+span-placed w base at n [] h = absurd (not-suc-le-zero h)
+span-placed w base at zero (r ∷ rs) h = (record { start = base + at; content = r }, refl, refl, add-assoc base at (length (recordBytes w r)))
+span-placed w base at (suc n) (r ∷ rs) h = rw (add-assoc base at (length (recordBytes w r))) (span-placed w base (at + length (recordBytes w r)) n rs (le-of-suc-le-suc h))
+
+none-placed : (w : Widths) (at n : ℕ) (rs : List AvlRecord) → length rs ≤ n → nth n (placeRecords w at rs) ≡ refused 16 0
+unfolding placeRecords nth
+none-placed w at n [] h = refl
+none-placed w at zero (r ∷ rs) h = absurd (not-suc-le-zero h)
+none-placed w at (suc n) (r ∷ rs) h = none-placed w (at + length (recordBytes w r)) n rs (le-of-suc-le-suc h)
+
+-- where the record with this number lies
+abbrev spanIn : Source → ℕ → Span
+spanIn x n = spanOf (widthsOf (x .content .codec)) n 0 (x .content .records)
+
+there-placed : (x : Source) (n : ℕ) → n < length (x .content .records)
+    → (r : Placed)
+    × (placedRecord x n ≡ accepted r)
+    × (r .start ≡ x .base + spanIn x n .start)
+    × (r .start + length (recordBytes (widthsOf (x .content .codec)) (r .content)) ≡ x .base + spanIn x n .end)
+unfolding placedRecord
+there-placed x n h =
+    let w = widthsOf (x .content .codec) in
+    let s = span-placed w (x .base) 0 n (x .content .records) h in
+    (s .0, ap (λ (at : ℕ). nth n (placeRecords w at (x .content .records))) (sym (add-zero (x .base))) ∙ s .1, s .2, s .3)
+
+pub part-there : (x : Source) (n : ℕ) → n < length (x .content .records)
+    → partOf (accepted x) n ≡ accepted (record { codec = x .content .codec; start = x .base + spanIn x n .start; end = x .base + spanIn x n .end })
+unfolding partOf onAccepted
+part-there x n h =
+    let s = there-placed x n h in
+    onAccepted-passed (placedRecord x n) _ (s .1) ∙ ap₂ (λ (i j : ℕ). accepted (record { codec = x .content .codec; start = i; end = j })) (s .2) (s .3)
+
+part-beyond : (x : Source) (n : ℕ) → length (x .content .records) ≤ n → partOf (accepted x) n ≡ refused 16 0
+unfolding partOf placedRecord onAccepted
+part-beyond x n h = onAccepted-refused _ _ (none-placed (widthsOf (x .content .codec)) (x .base) n (x .content .records) h)
+
+-- ---- two steps, of which the second may refuse
+
+-- what is refused before the last step is refused whatever the last step gives
+refused-before : {A B C D : Type 0} (r : Answer A) (next : A → Answer B) (f : A → B → C) (g : A → B → Answer D) {n i : ℕ}
+    → onAccepted r (λ a. onAccepted (next a) (λ b. accepted (f a b))) ≡ refused n i → onAccepted r (λ a. onAccepted (next a) (g a)) ≡ refused n i
+unfolding onAccepted
+refused-before (refused m j) next f g e = ap₂ refused (cc) (cc)
+refused-before {A} {B} {C} {D} (accepted a) next f g {n} {i} e = go (next a) e
+  where
+    go : (r : Answer B) → onAccepted r (λ b. accepted (f a b)) ≡ refused n i → onAccepted r (g a) ≡ refused n i
+    go (accepted b) e = absurd (let z : _≡_ {A = ℕ} 0 1 = cc in omega arith)
+    go (refused m j) e = ap₂ refused (cc) (cc)
+
+-- ---- a record of a source that stands in `p`
+
+-- the part of the record whose number the source gives
+abbrev pub partAt : (Source → ℕ) → Answer Source → Answer PartResult
+partAt number source = onAccepted source (λ x. partOf (accepted x) (number x))
+
+-- a placed record as a part of the input
+abbrev sizeOf : Source → Placed → ℕ
+sizeOf x r = length (recordBytes (widthsOf (x .content .codec)) (r .content))
+
+abbrev asPart : Source → Placed → Part
+asPart x r = Part.Of (x .content .codec) (r .start) (r .start + sizeOf x r)
+
+record Lies (p : List ℕ) (source : Answer Source) (number : Source → ℕ) (part : Part) : Type 0 where
+  origin : Source
+  stored : Stored 255 p origin
+  accepts : source ≡ accepted origin
+  placed : Placed
+  found : placedRecord origin (number origin) ≡ accepted placed
+  is : asPart origin placed ≡ part
+
+module _ {p : List ℕ} {source : Answer Source} {number : Source → ℕ} {q : Part} (h : Lies p source number q) where
+  reads : avlRecord 255 (widthsOf (h .origin .content .codec)) (part p (h .placed .start) (h .placed .start + sizeOf (h .origin) (h .placed) - h .placed .start)) 0
+      ≡ got (h .placed .content) (sizeOf (h .origin) (h .placed))
+  reads =
+      let size : sizeOf (h .origin) (h .placed) ≡ h .placed .start + sizeOf (h .origin) (h .placed) - h .placed .start = omega arith in
+      ap (λ (n : ℕ). avlRecord 255 (widthsOf (h .origin .content .codec)) (part p (h .placed .start) n) 0) (sym size)
+      ∙ own-part 255 p (h .origin) (number (h .origin)) (h .placed) (h .stored) (h .found)
+
+  lies-in : PartIn p q
+  lies-in =
+      subst (PartIn p) (h .is)
+      (omega arith, (kept 255 p (h .origin) (number (h .origin)) (h .placed) (h .stored) (h .found) .stands .inside, record { content = _; next = _; reads = reads }))
+
+-- a found element, its offset counted from the input's start
+moved : (wanted : Wanted) (place : ℕ) (r : Placed) (l : List Located)
+    → valueAs (movedBy (r .start) (pickFrom wanted place l)) ≡ answerValue (onAccepted (pickFrom wanted place l) (λ e. accepted (foundIn r e)))
+unfolding valueAs movedBy pickFrom answerValue onAccepted foundIn valueResult
+moved wanted place r [] = refl
+moved wanted place r (e ∷ l) =
+    pick-either (λ (c : Answer Located). valueAs (movedBy (r .start) c) ≡ answerValue (onAccepted c (λ e. accepted (foundIn r e)))) (isWanted wanted place (e .id)) (accepted e) _
+    refl (moved wanted (suc place) r l)
+
+refused-view : (found : Answer Found) {n i : ℕ} → answerValue found ≡ refused n i → view found ≡ []
+unfolding answerValue onAccepted view
+refused-view (accepted f) e = absurd (let z : _≡_ {A = ℕ} 0 1 = cc in omega arith)
+refused-view (refused n i) e = refl
+
+module _ {p : List ℕ} {source : Answer Source} (stored : (x : Source) → source ≡ accepted x → Stored 255 p x) (number : Source → ℕ) where
+  lies : {codec start end : ℕ} → accepted (record { codec = codec; start = start; end = end }) ≡ partAt number source → Lies p source number (Part.Of codec start end)
+  unfolding partOf onAccepted
+  lies {codec} {start} {end} e =
+      let i = onAccepted-accepted source _ (sym e) in
+      let j = onAccepted-accepted (placedRecord (i .0) (number (i .0))) _ (i .2) in
+      let same : _≡_ {A = PartResult} (record { codec = i .0 .content .codec; start = j .0 .start; end = j .0 .start + sizeOf (i .0) (j .0) }) (record { codec = codec; start = start; end = end }) = cc (j .2) in
+      record {
+        origin = i .0;
+        stored = stored (i .0) (i .1);
+        accepts = i .1;
+        placed = j .0;
+        found = j .1;
+        is = ap (λ (r : PartResult). Part.Of (r .codec) (r .start) (r .end)) same;
+      }
+
+  pub part-in : (part : Part) → partAs part ≡ partAt number source → PartIn p part
+  unfolding partAs
+  part-in (Part.Of codec start end) e = lies-in (lies e)
+  part-in (Part.Refused r) e = tt
+
+  -- the answer of a refused part
+  part-refused : {B : Type 0} (g : Source → Placed → Answer B) {n i : ℕ} → refused n i ≡ partAt number source
+      → refused n i ≡ onAccepted source (λ x. onAccepted (placedRecord x (number x)) (g x))
+  unfolding partOf onAccepted
+  part-refused g e = sym (refused-before source (λ x. placedRecord x (number x)) _ g (sym e))
+
+  pub record-answer : (part : Part) (answer : RecordAnswer) → partAs part ≡ partAt number source → RecordIn p part answer
+      → recordAs answer ≡ onAccepted source (λ x. onAccepted (placedRecord x (number x)) (λ r. accepted (recordResult (r .content))))
+  unfolding partAs recordAs
+  record-answer (Part.Of codec start end) answer e k =
+      let h = lies e in
+      let k' : RecordIn p (asPart (h .origin) (h .placed)) answer = subst (λ (q : Part). RecordIn p q answer) (sym (h .is)) k in
+      ap recordAs (k' _ _ (reads h))
+      ∙ sym (onAccepted-passed source _ (h .accepts) ∙ onAccepted-passed (placedRecord (h .origin) (number (h .origin))) _ (h .found))
+  record-answer (Part.Refused r) answer e k = ap recordAs k ∙ part-refused (λ x r. accepted (recordResult (r .content))) e
+
+  module _ (choose : List Located → Answer Located) where
+    -- the looked-up value
+    abbrev pub wantedIn : Answer Found
+    wantedIn = onAccepted source (λ x. valueIn choose x (number x))
+
+    pub value-answer : (wanted : Wanted) (part : Part) (answer : ValueAnswer) → ((l : List Located) → pickFrom wanted 0 l ≡ choose l)
+        → partAs part ≡ partAt number source → ValueIn p part wanted answer → valueAs answer ≡ answerValue wantedIn
+    unfolding partAs valueAs valueIn answerValue
+    value-answer wanted (Part.Of codec start end) answer same e k =
+        let h = lies e in
+        let l = elements (widthsOf (h .origin .content .codec)) (h .placed .content) in
+        let k' : ValueIn p (asPart (h .origin) (h .placed)) wanted answer = subst (λ (q : Part). ValueIn p q wanted answer) (sym (h .is)) k in
+        ap valueAs (k' _ _ (reads h))
+        ∙ moved wanted 0 (h .placed) l
+        ∙ ap (λ (r : Answer Located). answerValue (onAccepted r (λ e. accepted (foundIn (h .placed) e)))) (same l)
+        ∙ sym (ap answerValue (onAccepted-passed source _ (h .accepts) ∙ onAccepted-passed (placedRecord (h .origin) (number (h .origin))) _ (h .found)))
+    value-answer wanted (Part.Refused r) answer same e k =
+        ap valueAs k
+        ∙ sym (onAccepted-refused wantedIn _ (sym (part-refused (λ x r. onAccepted (choose (elements (widthsOf (x .content .codec)) (r .content))) (λ e. accepted (foundIn r e))) e)))
+
+    -- a value lies in the input, and its bytes there are the value
+    pub value-view : ((l : List Located) (e : Located) → choose l ≡ accepted e → (P : Located → Type 0) → All P l → P e)
+        → (answer : ValueAnswer) → valueAs answer ≡ answerValue wantedIn → Within p answer × (viewOf p answer ≡ view wantedIn)
+    unfolding valueAs viewOf valueResult answerValue view
+    value-view member (ValueAnswer.Found v) e =
+        let i = onAccepted-accepted wantedIn _ (sym e) in
+        let f = i .0 in
+        let j = onAccepted-accepted source _ (i .1) in
+        let x = j .0 in
+        let k = value-in-place 255 p x (number x) choose f (stored x (j .1)) member (j .2) in
+        let inside = kept 255 p x (number x) (k .0) (stored x (j .1)) (k .1) .stands .inside in
+        let same : valueResult f ≡ v = cc (i .2) in (
+          subst (λ (v : Value). v .offset + v .size ≤ length p) same (omega (arith, inside, k .3)),
+          ap (λ (v : Value). part p (v .offset) (v .size)) (sym same) ∙ k .4 ∙ sym (ap view (i .1)),
+        )
+    value-view member (ValueAnswer.Refused r) e = (tt, sym (refused-view wantedIn (sym e)))
+
+-- ---- what a search in a part gives
+
+-- what holds of each element holds of the one that is picked
+pick-member : (wanted : Wanted) (l : List Located) (e : Located) → pickFrom wanted 0 l ≡ accepted e → (P : Located → Type 0) → All P l → P e
+pick-member (Wanted.Number k) l e h = nth-member k l e (sym (pick-number k l) ∙ h)
+pick-member (Wanted.Id d) l e h = first-member d l e (sym (pick-id d 0 l) ∙ h)
+
+at-moved : (start : ℕ) (v : Value) (c : Answer Located) → ElementAnswer.At v ≡ elementAs c
+    → ValueAnswer.Found (record { id = v .id; kind = v .kind; offset = start + v .offset; size = v .size }) ≡ movedBy start c
+unfolding elementAs movedBy locatedValue
+at-moved start v (accepted e) h =
+    let same : v ≡ locatedValue e = cc in
+    ap (λ (v : Value). ValueAnswer.Found (record { id = v .id; kind = v .kind; offset = start + v .offset; size = v .size })) same
+at-moved start v (refused n i) h = absurd (let z : _≡_ {A = ℕ} 0 1 = cc in omega arith)
+
+nothing-moved : (start : ℕ) (c : Answer Located) → ElementAnswer.Nothing ≡ elementAs c → ValueAnswer.Refused (record { number = 16; index = 0 }) ≡ movedBy start c
+unfolding elementAs movedBy
+nothing-moved start (accepted e) h = absurd (let z : _≡_ {A = ℕ} 0 1 = cc in omega arith)
+nothing-moved start (refused n i) h = refl
+
+at-inside : (w : Widths) (s : List ℕ) (x : AvlRecord) (n : ℕ) (wanted : Wanted) (v : Value) → Bytes s → avlRecord 255 w s 0 ≡ got x n
+    → ElementAnswer.At v ≡ elementAs (pickFrom wanted 0 (elements w x)) → v .offset + v .size ≤ length s
+unfolding elementAs locatedValue
+at-inside w s x n wanted v b e h = go (pickFrom wanted 0 (elements w x)) refl h
+  where
+    go : (c : Answer Located) → pickFrom wanted 0 (elements w x) ≡ c → ElementAnswer.At v ≡ elementAs c → v .offset + v .size ≤ length s
+    go (accepted e') k h =
+        let m = pick-member wanted (elements w x) e' k (λ (a : Located). Inside a (recordBytes w x)) (elements-inside w x) in
+        let f = record-exact 255 w .sound s 0 b (omega arith) .if-got _ _ e in
+        let same : v ≡ locatedValue e' = cc in
+        subst (λ (v : Value). v .offset + v .size ≤ length s) (sym same) (omega (arith, m .within, f .0 .inside, f .0 .size))
+    go (refused n i) k h = absurd (let z : _≡_ {A = ℕ} 0 1 = cc in omega arith)
+
+module _ (p : List ℕ) (codec start end : ℕ) (wanted : Wanted) {w : Widths} {answer : ElementAnswer} (same : w ≡ widthsOf codec)
+    (found : (x : AvlRecord) (n : ℕ) → avlRecord 255 w (part p start (end - start)) 0 ≡ got x n → answer ≡ elementAs (pickFrom wanted 0 (elements w x))) where
+  searched : (x : AvlRecord) (n : ℕ) → avlRecord 255 (widthsOf codec) (part p start (end - start)) 0 ≡ got x n → answer ≡ elementAs (pickFrom wanted 0 (elements (widthsOf codec) x))
+  searched = rw same at found
+
+  pub value-none : answer ≡ ElementAnswer.Nothing → ValueIn p (Part.Of codec start end) wanted (ValueAnswer.Refused (record { number = 16; index = 0 }))
+  value-none e x n h = nothing-moved start _ (sym e ∙ searched x n h)
+
+  module _ {v : Value} (e : answer ≡ ElementAnswer.At v) where
+    pub value-at : ValueIn p (Part.Of codec start end) wanted (ValueAnswer.Found (record { id = v .id; kind = v .kind; offset = start + v .offset; size = v .size }))
+    value-at x n h = at-moved start v _ (sym e ∙ searched x n h)
+
+    pub value-within : Bytes p → PartIn p (Part.Of codec start end) → start + v .offset ≤ length p
+    unfolding part
+    value-within b k =
+        let r = k .1 .1 in
+        let inside = at-inside (widthsOf codec) _ (r .content) (r .next) wanted v (bytes-take (end - start) (drop start p) (bytes-drop start p b)) (r .reads) (sym e ∙ searched _ _ (r .reads)) in
+        let size = length-take-le (end - start) (drop start p) (simp length-drop (omega arith)) in
+        omega arith
+
+-- ---- what the walks tell
+
+-- an accepted input, whose first record stands at `base`, as a walk tells of it
+pub record Walked (source : Answer Source) (base n codec count : ℕ) (span : Span) : Type 0 where
+  pub content : AvlData
+  pub accepts : source ≡ accepted (record { content = content; base = base })
+  pub codecIs : content .codec ≡ codec
+  pub countIs : length (content .records) ≡ count
+  pub spanIs : spanOf (widthsOf (content .codec)) n 0 (content .records) ≡ span
+
+module _ {source : Answer Source} {base n codec count : ℕ} {span : Span} (h : Walked source base n codec count span) where
+  pub walked-part : n < count → partAs (Part.Of codec (base + span .start) (base + span .end)) ≡ partOf source n
+  unfolding partAs
+  walked-part k =
+      sym (ap (λ (s : Answer Source). partOf s n) (h .accepts)
+      ∙ part-there (record { content = h .content; base = base }) n (subst (λ (m : ℕ). n < m) (sym (h .countIs)) k)
+      ∙ ap₂ (λ (c : ℕ) (s : Span). accepted (record { codec = c; start = base + s .start; end = base + s .end })) (h .codecIs) (h .spanIs))
+
+  pub walked-none : count ≤ n → partAs (Part.Refused (record { number = 16; index = 0 })) ≡ partOf source n
+  unfolding partAs
+  walked-none k =
+      sym (ap (λ (s : Answer Source). partOf s n) (h .accepts)
+      ∙ part-beyond (record { content = h .content; base = base }) n (subst (λ (m : ℕ). m ≤ n) (sym (h .countIs)) k))
+
+  -- the part lies in the input
+  pub walked-in : {p : List ℕ} → ((x : Source) → source ≡ accepted x → Stored 255 p x) → n < count
+      → (base + span .start ≤ base + span .end) × (base + span .end ≤ length p)
+  unfolding partOf onAccepted
+  walked-in stored k = let q = part-in stored (λ x. n) _ (walked-part k) in (q .0, q .1 .0)
+
+source-refused : {source : Answer Source} {r : Refusal} (n : ℕ) → source ≡ refused (r .number) (r .index) → partAs (Part.Refused r) ≡ partOf source n
+unfolding partAs partOf
+source-refused {source} n e = sym (onAccepted-refused source _ e)
+
+module _ (largest longest : ℕ) (p : List ℕ) (n : ℕ) where
+  pub tcp-walked : {codec count : ℕ} {span : Span} → dataWalk n (readPacket largest longest p) ≡ DataWalk.Taken codec count span
+      → Walked (tcpSource largest longest p) 10 n codec count span
+  unfolding tcpSource
+  tcp-walked e =
+      let t = taken n (readPacket largest longest p) e in
+      record { content = t .content; accepts = onAccepted-passed (readPacket largest longest p) _ (t .accepts); codecIs = t .codecIs; countIs = t .countIs; spanIs = t .spanIs }
+
+  pub tcp-refused : {r : Refusal} → dataWalk n (readPacket largest longest p) ≡ DataWalk.Refused r → partAs (Part.Refused r) ≡ partOf (tcpSource largest longest p) n
+  unfolding tcpSource
+  tcp-refused e = source-refused n (onAccepted-refused (readPacket largest longest p) _ (not-taken n _ e))
+
+  pub udp-walked : {codec count : ℕ} {span : Span} {header : Header} → datagramWalk n (readDatagram largest longest p) ≡ DatagramWalk.Taken codec count span header
+      → Walked (udpSource largest longest p) 25 n codec count span
+  unfolding udpSource
+  udp-walked e =
+      let t = taken-from n (readDatagram largest longest p) e in
+      record { content = t .content .payload; accepts = onAccepted-passed (readDatagram largest longest p) _ (t .accepts); codecIs = t .codecIs; countIs = t .countIs; spanIs = t .spanIs }
+
+  pub udp-refused : {r : Refusal} → datagramWalk n (readDatagram largest longest p) ≡ DatagramWalk.Refused r
+      → partAs (Part.Refused r) ≡ partOf (udpSource largest longest p) n
+  unfolding udpSource
+  udp-refused e = source-refused n (onAccepted-refused (readDatagram largest longest p) _ (refused-from n _ e))

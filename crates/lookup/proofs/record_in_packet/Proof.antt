@@ -1,0 +1,30 @@
+use Rattle.lookup.specs.Lookups.{recordByNumber}
+use Rattle.wire.specs.Answers.{onAccepted}
+use Rattle.wire.proofs.Widths.{getD-bytes}
+use Rattle.lookup.specs.Answers.{partOf}
+use Rattle.lookup.proofs.PlaceLaws.{tcp-stored}
+use Rattle.lookup.proofs.PartLaws.{part-in, record-answer}
+use borrow.Author.Needs.{needs}
+use Rattle.lookup.proofs.record_in_packet.Statement.{statement}
+use Rattle.lookup.proofs.record_in_packet.Tie as tie
+use Rattle.lookup.proofs.record_in_packet.Reads as reads
+use Rattle.lookup.proofs.record_in_packet.Lts as lts
+use Rattle.lookup.proofs.packet_part.Reads as packet-part-reads
+use Rattle.lookup.proofs.record_in.Reads as record-in-reads
+
+-- src/lib.rt:116:18
+packet-part-requires : tie.Need-packet-part-requires
+packet-part-requires c κs = search needs
+
+-- src/lib.rt:116:5
+record-in-requires : tie.Need-record-in-requires
+unfolding partOf onAccepted
+record-in-requires c κs = part-in (λ x. tcp-stored 1280 255 (c .before .before .args .p .now) x (getD-bytes (c .before .before .args .p .now) (λ k. c .before .shared-slice-known .given k .fits))) (λ x. c .before .before .args .n) _ (c .packet-part .ensures)
+
+-- src/lib.rt:113:1
+returns : tie.Need-returns
+unfolding partOf recordByNumber onAccepted
+returns c = record-answer (λ x. tcp-stored 1280 255 (c .before .before .before .args .p .now) x (getD-bytes (c .before .before .before .args .p .now) (λ k. c .before .before .shared-slice-known .given k .fits))) (λ x. c .before .before .before .args .n) _ _ (c .before .packet-part .ensures) (c .record-in .ensures)
+
+pub record-in-packet-spec : {M : Type 1} → statement M
+record-in-packet-spec = tie.close (tie.spec packet-part-requires record-in-requires returns)

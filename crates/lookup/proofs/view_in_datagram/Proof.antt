@@ -1,0 +1,30 @@
+use mathlib.Core.Path.{_∙_}
+use Rattle.wire.proofs.Widths.{getD-bytes}
+use Rattle.element.specs.Elements.{nth}
+use Rattle.lookup.specs.Lookups.{valueByNumber}
+use Rattle.lookup.proofs.PlaceLaws.{udp-stored, nth-member}
+use Rattle.lookup.proofs.PartLaws.{value-view}
+use borrow.Author.Needs.{needs}
+use Rattle.lookup.proofs.view_in_datagram.Statement.{statement}
+use Rattle.lookup.proofs.view_in_datagram.Tie as tie
+use Rattle.lookup.proofs.view_in_datagram.Reads as reads
+use Rattle.lookup.proofs.view_in_datagram.Lts as lts
+use Rattle.lookup.proofs.value_in_datagram.Reads as value-in-datagram-reads
+use Rattle.lookup.proofs.view_of.Reads as view-of-reads
+
+-- src/lib.rt:201:16
+value-in-datagram-requires : tie.Need-value-in-datagram-requires
+value-in-datagram-requires c κs = search needs
+
+-- src/lib.rt:201:5
+view-of-requires : tie.Need-view-of-requires
+unfolding valueByNumber
+view-of-requires c κs = value-view (λ x. udp-stored 1280 255 (c .before .before .args .p .now) x (getD-bytes (c .before .before .args .p .now) (λ k. c .before .shared-slice-known .given k .fits))) (λ x. c .before .before .args .n) (nth (c .before .before .args .k)) (nth-member (c .before .before .args .k)) _ (c .value-in-datagram .ensures) .0
+
+-- src/lib.rt:198:1
+returns : tie.Need-returns
+unfolding valueByNumber
+returns c = c .view-of .ensures ∙ value-view (λ x. udp-stored 1280 255 (c .before .before .before .args .p .now) x (getD-bytes (c .before .before .before .args .p .now) (λ k. c .before .before .shared-slice-known .given k .fits))) (λ x. c .before .before .before .args .n) (nth (c .before .before .before .args .k)) (nth-member (c .before .before .before .args .k)) _ (c .before .value-in-datagram .ensures) .1
+
+pub view-in-datagram-spec : {M : Type 1} → statement M
+view-in-datagram-spec = tie.close (tie.spec value-in-datagram-requires view-of-requires returns)
