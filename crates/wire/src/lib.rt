@@ -133,20 +133,7 @@ pub fn read_imei(s: &[u8], at: usize) -> Decimal
     if size != 15 {
         return unread(15, at);
     }
-    let mut value: u64 = 0;
-    let mut next = start;
-    let mut left: usize = 15;
-    while 0 < left {
-        match text_digit(s, next) {
-            Decimal::Of(d, to) => {
-                value = value * 10 + d;
-                next = to;
-            }
-            Decimal::Unread(x) => return Decimal::Unread(x),
-        }
-        left -= 1;
-    }
-    Decimal::Of(value, next)
+    text_number(15, s, start)
 }
 
 // Two digits in a byte, the first at most `most`.

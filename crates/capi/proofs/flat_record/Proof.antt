@@ -37,7 +37,8 @@ returns c = let f = c .before .before .a .given .0 .0 in
       speed = f .speed;
       event = f .event;
       generation = f .generation;
-      elements = f .elements })
+      elements = f .elements;
+    })
     ∙ ap (λ x. flatRecord (recordAs x)) (sym (c .before .before .a .given .1))
 
 -- src/lib.rt:258:1
