@@ -19,7 +19,7 @@ datagram-part-requires c κs = search needs
 -- src/lib.rt:122:5
 record-in-requires : tie.Need-record-in-requires
 unfolding partOf onAccepted
-record-in-requires c κs = part-in (λ x. udp-stored 1280 255 (c .before .before .args .p .now) x (getD-bytes (c .before .before .args .p .now) (λ k. c .before .shared-slice-known .given k .fits))) (λ x. c .before .before .args .n) _ (c .datagram-part .ensures)
+record-in-requires c κs = part-in (λ x. udp-stored 1280 255 (c .before .before .args .p .now) x (getD-bytes (c .before .before .args .p .now) (λ k. c .before .shared-slice-known .given k .fits))) _ _ (c .datagram-part .ensures)
 
 -- src/lib.rt:119:1
 returns : tie.Need-returns

@@ -1,0 +1,29 @@
+use Rattle.capi.specs.Flat.{flatWritten}
+use mathlib.Core.Path.{_≡_, sym, ap, _∙_}
+use borrow.Author.Needs.{needs}
+use Rattle.capi.proofs.brundilope_form_of_datagram.Statement.{statement}
+use Rattle.capi.proofs.brundilope_form_of_datagram.Tie as tie
+use Rattle.capi.proofs.brundilope_form_of_datagram.Reads as reads
+use Rattle.capi.proofs.brundilope_form_of_datagram.Lts as lts
+use Rattle.capi.proofs.flat_written.Reads as flat-written-reads
+use Rattle.form.proofs.form_of_datagram.Reads as form-of-datagram-reads
+
+-- src/lib.rt:402:18
+form-of-datagram-requires : tie.Need-form-of-datagram-requires
+form-of-datagram-requires c κs = search needs
+
+-- src/lib.rt:402:5
+flat-written-requires : tie.Need-flat-written-requires
+flat-written-requires c κs = search needs
+
+-- src/lib.rt:397:1
+same-length : tie.Need-same-length
+same-length c = search needs
+
+-- src/lib.rt:397:1
+returns : tie.Need-returns
+returns c = (c .flat-written .ensures ∙ ap flatWritten (c .before .before .before .form-of-datagram .ensures .0), c .before .before .before .form-of-datagram .ensures .1)
+
+pub brundilope-form-of-datagram-spec : {M : Type 1} → statement M
+brundilope-form-of-datagram-spec =
+    tie.close (tie.spec form-of-datagram-requires flat-written-requires same-length returns)

@@ -1,0 +1,144 @@
+-- The form of a data field.
+use Prim.Native.Nat.{ℕ, _+_, _-_, _≤_, _<_}
+use native.Mathlib.Omega.{arith}
+use mathlib.Core.Path.{_≡_, refl, sym, ap, ap₂, _∙_, subst}
+use mathlib.Core.List.{List, [], _∷_, _++_}
+use lib.ListN.{length, take, drop, getD, length-drop}
+use lib.Seq.{sets, length-take-le}
+use Rattle.wire.specs.Numbers.{Bytes, le}
+use Rattle.wire.specs.Envelope.{codecOf, firstCount, lastCount, inner}
+use Rattle.wire.specs.Reading.{got, Reader, _>>=_, _>>_, pure}
+use Rattle.wire.specs.Answers.{Answer, accepted, refused, check, told, onAccepted}
+use Rattle.wire.proofs.Widths.{bytes-take, bytes-drop}
+use Rattle.wire.proofs.Storing.{sets-append}
+use Rattle.wire.proofs.Exactness.{Meets, meets-then, meets-next, meets-pure}
+use Rattle.wire.proofs.Accepting.{check-accepted, onAccepted-accepted, told-accepted}
+use Rattle.avl.specs.declared.Widths.{Widths}
+use Rattle.avl.specs.Codecs.{widthsOf, kinds}
+use Rattle.avl.specs.Records.{AvlRecord}
+use Rattle.avl.specs.RecordReader.{avlRecords, atEnd, allRecords}
+use Rattle.avl.specs.DataField.{AvlData, readData}
+use Rattle.tlv.specs.Entries.{entryBytes}
+use Rattle.tlv.specs.Form.{recordsEntries, formEntries, form}
+use Rattle.wire.specs.declared.Written.{Written}
+use Rattle.wire.specs.Buffers.{writing, leaving, writtenAs}
+use Rattle.wire.proofs.BufferLaws.{writing-done, writing-short, leaving-done, leaving-short, sets-front}
+use Rattle.form.specs.declared.Moved.{Moved}
+use Rattle.form.specs.Moves.{Ready, Copies, dataEntries, Field, Writes}
+use Rattle.form.proofs.Inversion.{meets-self}
+use Rattle.form.proofs.MoveLaws.{moved, laid}
+
+-- the entry of the codec, then the records'
+pub form-copied : (codec count : ℕ) {w : Widths} {s before mid after : List ℕ} {r : Moved} → w ≡ widthsOf codec → mid ≡ sets before 0 (1 ∷ 0 ∷ 100 ∷ 0 ∷ codec ∷ [])
+    → Copies (avlRecords 255 w 0 count) (recordsEntries (kinds w)) s 0 5 mid after r
+    → Copies (avlRecords 255 (widthsOf codec) 0 count) (dataEntries codec) s 0 0 before after r
+unfolding entryBytes formEntries le
+form-copied codec count {w} {s} {before} {mid} {after} {r} is e c =
+    let d = subst (λ (x : Widths). Copies (avlRecords 255 x 0 count) (recordsEntries (kinds x)) s 0 5 mid after r) is c in
+    record {
+      moves = λ a n k. d .moves a n k ∙ ap (moved n) (omega arith);
+      stores = λ a n k.
+          let rest = laid (recordsEntries (kinds (widthsOf codec)) a) in
+          d .stores a n k ∙ ap (λ (o : List ℕ). sets o 5 rest) e ∙ sym (sets-append before 0 (1 ∷ 0 ∷ 100 ∷ 0 ∷ codec ∷ []) rest);
+    }
+
+-- ---- a data field
+
+length-zero : (l : List ℕ) → length l ≡ 0 → l ≡ []
+length-zero [] e = refl
+length-zero (x ∷ l) e = absurd (omega arith)
+
+all-read : (longest : ℕ) (w : Widths) (n : ℕ) (s : List ℕ) (at : ℕ) → Meets (allRecords longest w n s at) (λ rs end. (mid : ℕ) × (avlRecords longest w 0 n s at ≡ got rs mid))
+unfolding allRecords
+all-read longest w n s at =
+    meets-then (avlRecords longest w 0 n) _ s at (meets-self _) (λ rs mid k.
+    meets-next (atEnd n) _ s mid (meets-self _) (λ u next e.
+    meets-pure rs s next (mid, k)))
+
+module _ (d : List ℕ) where
+  -- the codec, the count and the space between the counts
+  abbrev pub codec : ℕ
+  codec = getD d 0 0
+
+  abbrev pub count : ℕ
+  count = getD d 1 0
+
+  abbrev pub body : List ℕ
+  body = take (length d - 1 - 2) (drop 2 d)
+
+  -- the records of an accepted field
+  pub record FieldRead (a : AvlData) : Type 0 where
+    pub records : List AvlRecord
+    pub end : ℕ
+    pub reads : avlRecords 255 (widthsOf codec) 0 count body 0 ≡ got records end
+    pub is : a ≡ record { codec = codec; records = records }
+
+  pub field-read : (a : AvlData) → readData 255 d ≡ accepted a → FieldRead a
+  unfolding readData codecOf firstCount inner
+  field-read a e =
+      let c₁ = check-accepted _ 6 _ e in
+      let c₂ = check-accepted _ 7 _ (c₁ .1) in
+      let c₃ = check-accepted _ 7 _ (c₂ .1) in
+      let c₄ = onAccepted-accepted _ _ (c₃ .1) in
+      let c₅ = told-accepted _ (c₄ .1) in
+      let r = all-read 255 (widthsOf codec) count (inner d) 0 .if-got _ _ (c₅ .1) in
+      let same : length d - 1 - 2 ≡ length d - 3 = omega arith in
+      record {
+        records = c₄ .0;
+        end = r .0;
+        reads = ap (λ (n : ℕ). avlRecords 255 (widthsOf codec) 0 count (take n (drop 2 d)) 0) same ∙ r .1;
+        is = cc;
+      }
+
+  pub field-ready : Bytes d → Field d → Ready (avlRecords 255 (widthsOf codec) 0 count) body 0 5
+  field-ready b k =
+      let r = field-read (k .content) (k .accepts) in
+      let size = length-take-le (length d - 1 - 2) (drop 2 d) (simp length-drop (omega arith)) in
+      record {
+        bytes = bytes-take (length d - 1 - 2) (drop 2 d) (bytes-drop 2 d b);
+        small = omega (arith, size, k .small);
+        inside = omega arith;
+        behind = omega arith;
+        content = r .records;
+        next = r .end;
+        reads = r .reads;
+      }
+
+  -- a run over a buffer
+  abbrev pub Formed : List ℕ → List ℕ → Moved → Type 0
+  Formed before after r = Copies (avlRecords 255 (widthsOf codec) 0 count) (dataEntries codec) body 0 0 before after r
+
+  formed : {before after : List ℕ} {r : Moved} → Formed before after r → (a : AvlData) → readData 255 d ≡ accepted a
+      → (r .to ≡ length (form a)) × (after ≡ sets before 0 (form a))
+  unfolding form
+  formed {before} c a e =
+      let k = field-read a e in
+      let size = ap (λ (x : Moved). x .to) (c .moves _ _ (k .reads)) in
+      let entries = ap (λ (x : AvlData). laid (formEntries x)) (sym (k .is)) in
+      (omega (arith, size, ap length entries), c .stores _ _ (k .reads) ∙ ap (sets before 0) entries)
+
+  -- a run over no buffer changes nothing
+  module _ {none last out : List ℕ} {r : Moved} (run : Formed none last r) (empty : length last ≡ 0) where
+    unchanged : last ++ out ≡ out
+    unchanged = ap (λ (l : List ℕ). l ++ out) (length-zero last empty)
+
+    pub writes-short : length (last ++ out) < r .to → Writes d out (last ++ out) (Written.Refused (record { number = 18; index = 0 }))
+    unfolding writtenAs
+    writes-short h =
+        record {
+          answer = λ a e. sym (writing-short (form a) out (omega (arith, formed run a e .0, ap length unchanged)));
+          buffer = λ a e. unchanged ∙ sym (leaving-short (form a) out (omega (arith, formed run a e .0, ap length unchanged)));
+        }
+
+    pub writes-done : {after : List ℕ} {q : Moved} → r .to ≤ length (last ++ out) → Formed (last ++ out) after q → Writes d out after (Written.Bytes (r .to))
+    unfolding writtenAs
+    writes-done h c =
+        record {
+          answer = λ a e. ap accepted (formed run a e .0) ∙ sym (writing-done (form a) out (omega (arith, formed run a e .0, ap length unchanged)));
+          buffer = λ a e.
+              let fits : length (form a) ≤ length out = omega (arith, formed run a e .0, ap length unchanged) in
+              formed c a e .1
+              ∙ ap (λ (l : List ℕ). sets l 0 (form a)) unchanged
+              ∙ sets-front (form a) out fits
+              ∙ sym (leaving-done (form a) out fits);
+        }

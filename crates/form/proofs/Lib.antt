@@ -1,0 +1,7 @@
+pub mod Stores
+pub mod Inversion
+pub mod MoveLaws
+pub mod LeafLaws
+pub mod LoopLaws
+pub mod FieldLaws
+pub mod WholeLaws

@@ -1,0 +1,111 @@
+-- The form of a packet and of a datagram is that of its data field.
+use Prim.Native.Nat.{ℕ, _+_, _-_, _≤_}
+use native.Mathlib.Omega.{arith}
+use mathlib.Core.Path.{_≡_, refl, sym, ap, _∙_, subst}
+use mathlib.Core.List.{List}
+use lib.ListN.{length, take, drop, length-drop, length-take}
+use lib.Dec.{leb, eqb}
+use borrow.Author.Tests.{leb-true}
+use Rattle.wire.specs.declared.Written.{Written}
+use Rattle.wire.specs.declared.Refusal.{Refusal}
+use Rattle.wire.specs.Numbers.{Bytes, numberAt}
+use Rattle.wire.specs.Answers.{Answer, accepted, refused, check, told, onAccepted}
+use Rattle.wire.specs.Buffers.{writing, leaving, writtenAs}
+use Rattle.wire.proofs.Accepting.{check-accepted, onAccepted-accepted, onAccepted-passed, onAccepted-refused}
+use Rattle.frame.specs.Frame.{unframe, framing}
+use Rattle.frame.proofs.FrameLaws.{frame-exact}
+use Rattle.frame.proofs.FramingLaws.{framing-field}
+use Rattle.avl.specs.DataField.{AvlData, readData}
+use Rattle.packet.specs.DataPackets.{readPacket}
+use Rattle.datagram.specs.Datagrams.{Datagram, readHeader, readDatagram}
+use Rattle.datagram.proofs.WalkLaws.{payload-part}
+use Rattle.tlv.specs.Form.{form}
+use Rattle.tlv.specs.PacketOf.{formOfPacket, formOfDatagram}
+use Rattle.form.specs.Moves.{Field, Writes}
+
+-- a data field whose content is known
+pub record FieldOf (d : List ℕ) (a : AvlData) : Type 0 where
+  pub long : 3 ≤ length d
+  pub small : length d ≤ 1280
+  pub accepts : readData 255 d ≡ accepted a
+
+pub field-of : {d : List ℕ} {a : AvlData} → FieldOf d a → Field d
+field-of {d} {a} k = record { long = k .long; small = k .small; content = a; accepts = k .accepts }
+
+-- what a writer of `result` answers and leaves
+abbrev Answers : Answer (List ℕ) → List ℕ → List ℕ → Written → Type 0
+Answers result before after r = (writtenAs r ≡ writing result before) × (after ≡ leaving result before)
+
+written-field : {d : List ℕ} {a : AvlData} {result : Answer (List ℕ)} {before after : List ℕ} {r : Written} → FieldOf d a → result ≡ accepted (form a)
+    → Writes d before after r → Answers result before after r
+written-field {a = a} {before = before} k e w =
+    (w .answer a (k .accepts) ∙ ap (λ x. writing x before) (sym e), w .buffer a (k .accepts) ∙ ap (λ x. leaving x before) (sym e))
+
+refused-whole : {result : Answer (List ℕ)} {before : List ℕ} {x : Refusal} → result ≡ refused (x .number) (x .index) → Answers result before before (Written.Refused x)
+unfolding writtenAs writing leaving onAccepted
+refused-whole {before = before} e = (ap (λ y. writing y before) (sym e), ap (λ y. leaving y before) (sym e))
+
+-- ---- a packet
+
+module _ (p : List ℕ) where
+  module _ {a : AvlData} (e : readPacket 1280 255 p ≡ accepted a) (b : Bytes p) where
+    -- the part behind the first eight bytes and before the last four
+    pub packet-field : FieldOf (take (length p - 4 - 8) (drop 8 p)) a
+    unfolding readPacket framing
+    packet-field =
+        let i = onAccepted-accepted (unframe 1280 p) (readData 255) e in
+        let d = i .0 in
+        let rules = frame-exact 1280 p d b .0 (i .1) .0 in
+        let f = framing-field 1280 p (length d) (ap framing (i .1)) b in
+        let first : d ≡ take (length d) (drop 8 p) = cc in
+        let size : length d ≡ length p - 4 - 8 = omega (arith, f .1) in
+        subst (λ (x : List ℕ). FieldOf x a) (first ∙ ap (λ (n : ℕ). take n (drop 8 p)) size)
+        (record { long = rules .least; small = omega (arith, rules .most); accepts = i .2 })
+
+    pub packet-long : 12 ≤ length p
+    packet-long = omega (arith, packet-field .long, length-take (length p - 4 - 8) (drop 8 p))
+
+    pub packet-written : {before after : List ℕ} {r : Written} → Writes (take (length p - 4 - 8) (drop 8 p)) before after r
+        → Answers (formOfPacket 1280 255 p) before after r
+    unfolding formOfPacket
+    packet-written w = written-field packet-field (onAccepted-passed (readPacket 1280 255 p) _ e) w
+
+  pub packet-refused : {x : Refusal} {before : List ℕ} → readPacket 1280 255 p ≡ refused (x .number) (x .index) → Answers (formOfPacket 1280 255 p) before before (Written.Refused x)
+  unfolding formOfPacket
+  packet-refused e = refused-whole (onAccepted-refused (readPacket 1280 255 p) _ e)
+
+-- ---- a datagram
+
+module _ (p : List ℕ) where
+  module _ {g : Datagram} (e : readDatagram 1280 255 p ≡ accepted g) where
+    -- the part behind the header
+    pub datagram-field : FieldOf (take (length p - 23) (drop 23 p)) (g .payload)
+    unfolding readDatagram
+    datagram-field =
+        let c₁ = check-accepted (leb 26 (length p)) 1 _ e in
+        let c₂ = check-accepted (leb (length p) 1280) 3 _ (c₁ .1) in
+        let c₃ = check-accepted (eqb (length p) (numberAt p 0 2 + 2)) 4 _ (c₂ .1) in
+        let c₄ = onAccepted-accepted (told (readHeader p 2)) _ (c₃ .1) in
+        let c₅ = onAccepted-accepted (readData 255 (drop 23 p)) _ (c₄ .2) in
+        let whole : _≡_ {A = Datagram} (record { header = c₄ .0; payload = c₅ .0 }) g = cc in
+        let least = leb-true 26 (length p) (c₁ .0) in
+        let most = leb-true (length p) 1280 (c₂ .0) in
+        subst (λ (x : List ℕ). FieldOf x (g .payload)) (sym (payload-part p))
+        (record {
+          long = simp length-drop (omega arith);
+          small = simp length-drop (omega arith);
+          accepts = c₅ .1 ∙ ap (λ (x : Datagram). accepted (x .payload)) whole;
+        })
+
+    pub datagram-long : 23 ≤ length p
+    datagram-long = omega (arith, datagram-field .long, length-take (length p - 23) (drop 23 p))
+
+    pub datagram-written : {before after : List ℕ} {r : Written} → Writes (take (length p - 23) (drop 23 p)) before after r
+        → Answers (formOfDatagram 1280 255 p) before after r
+    unfolding formOfDatagram
+    datagram-written w = written-field datagram-field (onAccepted-passed (readDatagram 1280 255 p) _ e) w
+
+  pub datagram-refused : {x : Refusal} {before : List ℕ} → readDatagram 1280 255 p ≡ refused (x .number) (x .index)
+      → Answers (formOfDatagram 1280 255 p) before before (Written.Refused x)
+  unfolding formOfDatagram
+  datagram-refused e = refused-whole (onAccepted-refused (readDatagram 1280 255 p) _ e)

@@ -1,0 +1,295 @@
+// The TLV form of packets and datagrams (the paper's house form), written into a lent buffer.
+use avl::Widths;
+use datagram::DatagramWalk;
+use walk::DataWalk;
+use wire::Refusal;
+use wire::Written;
+ghost use mathlib.Core.Path.{_≡_};
+ghost use Prim.Native.Nat.{_+_, _≤_, _<_};
+ghost use lib.ListN.{length, getD};
+ghost use lib.Seq.{sets};
+ghost use Rattle.wire.specs.Numbers.{numberAt, le};
+ghost use Rattle.wire.specs.Reading.{got};
+ghost use Rattle.wire.specs.Buffers.{writing, leaving, writtenAs};
+ghost use Rattle.avl.specs.RecordReader.{valueSize, element, group, groups, fixedFields, avlRecord, avlRecords};
+ghost use Rattle.avl.specs.Codecs.{widthsOf, kinds};
+ghost use Rattle.walk.specs.Walks.{Narrow};
+ghost use Rattle.tlv.specs.Form.{groupEntries, groupsEntries, recordsEntries};
+ghost use Rattle.tlv.specs.PacketOf.{formOfPacket, formOfDatagram};
+ghost use Rattle.form.specs.Moves.{Ready, Copies, elementEntries, fixedEntries, recordEntries, dataEntries, allKinds, Field, Writes};
+
+// Where reading and storing go on.
+struct Moved {
+    from: usize,
+    to: usize,
+}
+
+// Stores the `w` lowest bytes of `n`, the lowest first, as far as the buffer reaches.
+fn store_le(out: &mut [u8], at: usize, w: usize, n: u64)
+    requires { ⌜ (at ≤ 65536) × (w ≤ 8) ⌝ }
+    ensures { λ _. ⌜ now (out .exit) ≡ sets (now (out .entry)) at (le w n) ⌝ }
+{
+    if at + w <= out.len() {
+        wire::put_le(out, at, w, n);
+        return;
+    }
+    if at < out.len() {
+        wire::put_le(out, at, out.len() - at, n);
+    }
+}
+
+// Stores the bytes of `src`, as far as the buffer reaches.
+fn store_bytes(out: &mut [u8], at: usize, src: &[u8])
+    requires { ⌜ (at ≤ 65536) × (length (now src) ≤ 65536) ⌝ }
+    ensures { λ _. ⌜ now (out .exit) ≡ sets (now (out .entry)) at (now (src .entry)) ⌝ }
+{
+    if at + src.len() <= out.len() {
+        wire::put_bytes(out, at, src);
+        return;
+    }
+    if at < out.len() {
+        let room = out.len() - at;
+        wire::put_bytes(out, at, &src[0..room]);
+    }
+}
+
+// Reads a number of `w` bytes and stores it in `v`, the lowest first.
+fn store_number(s: &[u8], at: usize, w: usize, out: &mut [u8], to: usize, v: usize)
+    requires { ⌜ (at + w ≤ length (now s)) × (w ≤ 8) × (to ≤ 65536) × (v ≤ 8) ⌝ }
+    ensures { λ _. ⌜ now (out .exit) ≡ sets (now (out .entry)) to (le v (numberAt (now (s .entry)) at w)) ⌝ }
+{
+    store_le(out, to, v, wire::number(s, at, w));
+}
+
+// A fixed field of `w` bytes: `i` bytes behind the record's start, and as many behind the head of its entry.
+fn store_field(s: &[u8], at: usize, i: usize, w: usize, out: &mut [u8], to: usize)
+    requires { ⌜ (at + i + w ≤ length (now s)) × (w ≤ 8) × (i ≤ 24) × (to ≤ 16384) ⌝ }
+    ensures { λ _. ⌜ now (out .exit) ≡ sets (now (out .entry)) (to + 4 + i) (le w (numberAt (now (s .entry)) (at + i) w)) ⌝ }
+{
+    store_number(s, at + i, w, out, to + 4 + i, w);
+}
+
+// The entry of the fixed fields: kind 101, 27 bytes.
+fn put_fixed(w: Widths, s: &[u8], at: usize, out: &mut [u8], to: usize) -> Moved
+    requires { ⌜ Narrow w ⌝ }
+    requires { ⌜ Ready (fixedFields w) (now s) at to ⌝ }
+    ensures { λ r. ⌜ Copies (fixedFields w) fixedEntries (now (s .entry)) at to (now (out .entry)) (now (out .exit)) r ⌝ }
+{
+    let event = w.event;
+    let generation = w.generation;
+    let behind = at + 24;
+    let last = behind + event;
+    store_le(out, to, 2, 27);
+    store_le(out, to + 2, 2, 101);
+    store_field(s, at, 0, 8, out, to);
+    store_field(s, at, 8, 1, out, to);
+    store_field(s, at, 9, 4, out, to);
+    store_field(s, at, 13, 4, out, to);
+    store_field(s, at, 17, 2, out, to);
+    store_field(s, at, 19, 2, out, to);
+    store_field(s, at, 21, 1, out, to);
+    store_field(s, at, 22, 2, out, to);
+    store_number(s, behind, event, out, to + 28, 2);
+    store_number(s, last, generation, out, to + 30, 1);
+    Moved {
+        from: last + generation,
+        to: to + 31,
+    }
+}
+
+// Where a value starts, and its length.
+struct Value {
+    start: usize,
+    size: usize,
+}
+
+// The value behind the ID: as long as its kind says, or as the two bytes before it say.
+fn value_at(kind: usize, s: &[u8], at: usize) -> Value
+    requires { ⌜ (kind ≡ 9 → at + 2 ≤ length (now s)) ⌝ }
+    ensures { λ r. ⌜ valueSize kind (now (s .entry)) at ≡ got (r .size) (r .start) ⌝ }
+{
+    if kind == 9 {
+        return Value {
+            start: at + 2,
+            size: wire::be16(s, at) as usize,
+        };
+    }
+    Value {
+        start: at,
+        size: kind,
+    }
+}
+
+// The entry of an element: its kind, its ID, its value as it stands.
+fn put_element(w: Widths, kind: usize, s: &[u8], at: usize, out: &mut [u8], to: usize) -> Moved
+    requires { ⌜ Narrow w ⌝ }
+    requires { ⌜ (1 ≤ kind) × (kind ≤ 9) ⌝ }
+    requires { ⌜ Ready (element w kind) (now s) at to ⌝ }
+    ensures { λ r. ⌜ Copies (element w kind) (elementEntries kind) (now (s .entry)) at to (now (out .entry)) (now (out .exit)) r ⌝ }
+{
+    let id = w.id;
+    let value = value_at(kind, s, at + id);
+    let start = value.start;
+    let size = value.size;
+    let end = start + size;
+    store_le(out, to, 2, (2 + size) as u64);
+    store_le(out, to + 2, 2, kind as u64);
+    store_number(s, at, id, out, to + 4, 2);
+    store_bytes(out, to + 6, &s[start..end]);
+    Moved {
+        from: end,
+        to: to + 6 + size,
+    }
+}
+
+// The entries of a group: those of its elements.
+fn put_group(w: Widths, kind: usize, s: &[u8], at: usize, out: &mut [u8], to: usize) -> Moved
+    requires { ⌜ Narrow w ⌝ }
+    requires { ⌜ (1 ≤ kind) × (kind ≤ 9) ⌝ }
+    requires { ⌜ Ready (group w kind) (now s) at to ⌝ }
+    ensures { λ r. ⌜ Copies (group w kind) (groupEntries kind) (now (s .entry)) at to (now (out .entry)) (now (out .exit)) r ⌝ }
+{
+    let count = w.count;
+    let mut left = wire::number(s, at, count);
+    let mut from = at + count;
+    let mut dest = to;
+    while 0 < left {
+        let moved = put_element(w, kind, s, from, out, dest);
+        from = moved.from;
+        dest = moved.to;
+        left -= 1;
+    }
+    Moved { from, to: dest }
+}
+
+// How many groups a record has.
+fn kind_count(w: Widths) -> usize
+    ensures { λ r. ⌜ r ≡ length (kinds w) ⌝ }
+{
+    let variable = w.variable;
+    if variable {
+        return 5;
+    }
+    4
+}
+
+// The kind of the group with number `k`.
+fn kind_at(k: usize) -> usize
+    requires { ⌜ k < 5 ⌝ }
+    ensures { λ r. ⌜ r ≡ getD allKinds k 0 ⌝ }
+{
+    let kinds: [usize; 5] = [1, 2, 4, 8, 9];
+    kinds[k]
+}
+
+// The entries of a record's groups, in the order of their kinds.
+fn put_groups(w: Widths, s: &[u8], at: usize, out: &mut [u8], to: usize) -> Moved
+    requires { ⌜ Narrow w ⌝ }
+    requires { ⌜ Ready (groups w (kinds w)) (now s) at to ⌝ }
+    ensures { λ r. ⌜ Copies (groups w (kinds w)) (groupsEntries (kinds w)) (now (s .entry)) at to (now (out .entry)) (now (out .exit)) r ⌝ }
+{
+    let n = kind_count(w);
+    let mut from = at;
+    let mut dest = to;
+    let mut k: usize = 0;
+    while k < n {
+        let kind = kind_at(k);
+        let moved = put_group(w, kind, s, from, out, dest);
+        from = moved.from;
+        dest = moved.to;
+        k += 1;
+    }
+    Moved { from, to: dest }
+}
+
+// The entries of a record.
+fn put_record(w: Widths, s: &[u8], at: usize, out: &mut [u8], to: usize) -> Moved
+    requires { ⌜ Narrow w ⌝ }
+    requires { ⌜ Ready (avlRecord 255 w) (now s) at to ⌝ }
+    ensures { λ r. ⌜ Copies (avlRecord 255 w) (recordEntries (kinds w)) (now (s .entry)) at to (now (out .entry)) (now (out .exit)) r ⌝ }
+{
+    let count = w.count;
+    let fixed = put_fixed(w, s, at, out, to);
+    put_groups(w, s, fixed.from + count, out, fixed.to)
+}
+
+// The entries of `count` records, which begin at 0.
+fn put_records(w: Widths, count: usize, s: &[u8], out: &mut [u8], to: usize) -> Moved
+    requires { ⌜ Narrow w ⌝ }
+    requires { ⌜ Ready (avlRecords 255 w 0 count) (now s) 0 to ⌝ }
+    ensures { λ r. ⌜ Copies (avlRecords 255 w 0 count) (recordsEntries (kinds w)) (now (s .entry)) 0 to (now (out .entry)) (now (out .exit)) r ⌝ }
+{
+    let mut from: usize = 0;
+    let mut dest = to;
+    let mut i: usize = 0;
+    while i < count {
+        let moved = put_record(w, s, from, out, dest);
+        from = moved.from;
+        dest = moved.to;
+        i += 1;
+    }
+    Moved { from, to: dest }
+}
+
+// The form of the records in `s`: the entry of the codec, then theirs.
+fn put_form(codec: u8, count: usize, s: &[u8], out: &mut [u8]) -> Moved
+    requires { ⌜ Ready (avlRecords 255 (widthsOf codec) 0 count) (now s) 0 5 ⌝ }
+    ensures { λ r. ⌜ Copies (avlRecords 255 (widthsOf codec) 0 count) (dataEntries codec) (now (s .entry)) 0 0 (now (out .entry)) (now (out .exit)) r ⌝ }
+{
+    let head: [u8; 5] = [1, 0, 100, 0, codec];
+    store_bytes(out, 0, &head);
+    put_records(walk::widths_of(codec), count, s, out, 5)
+}
+
+// The form of the data field `d`. A run over no buffer gives its length; 18 where it is longer than `out`.
+fn write_field(d: &[u8], out: &mut [u8]) -> Written
+    requires { ⌜ Field (now d) ⌝ }
+    ensures { λ r. ⌜ Writes (now (d .entry)) (now (out .entry)) (now (out .exit)) r ⌝ }
+{
+    let codec = d[0];
+    let count = d[1] as usize;
+    let last = d.len() - 1;
+    let size = put_form(codec, count, &d[2..last], &mut out[0..0]).to;
+    if out.len() < size {
+        return Written::Refused(Refusal {
+            number: 18,
+            index: 0,
+        });
+    }
+    put_form(codec, count, &d[2..last], out);
+    Written::Bytes(size)
+}
+
+// The form of a TCP data packet.
+pub fn form_of_packet(p: &[u8], out: &mut [u8]) -> Written
+    ensures answer { λ r. ⌜ writtenAs r ≡ writing (formOfPacket 1280 255 (now (p .entry))) (now (out .entry)) ⌝ }
+    ensures buffer { λ r. ⌜ now (out .exit) ≡ leaving (formOfPacket 1280 255 (now (p .entry))) (now (out .entry)) ⌝ }
+{
+    match packet::judge_packet(packet::LARGEST, packet::LONGEST, p, 0) {
+        DataWalk::Refused(r) => Written::Refused(r),
+        DataWalk::Taken {
+            codec: _,
+            count: _,
+            span: _,
+        } => {
+            let end = p.len() - 4;
+            write_field(&p[8..end], out)
+        }
+    }
+}
+
+// The form of a UDP datagram.
+pub fn form_of_datagram(p: &[u8], out: &mut [u8]) -> Written
+    ensures answer { λ r. ⌜ writtenAs r ≡ writing (formOfDatagram 1280 255 (now (p .entry))) (now (out .entry)) ⌝ }
+    ensures buffer { λ r. ⌜ now (out .exit) ≡ leaving (formOfDatagram 1280 255 (now (p .entry))) (now (out .entry)) ⌝ }
+{
+    match datagram::judge_datagram(datagram::LARGEST, datagram::LONGEST, p, 0) {
+        DatagramWalk::Refused(r) => Written::Refused(r),
+        DatagramWalk::Taken {
+            codec: _,
+            count: _,
+            span: _,
+            header: _,
+        } => write_field(&p[23..], out),
+    }
+}
