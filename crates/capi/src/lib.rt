@@ -16,7 +16,7 @@ ghost use Rattle.login.specs.Login.{readLogin, loginAnswer};
 ghost use Rattle.command.specs.Commands.{answerCommand};
 ghost use Rattle.command.specs.Writing.{commandBytes};
 ghost use Rattle.capi.specs.Flat.{flatWritten, flatPacket, flatDatagram, flatLogin, flatCommand, flatRecord, flatValue, flatKnown};
-ghost use Rattle.tlv.specs.PacketOf.{formOfPacket, formOfDatagram};
+ghost use Rattle.tlv.specs.PacketOf.{formOfPacket, formOfDatagram, packetOfForm};
 ghost use Rattle.lookup.specs.Lookups.{tcpSource, udpSource, recordByNumber, valueByNumber, valueById, lastKnown};
 ghost use Rattle.lookup.specs.Answers.{recordAs, valueAs, answerValue, answerKnown};
 
@@ -400,4 +400,12 @@ pub extern "C" fn brundilope_form_of_datagram(p: &[u8], out: &mut [u8]) -> Writt
     ensures buffer { λ r. ⌜ now (out .exit) ≡ leaving (formOfDatagram 1280 255 (now (p .entry))) (now (out .entry)) ⌝ }
 {
     flat_written(form::form_of_datagram(p, out))
+}
+
+#[no_mangle]
+pub extern "C" fn brundilope_packet_of_form(f: &[u8], out: &mut [u8]) -> WrittenC
+    ensures answer { λ r. ⌜ r ≡ flatWritten (writing (packetOfForm 1280 255 (now (f .entry))) (now (out .entry))) ⌝ }
+    ensures buffer { λ r. ⌜ now (out .exit) ≡ leaving (packetOfForm 1280 255 (now (f .entry))) (now (out .entry)) ⌝ }
+{
+    flat_written(rebuild::packet_of_form(f, out))
 }

@@ -5,3 +5,4 @@ pub mod LeafLaws
 pub mod LoopLaws
 pub mod FieldLaws
 pub mod WholeLaws
+pub mod FormSize

@@ -235,7 +235,7 @@ module _ {A : Type 0} (i : ℕ) (m : Reader A) where
   copies-tagged {s = s} {from = from} c =
       record { moves = λ a n e. c .moves a n (tagged-got i (m s from) e); stores = λ a n e. c .stores a n (tagged-got i (m s from) e) }
 
-  paced-tagged : {entries : A → List Entry} → Paced m entries → Paced (inRecord i m) entries
+  pub paced-tagged : {entries : A → List Entry} → Paced m entries → Paced (inRecord i m) entries
   unfolding inRecord
   paced-tagged p = record { pace = λ s at h. record { if-got = λ a n e. p .pace s at h .if-got a n (tagged-got i (m s at) e) } }
 

@@ -133,7 +133,7 @@ module _ {A : Type 0} (m : Reader A) (rest : Reader (List A)) {s : List ℕ} {fr
 abbrev pub KindRange : ℕ → Type 0
 KindRange k = (1 ≤ k) × (k ≤ 9)
 
-paced-list : {A : Type 0} (m : Reader A) (rest : Reader (List A)) {one : A → List Entry} {many whole : List A → List Entry}
+pub paced-list : {A : Type 0} (m : Reader A) (rest : Reader (List A)) {one : A → List Entry} {many whole : List A → List Entry}
     → ((a : A) (l : List A) → whole (a ∷ l) ≡ one a ++ many l) → Paced m one → Paced rest many → Paced (listed m rest) whole
 paced-list m rest {one} {many} {whole} joins p q =
     record {

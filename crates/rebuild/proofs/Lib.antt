@@ -1,0 +1,5 @@
+pub mod OffsetLaws
+pub mod StoredLaws
+pub mod LayoutLaws
+pub mod Bounds
+pub mod CandidateLaws

@@ -1,0 +1,2 @@
+pub mod FormPlaces
+pub mod Candidates
