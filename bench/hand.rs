@@ -1,0 +1,866 @@
+//! The library's work written by hand: no unsafe, no allocation, one pass over the packet.
+
+#[derive(Clone, Copy, Debug, PartialEq, Eq)]
+pub struct Refusal {
+    pub number: u8,
+    pub index: usize,
+}
+
+pub type Answer<T> = Result<T, Refusal>;
+
+const fn no(number: u8) -> Refusal {
+    Refusal { number, index: 0 }
+}
+
+pub struct Packet {
+    pub codec: u8,
+    pub count: u8,
+}
+
+pub struct Datagram {
+    pub codec: u8,
+    pub count: u8,
+    pub packet_id: u16,
+    pub unused: u8,
+    pub avl_packet_id: u8,
+    pub imei: u64,
+}
+
+pub struct Command {
+    pub codec: u8,
+    pub kind: u8,
+    pub imei: u64,
+    pub offset: usize,
+    pub size: usize,
+}
+
+pub struct Record {
+    pub timestamp: u64,
+    pub priority: u8,
+    pub longitude: i32,
+    pub latitude: i32,
+    pub altitude: i16,
+    pub angle: u16,
+    pub satellites: u8,
+    pub speed: u16,
+    pub event: u16,
+    pub generation: u8,
+    pub elements: usize,
+}
+
+#[derive(Clone, Copy)]
+pub struct Value {
+    pub id: u16,
+    pub kind: u8,
+    pub offset: usize,
+    pub size: usize,
+}
+
+// ---- codecs
+
+/// The widths of one codec.
+trait Codec {
+    const EVENT: usize;
+    const GENERATION: usize;
+    const COUNT: usize;
+    const ID: usize;
+    const VARIABLE: bool;
+    /// Where the groups begin in a record.
+    const GROUPS: usize = 24 + Self::EVENT + Self::GENERATION + Self::COUNT;
+    /// A record without elements.
+    const LEAST: usize = Self::GROUPS + Self::COUNT * (4 + Self::VARIABLE as usize);
+}
+
+struct Codec8;
+struct Codec8E;
+struct Codec16;
+
+impl Codec for Codec8 {
+    const EVENT: usize = 1;
+    const GENERATION: usize = 0;
+    const COUNT: usize = 1;
+    const ID: usize = 1;
+    const VARIABLE: bool = false;
+}
+
+impl Codec for Codec8E {
+    const EVENT: usize = 2;
+    const GENERATION: usize = 0;
+    const COUNT: usize = 2;
+    const ID: usize = 2;
+    const VARIABLE: bool = true;
+}
+
+impl Codec for Codec16 {
+    const EVENT: usize = 2;
+    const GENERATION: usize = 1;
+    const COUNT: usize = 1;
+    const ID: usize = 2;
+    const VARIABLE: bool = false;
+}
+
+/// A big-endian number of one or two bytes.
+fn number(b: &[u8], at: usize, width: usize) -> Option<usize> {
+    if width == 1 {
+        b.get(at).map(|&x| usize::from(x))
+    } else {
+        let b = b.get(at..at + 2)?;
+        Some(usize::from(u16::from_be_bytes([b[0], b[1]])))
+    }
+}
+
+// ---- frame
+
+fn crc(data: &[u8]) -> u16 {
+    let mut c = 0u16;
+    for &b in data {
+        c ^= u16::from(b);
+        for _ in 0..8 {
+            c = if c & 1 != 0 { (c >> 1) ^ 0xA001 } else { c >> 1 };
+        }
+    }
+    c
+}
+
+/// The data field of a TCP packet.
+fn frame(p: &[u8]) -> Answer<&[u8]> {
+    let Some((head, rest)) = p.split_first_chunk::<8>() else {
+        return Err(no(1));
+    };
+    if head[..4] != [0; 4] {
+        return Err(no(2));
+    }
+    let length = u32::from_be_bytes([head[4], head[5], head[6], head[7]]) as usize;
+    if !(3..=1268).contains(&length) {
+        return Err(no(3));
+    }
+    if rest.len() != length + 4 {
+        return Err(no(4));
+    }
+    let (data, field) = rest.split_at(length);
+    if field != u32::from(crc(data)).to_be_bytes() {
+        return Err(no(5));
+    }
+    Ok(data)
+}
+
+fn imei_of_digits(digits: &[u8]) -> Option<u64> {
+    let mut imei = 0;
+    for d in digits {
+        if !d.is_ascii_digit() {
+            return None;
+        }
+        imei = imei * 10 + u64::from(d - b'0');
+    }
+    Some(imei)
+}
+
+/// The head of a datagram, and its data field.
+fn datagram(p: &[u8]) -> Answer<(Datagram, &[u8])> {
+    if p.len() < 26 {
+        return Err(no(1));
+    }
+    if p.len() > 1280 {
+        return Err(no(3));
+    }
+    let (head, data) = p.split_at(23);
+    if usize::from(u16::from_be_bytes([head[0], head[1]])) != p.len() - 2 {
+        return Err(no(4));
+    }
+    if head[6..8] != [0, 15] {
+        return Err(no(15));
+    }
+    let Some(imei) = imei_of_digits(&head[8..]) else {
+        return Err(no(15));
+    };
+    let head = Datagram {
+        codec: 0,
+        count: 0,
+        packet_id: u16::from_be_bytes([head[2], head[3]]),
+        unused: head[4],
+        avl_packet_id: head[5],
+        imei,
+    };
+    Ok((head, data))
+}
+
+// ---- the walk
+
+/// One record as the walk saw it: where it lies in the data field, and how many elements it has.
+#[derive(Clone, Copy)]
+struct Span {
+    start: usize,
+    len: usize,
+    fixed: usize,
+    variable: usize,
+}
+
+/// Judges the record at the start of `b`.
+#[inline]
+fn step<C: Codec>(b: &[u8]) -> Result<Span, u8> {
+    if *b.get(8).ok_or(8)? > 2 {
+        return Err(10);
+    }
+    if C::GENERATION == 1 && *b.get(24 + C::EVENT).ok_or(8)? > 7 {
+        return Err(11);
+    }
+    let total = number(b, C::GROUPS - C::COUNT, C::COUNT).ok_or(8)?;
+    let mut at = C::GROUPS;
+    let mut fixed = 0;
+    for size in [1, 2, 4, 8] {
+        let count = number(b, at, C::COUNT).ok_or(8)?;
+        fixed += count;
+        at += C::COUNT + count * (C::ID + size);
+    }
+    let mut variable = 0;
+    if C::VARIABLE {
+        variable = number(b, at, C::COUNT).ok_or(8)?;
+        at += C::COUNT;
+        for _ in 0..variable {
+            at += C::ID + 2 + number(b, at + C::ID, 2).ok_or(8)?;
+        }
+    }
+    if at > b.len() {
+        return Err(8);
+    }
+    if fixed != total {
+        return Err(9);
+    }
+    if at > 255 {
+        return Err(12);
+    }
+    Ok(Span { start: 0, len: at, fixed, variable })
+}
+
+fn walk<C: Codec>(data: &[u8], count: u8, mut visit: impl FnMut(usize, Span)) -> Answer<()> {
+    let body = &data[..data.len() - 1];
+    let mut at = 2;
+    for index in 0..usize::from(count) {
+        match step::<C>(&body[at..]) {
+            Ok(span) => {
+                visit(index, Span { start: at, ..span });
+                at += span.len;
+            }
+            Err(number) => return Err(Refusal { number, index }),
+        }
+    }
+    if at != body.len() {
+        return Err(Refusal { number: 8, index: usize::from(count) });
+    }
+    Ok(())
+}
+
+/// Judges a data field of at least three bytes.
+fn judge(data: &[u8], visit: impl FnMut(usize, Span)) -> Answer<Packet> {
+    let (codec, count) = (data[0], data[1]);
+    if !matches!(codec, 0x08 | 0x8E | 0x10) {
+        return Err(no(6));
+    }
+    if count == 0 || data[data.len() - 1] != count {
+        return Err(no(7));
+    }
+    match codec {
+        0x08 => walk::<Codec8>(data, count, visit)?,
+        0x8E => walk::<Codec8E>(data, count, visit)?,
+        _ => walk::<Codec16>(data, count, visit)?,
+    }
+    Ok(Packet { codec, count })
+}
+
+// ---- reading and answering
+
+#[inline(never)]
+pub fn read_packet(p: &[u8]) -> Answer<Packet> {
+    judge(frame(p)?, |_, _| {})
+}
+
+#[inline(never)]
+pub fn read_datagram(p: &[u8]) -> Answer<Datagram> {
+    let (head, data) = datagram(p)?;
+    let Packet { codec, count } = judge(data, |_, _| {})?;
+    Ok(Datagram { codec, count, ..head })
+}
+
+#[inline(never)]
+pub fn read_login(p: &[u8]) -> Answer<u64> {
+    if p.len() < 17 {
+        return Err(no(1));
+    }
+    if p.len() > 17 {
+        return Err(no(4));
+    }
+    if p[..2] != [0, 15] {
+        return Err(no(15));
+    }
+    imei_of_digits(&p[2..]).ok_or(no(15))
+}
+
+#[inline(never)]
+pub fn answer_login(p: &[u8], known: bool, out: &mut [u8]) -> Answer<usize> {
+    let Some(o) = out.first_mut() else {
+        return Err(no(18));
+    };
+    *o = u8::from(read_login(p).is_ok() && known);
+    Ok(1)
+}
+
+#[inline(never)]
+pub fn acknowledge_packet(p: &[u8], out: &mut [u8]) -> Answer<usize> {
+    let count = read_packet(p).map_or(0, |a| a.count);
+    let Some(out) = out.first_chunk_mut::<4>() else {
+        return Err(no(18));
+    };
+    *out = u32::from(count).to_be_bytes();
+    Ok(4)
+}
+
+#[inline(never)]
+pub fn acknowledge_datagram(p: &[u8], out: &mut [u8]) -> Answer<usize> {
+    let d = read_datagram(p)?;
+    let Some(out) = out.first_chunk_mut::<7>() else {
+        return Err(no(18));
+    };
+    let id = d.packet_id.to_be_bytes();
+    *out = [0, 5, id[0], id[1], d.unused, d.avl_packet_id, d.count];
+    Ok(7)
+}
+
+// ---- commands
+
+#[inline(never)]
+pub fn read_command(p: &[u8]) -> Answer<Command> {
+    let data = frame(p)?;
+    let codec = data[0];
+    if codec != 0x0C && codec != 0x0E {
+        return Err(no(6));
+    }
+    if data[1] != 1 || data[data.len() - 1] != 1 {
+        return Err(no(7));
+    }
+    let body = &data[2..data.len() - 1];
+    let Some((&kind, rest)) = body.split_first() else {
+        return Err(no(8));
+    };
+    if !(kind == 5 || kind == 6 || kind == 0x11 && codec == 0x0E) {
+        return Err(no(13));
+    }
+    let Some((size, rest)) = rest.split_first_chunk::<4>() else {
+        return Err(no(8));
+    };
+    if u32::from_be_bytes(*size) as usize != rest.len() {
+        return Err(no(14));
+    }
+    if codec == 0x0C {
+        return Ok(Command { codec, kind, imei: 0, offset: 15, size: rest.len() });
+    }
+    let Some((digits, text)) = rest.split_first_chunk::<8>() else {
+        return Err(no(14));
+    };
+    if digits[0] > 9 {
+        return Err(no(15));
+    }
+    let mut imei = 0;
+    for d in digits {
+        let (high, low) = (d >> 4, d & 15);
+        if high > 9 || low > 9 {
+            return Err(no(15));
+        }
+        imei = imei * 100 + u64::from(high * 10 + low);
+    }
+    if kind == 0x11 && !text.is_empty() {
+        return Err(no(14));
+    }
+    Ok(Command { codec, kind, imei, offset: 23, size: text.len() })
+}
+
+#[inline(never)]
+pub fn write_command(codec: u8, kind: u8, imei: &[u8], text: &[u8], out: &mut [u8]) -> Answer<usize> {
+    if codec != 0x0C && codec != 0x0E {
+        return Err(no(6));
+    }
+    if !(kind == 5 || kind == 6 || kind == 0x11 && codec == 0x0E) {
+        return Err(no(13));
+    }
+    let mut packed = [0; 8];
+    let imei_bytes = if codec == 0x0C {
+        if !imei.is_empty() {
+            return Err(no(15));
+        }
+        &packed[..0]
+    } else {
+        if imei.len() != 15 || !imei.iter().all(u8::is_ascii_digit) {
+            return Err(no(15));
+        }
+        packed[0] = imei[0] & 15;
+        for (b, pair) in packed[1..].iter_mut().zip(imei[1..].chunks_exact(2)) {
+            *b = (pair[0] & 15) << 4 | pair[1] & 15;
+        }
+        &packed[..]
+    };
+    if text.len() > 1260 - imei_bytes.len() || kind == 0x11 && !text.is_empty() {
+        return Err(no(14));
+    }
+    let size = imei_bytes.len() + text.len();
+    let Some(out) = out.get_mut(..size + 20) else {
+        return Err(no(18));
+    };
+    out[..4].fill(0);
+    out[4..8].copy_from_slice(&(size as u32 + 8).to_be_bytes());
+    out[8..11].copy_from_slice(&[codec, 1, kind]);
+    out[11..15].copy_from_slice(&(size as u32).to_be_bytes());
+    let (data, field) = out[8..].split_at_mut(size + 8);
+    data[7..7 + imei_bytes.len()].copy_from_slice(imei_bytes);
+    data[7 + imei_bytes.len()..7 + size].copy_from_slice(text);
+    data[7 + size] = 1;
+    field.copy_from_slice(&u32::from(crc(data)).to_be_bytes());
+    Ok(size + 20)
+}
+
+// ---- looking up
+
+/// Judges the data field, and gives its codec and the wanted record.
+fn find(data: &[u8], record: usize) -> Answer<(u8, Span)> {
+    let mut found = None;
+    let packet = judge(data, |index, span| {
+        if index == record {
+            found = Some(span);
+        }
+    })?;
+    match found {
+        Some(span) => Ok((packet.codec, span)),
+        None => Err(no(16)),
+    }
+}
+
+/// The same for the last record.
+fn find_last(data: &[u8]) -> Answer<(u8, Span)> {
+    let mut found = Span { start: 0, len: 0, fixed: 0, variable: 0 };
+    let packet = judge(data, |_, span| found = span)?;
+    Ok((packet.codec, found))
+}
+
+fn fields<C: Codec>(r: &[u8], elements: usize) -> Option<Record> {
+    let (head, rest) = r.split_first_chunk::<24>()?;
+    let h = head;
+    Some(Record {
+        timestamp: u64::from_be_bytes([h[0], h[1], h[2], h[3], h[4], h[5], h[6], h[7]]),
+        priority: h[8],
+        longitude: i32::from_be_bytes([h[9], h[10], h[11], h[12]]),
+        latitude: i32::from_be_bytes([h[13], h[14], h[15], h[16]]),
+        altitude: i16::from_be_bytes([h[17], h[18]]),
+        angle: u16::from_be_bytes([h[19], h[20]]),
+        satellites: h[21],
+        speed: u16::from_be_bytes([h[22], h[23]]),
+        event: number(rest, 0, C::EVENT)? as u16,
+        generation: if C::GENERATION == 1 { *rest.get(C::EVENT)? } else { 0 },
+        elements,
+    })
+}
+
+fn record_of(data: &[u8], record: usize) -> Answer<Record> {
+    let (codec, span) = find(data, record)?;
+    let r = &data[span.start..span.start + span.len];
+    let elements = span.fixed + span.variable;
+    match codec {
+        0x08 => fields::<Codec8>(r, elements),
+        0x8E => fields::<Codec8E>(r, elements),
+        _ => fields::<Codec16>(r, elements),
+    }
+    .ok_or(no(16))
+}
+
+/// The element of this number in a judged record; the offset is from the record's start.
+fn by_number<C: Codec>(r: &[u8], mut n: usize) -> Option<Value> {
+    let mut at = C::GROUPS;
+    for size in [1, 2, 4, 8] {
+        let count = number(r, at, C::COUNT)?;
+        at += C::COUNT;
+        if n < count {
+            at += n * (C::ID + size);
+            let id = number(r, at, C::ID)? as u16;
+            return Some(Value { id, kind: size as u8, offset: at + C::ID, size });
+        }
+        n -= count;
+        at += count * (C::ID + size);
+    }
+    if C::VARIABLE && n < number(r, at, C::COUNT)? {
+        at += C::COUNT;
+        for _ in 0..n {
+            at += C::ID + 2 + number(r, at + C::ID, 2)?;
+        }
+        let id = number(r, at, C::ID)? as u16;
+        return Some(Value { id, kind: 9, offset: at + C::ID + 2, size: number(r, at + C::ID, 2)? });
+    }
+    None
+}
+
+/// The first element of this ID in a judged record; the offset is from the record's start.
+fn by_id<C: Codec>(r: &[u8], id: u16) -> Option<Value> {
+    let mut at = C::GROUPS;
+    for size in [1, 2, 4, 8] {
+        let pair = C::ID + size;
+        let count = number(r, at, C::COUNT)?;
+        at += C::COUNT;
+        let pairs = r.get(at..at + count * pair)?;
+        if let Some(n) = pairs.chunks_exact(pair).position(|p| number(p, 0, C::ID) == Some(usize::from(id))) {
+            return Some(Value { id, kind: size as u8, offset: at + n * pair + C::ID, size });
+        }
+        at += count * pair;
+    }
+    if C::VARIABLE {
+        let count = number(r, at, C::COUNT)?;
+        at += C::COUNT;
+        for _ in 0..count {
+            let size = number(r, at + C::ID, 2)?;
+            let offset = at + C::ID + 2;
+            if number(r, at, C::ID) == Some(usize::from(id)) {
+                return Some(Value { id, kind: 9, offset, size });
+            }
+            at = offset + size;
+        }
+    }
+    None
+}
+
+/// The offset counted from the input's start, the data field beginning at `base`.
+fn placed(value: Option<Value>, base: usize, span: Span) -> Answer<Value> {
+    match value {
+        Some(v) => Ok(Value { offset: base + span.start + v.offset, ..v }),
+        None => Err(no(16)),
+    }
+}
+
+fn value_of(data: &[u8], base: usize, record: usize, element: usize) -> Answer<Value> {
+    let (codec, span) = find(data, record)?;
+    if element >= span.fixed + span.variable {
+        return Err(no(16));
+    }
+    let r = &data[span.start..span.start + span.len];
+    let value = match codec {
+        0x08 => by_number::<Codec8>(r, element),
+        0x8E => by_number::<Codec8E>(r, element),
+        _ => by_number::<Codec16>(r, element),
+    };
+    placed(value, base, span)
+}
+
+fn id_in(data: &[u8], base: usize, codec: u8, span: Span, id: u16) -> Answer<Value> {
+    let r = &data[span.start..span.start + span.len];
+    let value = match codec {
+        0x08 => by_id::<Codec8>(r, id),
+        0x8E => by_id::<Codec8E>(r, id),
+        _ => by_id::<Codec16>(r, id),
+    };
+    placed(value, base, span)
+}
+
+#[inline(never)]
+pub fn record_in_packet(p: &[u8], record: usize) -> Answer<Record> {
+    record_of(frame(p)?, record)
+}
+
+#[inline(never)]
+pub fn record_in_datagram(p: &[u8], record: usize) -> Answer<Record> {
+    record_of(datagram(p)?.1, record)
+}
+
+#[inline(never)]
+pub fn value_in_packet(p: &[u8], record: usize, element: usize) -> Answer<Value> {
+    value_of(frame(p)?, 8, record, element)
+}
+
+#[inline(never)]
+pub fn value_in_datagram(p: &[u8], record: usize, element: usize) -> Answer<Value> {
+    value_of(datagram(p)?.1, 23, record, element)
+}
+
+#[inline(never)]
+pub fn id_in_packet(p: &[u8], record: usize, id: u16) -> Answer<Value> {
+    let data = frame(p)?;
+    let (codec, span) = find(data, record)?;
+    id_in(data, 8, codec, span, id)
+}
+
+#[inline(never)]
+pub fn id_in_datagram(p: &[u8], record: usize, id: u16) -> Answer<Value> {
+    let data = datagram(p)?.1;
+    let (codec, span) = find(data, record)?;
+    id_in(data, 23, codec, span, id)
+}
+
+#[inline(never)]
+pub fn last_known(newer: &[u8], older: &[u8], id: u16) -> Answer<(bool, Value)> {
+    let data = frame(newer)?;
+    let (codec, span) = find_last(data)?;
+    if let Ok(v) = id_in(data, 8, codec, span, id) {
+        return Ok((false, v));
+    }
+    let data = frame(older)?;
+    let (codec, span) = find_last(data)?;
+    Ok((true, id_in(data, 8, codec, span, id)?))
+}
+
+// ---- TLV forms
+
+/// The entries of one fixed group.
+fn entries<const SIZE: usize>(pairs: &[u8], id: usize, out: &mut [u8]) {
+    for (e, p) in out.chunks_exact_mut(6 + SIZE).zip(pairs.chunks_exact(id + SIZE)) {
+        e[..4].copy_from_slice(&[2 + SIZE as u8, 0, SIZE as u8, 0]);
+        e[4] = p[id - 1];
+        e[5] = if id == 2 { p[0] } else { 0 };
+        e[6..].copy_from_slice(&p[id..]);
+    }
+}
+
+/// The form of the judged record at the start of `r`; gives the lengths of the record and of its form.
+fn form_of_record<C: Codec>(r: &[u8], out: &mut [u8]) -> Option<(usize, usize)> {
+    let f = fields::<C>(r, 0)?;
+    let e = out.first_chunk_mut::<31>()?;
+    e[..4].copy_from_slice(&[27, 0, 101, 0]);
+    e[4..12].copy_from_slice(&f.timestamp.to_le_bytes());
+    e[12] = f.priority;
+    e[13..17].copy_from_slice(&f.longitude.to_le_bytes());
+    e[17..21].copy_from_slice(&f.latitude.to_le_bytes());
+    e[21..23].copy_from_slice(&f.altitude.to_le_bytes());
+    e[23..25].copy_from_slice(&f.angle.to_le_bytes());
+    e[25] = f.satellites;
+    e[26..28].copy_from_slice(&f.speed.to_le_bytes());
+    e[28..30].copy_from_slice(&f.event.to_le_bytes());
+    e[30] = f.generation;
+    let (mut at, mut to) = (C::GROUPS, 31);
+    for size in [1, 2, 4, 8] {
+        let count = number(r, at, C::COUNT)?;
+        at += C::COUNT;
+        let pairs = r.get(at..at + count * (C::ID + size))?;
+        let here = out.get_mut(to..to + count * (6 + size))?;
+        at += pairs.len();
+        to += here.len();
+        match size {
+            1 => entries::<1>(pairs, C::ID, here),
+            2 => entries::<2>(pairs, C::ID, here),
+            4 => entries::<4>(pairs, C::ID, here),
+            _ => entries::<8>(pairs, C::ID, here),
+        }
+    }
+    if C::VARIABLE {
+        let count = number(r, at, C::COUNT)?;
+        at += C::COUNT;
+        for _ in 0..count {
+            let id = number(r, at, C::ID)? as u16;
+            let size = number(r, at + C::ID, 2)?;
+            at += C::ID + 2;
+            let e = out.get_mut(to..to + 6 + size)?;
+            e[..2].copy_from_slice(&(2 + size as u16).to_le_bytes());
+            e[2..4].copy_from_slice(&[9, 0]);
+            e[4..6].copy_from_slice(&id.to_le_bytes());
+            e[6..].copy_from_slice(r.get(at..at + size)?);
+            at += size;
+            to += 6 + size;
+        }
+    }
+    Some((at, to))
+}
+
+fn form_write<C: Codec>(data: &[u8], sum: Span, out: &mut [u8]) -> Answer<usize> {
+    let count = usize::from(data[1]);
+    let total = 5 + 31 * count + (sum.len - C::LEAST * count) + sum.fixed * (6 - C::ID) + sum.variable * (4 - C::ID);
+    let Some(out) = out.get_mut(..total) else {
+        return Err(no(18));
+    };
+    out[..5].copy_from_slice(&[1, 0, 100, 0, data[0]]);
+    let (mut at, mut to) = (2, 5);
+    for _ in 0..count {
+        // a judged record is whole and its form has room
+        let Some((read, written)) = form_of_record::<C>(&data[at..], &mut out[to..]) else { break };
+        at += read;
+        to += written;
+    }
+    Ok(total)
+}
+
+fn form_of(data: &[u8], out: &mut [u8]) -> Answer<usize> {
+    let mut sum = Span { start: 0, len: 0, fixed: 0, variable: 0 };
+    let packet = judge(data, |_, s| {
+        sum.len += s.len;
+        sum.fixed += s.fixed;
+        sum.variable += s.variable;
+    })?;
+    match packet.codec {
+        0x08 => form_write::<Codec8>(data, sum, out),
+        0x8E => form_write::<Codec8E>(data, sum, out),
+        _ => form_write::<Codec16>(data, sum, out),
+    }
+}
+
+#[inline(never)]
+pub fn form_of_packet(p: &[u8], out: &mut [u8]) -> Answer<usize> {
+    form_of(frame(p)?, out)
+}
+
+#[inline(never)]
+pub fn form_of_datagram(p: &[u8], out: &mut [u8]) -> Answer<usize> {
+    form_of(datagram(p)?.1, out)
+}
+
+fn le16(b: &[u8], at: usize) -> Option<usize> {
+    let b = b.get(at..at + 2)?;
+    Some(usize::from(u16::from_le_bytes([b[0], b[1]])))
+}
+
+/// The entry at `at`: its kind and body.
+fn entry(form: &[u8], at: usize) -> Option<(usize, &[u8])> {
+    let len = le16(form, at)?;
+    let kind = le16(form, at + 2)?;
+    Some((kind, form.get(at + 4..at + 4 + len)?))
+}
+
+/// Judges the entries after the first; gives the number of records and the length of the data field.
+fn judge_form<C: Codec>(form: &[u8]) -> Option<(u8, usize)> {
+    let mut records = 0;
+    let mut length = 3;
+    let mut record = 0;
+    let mut group = 0;
+    let mut at = 5;
+    while at < form.len() {
+        let (kind, body) = entry(form, at)?;
+        at += 4 + body.len();
+        if kind == 101 {
+            let body: &[u8; 27] = body.try_into().ok()?;
+            if body[8] > 2 || C::EVENT == 1 && body[25] != 0 || body[26] > if C::GENERATION == 1 { 7 } else { 0 } {
+                return None;
+            }
+            records += 1;
+            length += record;
+            record = C::LEAST;
+            group = 1;
+        } else {
+            if kind < group || group == 0 || C::ID == 1 && *body.get(1)? != 0 {
+                return None;
+            }
+            match kind {
+                1 | 2 | 4 | 8 if body.len() == 2 + kind => record += C::ID + kind,
+                9 if C::VARIABLE && body.len() >= 2 => record += C::ID + body.len(),
+                _ => return None,
+            }
+            group = kind;
+        }
+        if record > 255 || length + record > 1268 {
+            return None;
+        }
+    }
+    if records == 0 {
+        return None;
+    }
+    // a record has at least 30 bytes, so there are at most 42
+    Some((records as u8, length + record))
+}
+
+/// Puts a number of one or two bytes, big-endian.
+fn put(out: &mut [u8], at: usize, width: usize, n: usize) {
+    if width == 1 {
+        out[at] = n as u8;
+    } else {
+        out[at..at + 2].copy_from_slice(&(n as u16).to_be_bytes());
+    }
+}
+
+/// Copies a number, the order of its bytes turned round.
+fn turn<const SIZE: usize>(from: &[u8], to: &mut [u8]) {
+    for i in 0..SIZE {
+        to[i] = from[SIZE - 1 - i];
+    }
+}
+
+/// The records of a judged form into the space between the counts.
+fn packet_write<C: Codec>(form: &[u8], out: &mut [u8]) -> Option<()> {
+    let mut at = 5;
+    let mut to = 0;
+    while at < form.len() {
+        let f = form.get(at + 4..at + 31)?;
+        at += 31;
+        let r = out.get_mut(to..to + C::GROUPS)?;
+        turn::<8>(&f[0..8], &mut r[0..8]);
+        r[8] = f[8];
+        turn::<4>(&f[9..13], &mut r[9..13]);
+        turn::<4>(&f[13..17], &mut r[13..17]);
+        turn::<2>(&f[17..19], &mut r[17..19]);
+        turn::<2>(&f[19..21], &mut r[19..21]);
+        r[21] = f[21];
+        turn::<2>(&f[22..24], &mut r[22..24]);
+        put(r, 24, C::EVENT, le16(f, 24)?);
+        if C::GENERATION == 1 {
+            r[24 + C::EVENT] = f[26];
+        }
+        let total_at = to + C::GROUPS - C::COUNT;
+        to += C::GROUPS;
+        let mut total = 0;
+        for size in [1, 2, 4, 8] {
+            let count_at = to;
+            to += C::COUNT;
+            let mut count = 0;
+            while le16(form, at + 2) == Some(size) {
+                let e = form.get(at + 4..at + 6 + size)?;
+                let pair = out.get_mut(to..to + C::ID + size)?;
+                put(pair, 0, C::ID, le16(e, 0)?);
+                pair[C::ID..].copy_from_slice(&e[2..]);
+                count += 1;
+                at += 6 + size;
+                to += C::ID + size;
+            }
+            put(out, count_at, C::COUNT, count);
+            total += count;
+        }
+        put(out, total_at, C::COUNT, total);
+        if C::VARIABLE {
+            let count_at = to;
+            to += C::COUNT;
+            let mut count = 0;
+            while let Some((9, e)) = entry(form, at) {
+                let size = e.len() - 2;
+                put(out, to, C::ID, le16(e, 0)?);
+                put(out, to + C::ID, 2, size);
+                to += C::ID + 2;
+                out.get_mut(to..to + size)?.copy_from_slice(&e[2..]);
+                count += 1;
+                at += 6 + size;
+                to += size;
+            }
+            put(out, count_at, C::COUNT, count);
+        }
+    }
+    Some(())
+}
+
+#[inline(never)]
+pub fn packet_of_form(form: &[u8], out: &mut [u8]) -> Answer<usize> {
+    let Some(&[1, 0, 100, 0, codec]) = form.first_chunk::<5>() else {
+        return Err(no(17));
+    };
+    let judged = match codec {
+        0x08 => judge_form::<Codec8>(form),
+        0x8E => judge_form::<Codec8E>(form),
+        0x10 => judge_form::<Codec16>(form),
+        _ => None,
+    };
+    let Some((records, length)) = judged else {
+        return Err(no(17));
+    };
+    let Some(out) = out.get_mut(..length + 12) else {
+        return Err(no(18));
+    };
+    out[..4].fill(0);
+    out[4..8].copy_from_slice(&(length as u32).to_be_bytes());
+    let (data, field) = out[8..].split_at_mut(length);
+    data[0] = codec;
+    data[1] = records;
+    data[length - 1] = records;
+    let space = &mut data[2..length - 1];
+    // a judged form has all its bytes, and its packet has room
+    let _ = match codec {
+        0x08 => packet_write::<Codec8>(form, space),
+        0x8E => packet_write::<Codec8E>(form, space),
+        _ => packet_write::<Codec16>(form, space),
+    };
+    field.copy_from_slice(&u32::from(crc(data)).to_be_bytes());
+    Ok(length + 12)
+}

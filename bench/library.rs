@@ -1,0 +1,119 @@
+//! The library's C calls, and the hand-written answers in the same shape.
+
+use crate::hand::{self, Answer};
+
+macro_rules! answer {
+    ($name:ident { $($field:ident: $type:ty),* }) => {
+        #[repr(C)]
+        #[derive(Clone, Copy, Debug, Default, PartialEq, Eq)]
+        pub struct $name {
+            pub number: u8,
+            pub index: usize,
+            $(pub $field: $type),*
+        }
+    };
+}
+
+answer!(Written { written: usize });
+answer!(Packet { codec: u8, count: u8 });
+answer!(Datagram { codec: u8, count: u8, packet_id: u16, unused: u8, avl_packet_id: u8, imei: u64 });
+answer!(Login { imei: u64 });
+answer!(Command { codec: u8, kind: u8, imei: u64, offset: usize, size: usize });
+answer!(Record {
+    timestamp: u64,
+    priority: u8,
+    longitude: i32,
+    latitude: i32,
+    altitude: i16,
+    angle: u16,
+    satellites: u8,
+    speed: u16,
+    event: u16,
+    generation: u8,
+    elements: usize
+});
+answer!(Value { id: u16, kind: u8, offset: usize, size: usize });
+answer!(Known { older: bool, id: u16, kind: u8, offset: usize, size: usize });
+
+/// Safe wrappers of C calls that take byte strings, then other values, then perhaps a buffer.
+macro_rules! calls {
+    ($($cfg:meta: $name:ident = $symbol:ident($($arg:ident: $type:tt),*) -> $answer:ty;)*) => {
+        $(calls!(@one $cfg, $name, $symbol, $answer, [$($arg: $type),*], [], [], []);)*
+    };
+    (@one $cfg:meta, $name:ident, $symbol:ident, $answer:ty, [], [$($p:tt)*], [$($c:tt)*], [$($v:tt)*]) => {
+        #[cfg($cfg)]
+        #[inline(always)]
+        pub fn $name($($p)*) -> $answer {
+            unsafe extern "C" {
+                fn $symbol($($c)*) -> $answer;
+            }
+            unsafe { $symbol($($v)*) }
+        }
+    };
+    (@one $cfg:meta, $n:ident, $s:ident, $a:ty, [$arg:ident: bytes $(, $($more:tt)*)?], [$($p:tt)*], [$($c:tt)*], [$($v:tt)*]) => {
+        calls!(@one $cfg, $n, $s, $a, [$($($more)*)?], [$($p)* $arg: &[u8],], [$($c)* $arg: *const u8, _: usize,],
+            [$($v)* $arg.as_ptr(), $arg.len(),]);
+    };
+    (@one $cfg:meta, $n:ident, $s:ident, $a:ty, [$arg:ident: buffer $(, $($more:tt)*)?], [$($p:tt)*], [$($c:tt)*], [$($v:tt)*]) => {
+        calls!(@one $cfg, $n, $s, $a, [$($($more)*)?], [$($p)* $arg: &mut [u8],], [$($c)* $arg: *mut u8, _: usize,],
+            [$($v)* $arg.as_mut_ptr(), $arg.len(),]);
+    };
+    (@one $cfg:meta, $n:ident, $s:ident, $a:ty, [$arg:ident: $type:tt $(, $($more:tt)*)?], [$($p:tt)*], [$($c:tt)*], [$($v:tt)*]) => {
+        calls!(@one $cfg, $n, $s, $a, [$($($more)*)?], [$($p)* $arg: $type,], [$($c)* $arg: $type,], [$($v)* $arg,]);
+    };
+}
+
+calls! {
+    all(): read_packet = brundilope_read_packet(p: bytes) -> Packet;
+    all(): read_datagram = brundilope_read_datagram(p: bytes) -> Datagram;
+    all(): read_login = brundilope_read_login(p: bytes) -> Login;
+    all(): read_command = brundilope_read_command(p: bytes) -> Command;
+    all(): answer_login = brundilope_answer_login(p: bytes, known: bool, out: buffer) -> Written;
+    all(): acknowledge_packet = brundilope_acknowledge_packet(p: bytes, out: buffer) -> Written;
+    all(): acknowledge_datagram = brundilope_acknowledge_datagram(p: bytes, out: buffer) -> Written;
+    all(): write_command = brundilope_write_command(codec: u8, kind: u8, imei: bytes, text: bytes, out: buffer) -> Written;
+    lookups: record_in_packet = brundilope_record_in_packet(p: bytes, record: usize) -> Record;
+    lookups: record_in_datagram = brundilope_record_in_datagram(p: bytes, record: usize) -> Record;
+    lookups: value_in_packet = brundilope_value_in_packet(p: bytes, record: usize, element: usize) -> Value;
+    lookups: value_in_datagram = brundilope_value_in_datagram(p: bytes, record: usize, element: usize) -> Value;
+    lookups: id_in_packet = brundilope_id_in_packet(p: bytes, record: usize, id: u16) -> Value;
+    lookups: id_in_datagram = brundilope_id_in_datagram(p: bytes, record: usize, id: u16) -> Value;
+    lookups: last_known = brundilope_last_known(newer: bytes, older: bytes, id: u16) -> Known;
+    forms: form_of_packet = brundilope_form_of_packet(p: bytes, out: buffer) -> Written;
+    forms: form_of_datagram = brundilope_form_of_datagram(p: bytes, out: buffer) -> Written;
+    forms: packet_of_form = brundilope_packet_of_form(form: bytes, out: buffer) -> Written;
+}
+
+/// A hand-written answer as the library would give it.
+macro_rules! shape {
+    ($from:ty, $value:ident => $answer:ident { $($field:ident: $e:expr),* }) => {
+        impl From<Answer<$from>> for $answer {
+            fn from(a: Answer<$from>) -> Self {
+                match a {
+                    Ok($value) => $answer { number: 0, index: 0, $($field: $e),* },
+                    Err(r) => $answer { number: r.number, index: r.index, ..Default::default() },
+                }
+            }
+        }
+    };
+}
+
+shape!(usize, n => Written { written: n });
+shape!(hand::Packet, a => Packet { codec: a.codec, count: a.count });
+shape!(hand::Datagram, a => Datagram {
+    codec: a.codec, count: a.count, packet_id: a.packet_id, unused: a.unused, avl_packet_id: a.avl_packet_id,
+    imei: a.imei
+});
+shape!(u64, imei => Login { imei: imei });
+shape!(hand::Command, a => Command {
+    codec: a.codec, kind: a.kind, imei: a.imei, offset: a.offset, size: a.size
+});
+shape!(hand::Record, a => Record {
+    timestamp: a.timestamp, priority: a.priority, longitude: a.longitude, latitude: a.latitude, altitude: a.altitude,
+    angle: a.angle, satellites: a.satellites, speed: a.speed, event: a.event, generation: a.generation,
+    elements: a.elements
+});
+shape!(hand::Value, a => Value { id: a.id, kind: a.kind, offset: a.offset, size: a.size });
+shape!((bool, hand::Value), a => Known {
+    older: a.0, id: a.1.id, kind: a.1.kind, offset: a.1.offset, size: a.1.size
+});

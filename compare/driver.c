@@ -1,0 +1,171 @@
+/* Answers calls from standard input, one a line, as reference/reference.py does: the library's side of the comparison. */
+#include <inttypes.h>
+#include <stdio.h>
+#include <stdlib.h>
+#include <string.h>
+
+#include "brundilope.h"
+
+enum { MOST_WORDS = 8 };
+
+struct bytes {
+    uint8_t *at;
+    size_t size;
+};
+
+static int digit(char c) {
+    if ('0' <= c && c <= '9') return c - '0';
+    if ('a' <= c && c <= 'f') return c - 'a' + 10;
+    return -1;
+}
+
+/* A word of hexadecimal, '-' for no bytes. Every byte string has a block of its own, so that a tool sees a read past it. */
+static struct bytes bytes_of(const char *word) {
+    struct bytes b = {NULL, 0};
+    if (strcmp(word, "-") == 0) return b;
+    b.size = strlen(word) / 2;
+    b.at = malloc(b.size ? b.size : 1);
+    if (!b.at) exit(2);
+    for (size_t i = 0; i < b.size; i++) {
+        int high = digit(word[2 * i]), low = digit(word[2 * i + 1]);
+        if (high < 0 || low < 0) exit(2);
+        b.at[i] = (uint8_t)(high * 16 + low);
+    }
+    return b;
+}
+
+static void print_bytes(const uint8_t *at, size_t size) {
+    if (size == 0) putchar('-');
+    for (size_t i = 0; i < size; i++) printf("%02x", at[i]);
+}
+
+static void refused(uint8_t number, size_t index) { printf("refused %u %zu", number, index); }
+
+static void written(struct brundilope_written w, struct bytes out) {
+    if (w.number) refused(w.number, w.index);
+    else printf("written %zu", w.written);
+    putchar(' ');
+    print_bytes(out.at, out.size);
+}
+
+static void value(struct brundilope_value v) {
+    if (v.number) refused(v.number, v.index);
+    else printf("accepted %u %u %zu %zu", v.id, v.kind, v.offset, v.size);
+}
+
+static void view(struct bytes p, uint8_t number, size_t offset, size_t size) {
+    printf("bytes ");
+    print_bytes(p.at + (number ? 0 : offset), number ? 0 : size);
+}
+
+static void record(struct brundilope_record r) {
+    if (r.number) refused(r.number, r.index);
+    else
+        printf("accepted %" PRIu64 " %u %" PRId32 " %" PRId32 " %d %u %u %u %u %u %zu", r.timestamp, r.priority, r.longitude, r.latitude,
+               r.altitude, r.angle, r.satellites, r.speed, r.event, r.generation, r.elements);
+}
+
+static size_t number(const char *word) { return (size_t)strtoull(word, NULL, 10); }
+
+/* The calls on one packet or datagram. */
+static int on_input(const char *call, struct bytes p, char **w) {
+    if (!strcmp(call, "read_packet")) {
+        struct brundilope_packet r = brundilope_read_packet(p.at, p.size);
+        if (r.number) refused(r.number, r.index);
+        else printf("accepted %u %u", r.codec, r.count);
+    } else if (!strcmp(call, "read_datagram")) {
+        struct brundilope_datagram r = brundilope_read_datagram(p.at, p.size);
+        if (r.number) refused(r.number, r.index);
+        else printf("accepted %u %u %" PRIu64 " %u %u %u", r.codec, r.count, r.imei, r.packet_id, r.unused, r.avl_packet_id);
+    } else if (!strcmp(call, "read_login")) {
+        struct brundilope_login r = brundilope_read_login(p.at, p.size);
+        if (r.number) refused(r.number, r.index);
+        else printf("accepted %" PRIu64, r.imei);
+    } else if (!strcmp(call, "read_command")) {
+        struct brundilope_command r = brundilope_read_command(p.at, p.size);
+        if (r.number) refused(r.number, r.index);
+        else printf("accepted %u %u %" PRIu64 " %zu %zu", r.codec, r.type, r.imei, r.offset, r.size);
+    } else if (!strcmp(call, "command_text")) {
+        struct brundilope_command r = brundilope_read_command(p.at, p.size);
+        view(p, r.number, r.offset, r.size);
+    } else if (!strcmp(call, "record_in_packet")) record(brundilope_record_in_packet(p.at, p.size, number(w[2])));
+    else if (!strcmp(call, "record_in_datagram")) record(brundilope_record_in_datagram(p.at, p.size, number(w[2])));
+    else if (!strcmp(call, "value_in_packet")) value(brundilope_value_in_packet(p.at, p.size, number(w[2]), number(w[3])));
+    else if (!strcmp(call, "value_in_datagram")) value(brundilope_value_in_datagram(p.at, p.size, number(w[2]), number(w[3])));
+    else if (!strcmp(call, "id_in_packet")) value(brundilope_id_in_packet(p.at, p.size, number(w[2]), (uint16_t)number(w[3])));
+    else if (!strcmp(call, "id_in_datagram")) value(brundilope_id_in_datagram(p.at, p.size, number(w[2]), (uint16_t)number(w[3])));
+    else return 0;
+    return 1;
+}
+
+static int on_view(const char *call, struct bytes p, char **w) {
+    struct brundilope_value v;
+    if (!strcmp(call, "view_in_packet")) v = brundilope_value_in_packet(p.at, p.size, number(w[2]), number(w[3]));
+    else if (!strcmp(call, "view_in_datagram")) v = brundilope_value_in_datagram(p.at, p.size, number(w[2]), number(w[3]));
+    else if (!strcmp(call, "id_view_in_packet")) v = brundilope_id_in_packet(p.at, p.size, number(w[2]), (uint16_t)number(w[3]));
+    else if (!strcmp(call, "id_view_in_datagram")) v = brundilope_id_in_datagram(p.at, p.size, number(w[2]), (uint16_t)number(w[3]));
+    else return 0;
+    view(p, v.number, v.offset, v.size);
+    return 1;
+}
+
+/* The calls that write into the buffer of their last word. */
+static int on_buffer(const char *call, struct bytes p, char **w) {
+    int last = !strcmp(call, "write_command") ? 5 : !strcmp(call, "answer_login") ? 3 : 2;
+    if (!w[last]) return 0;
+    struct bytes out = bytes_of(w[last]);
+    if (!strcmp(call, "acknowledge_packet")) written(brundilope_acknowledge_packet(p.at, p.size, out.at, out.size), out);
+    else if (!strcmp(call, "acknowledge_datagram")) written(brundilope_acknowledge_datagram(p.at, p.size, out.at, out.size), out);
+    else if (!strcmp(call, "form_of_packet")) written(brundilope_form_of_packet(p.at, p.size, out.at, out.size), out);
+    else if (!strcmp(call, "form_of_datagram")) written(brundilope_form_of_datagram(p.at, p.size, out.at, out.size), out);
+    else if (!strcmp(call, "packet_of_form")) written(brundilope_packet_of_form(p.at, p.size, out.at, out.size), out);
+    else if (!strcmp(call, "answer_login")) written(brundilope_answer_login(p.at, p.size, number(w[2]) != 0, out.at, out.size), out);
+    else {
+        free(out.at);
+        return 0;
+    }
+    free(out.at);
+    return 1;
+}
+
+static void write_command(char **w) {
+    struct bytes imei = bytes_of(w[3]), text = bytes_of(w[4]), out = bytes_of(w[5]);
+    written(brundilope_write_command((uint8_t)number(w[1]), (uint8_t)number(w[2]), imei.at, imei.size, text.at, text.size, out.at, out.size), out);
+    free(imei.at);
+    free(text.at);
+    free(out.at);
+}
+
+static void last_known(char **w, int as_view) {
+    struct bytes newer = bytes_of(w[1]), older = bytes_of(w[2]);
+    struct brundilope_known k = brundilope_last_known(newer.at, newer.size, older.at, older.size, (uint16_t)number(w[3]));
+    if (as_view) view(k.older ? older : newer, k.number, k.offset, k.size);
+    else if (k.number) refused(k.number, k.index);
+    else printf("accepted %d %u %u %zu %zu", k.older, k.id, k.kind, k.offset, k.size);
+    free(newer.at);
+    free(older.at);
+}
+
+static void answer(char *line) {
+    char *w[MOST_WORDS] = {0};
+    int n = 0;
+    for (char *t = strtok(line, " \n"); t && n < MOST_WORDS; t = strtok(NULL, " \n")) w[n++] = t;
+    if (n < 2) printf("error no call");
+    else if (!strcmp(w[0], "write_command") && n == 6) write_command(w);
+    else if (!strcmp(w[0], "last_known") && n == 4) last_known(w, 0);
+    else if (!strcmp(w[0], "last_known_view") && n == 4) last_known(w, 1);
+    else {
+        struct bytes p = bytes_of(w[1]);
+        if (!on_input(w[0], p, w) && !on_view(w[0], p, w) && !on_buffer(w[0], p, w)) printf("error unknown call");
+        free(p.at);
+    }
+    putchar('\n');
+}
+
+int main(void) {
+    char *line = NULL;
+    size_t room = 0;
+    while (getline(&line, &room, stdin) > 0) answer(line);
+    free(line);
+    return 0;
+}

@@ -1,0 +1,863 @@
+#!/usr/bin/env python3
+"""Call lines for the comparison, valid and damaged.
+
+    python3 generate.py COUNT SEED
+
+The inputs are built here; of the reference only its checksum is used.
+Most damage is done before the CRC is put on, so that it reaches the rule it is
+aimed at. An aim is the number of a refusal, or 0 for any damage; an input with
+no aims is valid. With several aims the order of the rules decides, and damage
+may also miss its aim.
+"""
+
+import random
+import sys
+
+sys.dont_write_bytecode = True
+
+from reference import crc16
+
+PACKET_LIMIT = 1280
+RECORD_LIMIT = 255
+CODECS = (0x08, 0x8E, 0x10)
+OTHER_CODECS = (0x00, 0x07, 0x09, 0x0C, 0x0D, 0x0E, 0x0F, 0x11, 0x80, 0x8D, 0x8F, 0xFF)
+
+# Codec: bytes of event ID, generation type, count, ID; least record.
+WIDTHS = {0x08: (1, 0, 1, 1), 0x8E: (2, 0, 2, 2), 0x10: (2, 1, 1, 2)}
+LEAST = {0x08: 30, 0x8E: 38, 0x10: 32}
+KINDS = (1, 2, 4, 8, 9)
+
+# The aims of damage; those that are missed more often stand here twice.
+TCP_AIMS = (1, 2, 3, 4, 5, 6, 7, 8, 8, 9, 9, 10, 11, 12, 12)
+UDP_AIMS = (1, 3, 4, 6, 7, 8, 8, 9, 9, 10, 11, 12, 12, 15)
+COMMAND_AIMS = (1, 2, 3, 4, 5, 6, 7, 8, 13, 14, 14, 15)
+IDS = (0, 1, 2, 3, 21, 66, 127, 128, 239, 241, 255, 256, 257, 277, 10500, 32768, 65535)
+
+
+def reachable(codec):
+    """reach[n]: can elements of this codec have n bytes together?"""
+    ident = WIDTHS[codec][3]
+    reach = [True] + [False] * 1500
+    for size in range(1, 1501):
+        steps = [ident + kind for kind in KINDS[:4]]
+        reach[size] = any(step <= size and reach[size - step] for step in steps)
+        if codec == 0x8E and size >= 4:
+            reach[size] = True
+    return reach
+
+
+REACH = {codec: reachable(codec) for codec in CODECS}
+
+
+def number(value, width):
+    """Big-endian, cut to its width."""
+    return (value & ((1 << 8 * width) - 1)).to_bytes(width, "big")
+
+
+def little(value, width):
+    return (value & ((1 << 8 * width) - 1)).to_bytes(width, "little")
+
+
+def shown(data):
+    return bytes(data).hex() or "-"
+
+
+class Record:
+    """A record's fields. Total, counts and lengths say what is written in place
+    of the right number; counts go by group, lengths by place in the last group."""
+
+    def __init__(self, time, priority, place, event, generation, groups):
+        self.time = time                # 8 bytes
+        self.priority = priority
+        self.place = place              # longitude to speed, 15 bytes
+        self.event = event
+        self.generation = generation
+        self.groups = groups            # five lists of (ID, value)
+        self.total = None
+        self.counts = {}
+        self.lengths = {}
+
+    def fixed(self):
+        return sum(len(group) for group in self.groups[:4])
+
+    def ids(self):
+        return [ident for group in self.groups for ident, _ in group]
+
+    def encode(self, codec):
+        event, generation, count, ident = WIDTHS[codec]
+        parts = [self.time, number(self.priority, 1), self.place, number(self.event, event)]
+        if generation:
+            parts.append(number(self.generation, 1))
+        parts.append(number(self.fixed() if self.total is None else self.total, count))
+        for place in range(5 if codec == 0x8E else 4):
+            group = self.groups[place]
+            parts.append(number(self.counts.get(place, len(group)), count))
+            for item, (name, value) in enumerate(group):
+                parts.append(number(name, ident))
+                if place == 4:
+                    parts.append(number(self.lengths.get(item, len(value)), 2))
+                parts.append(value)
+        return b"".join(parts)
+
+
+class Maker:
+    def __init__(self, seed):
+        self.rng = random.Random(seed)
+
+    # ------------------------------------------------------------ small choices
+
+    def chance(self, share):
+        return self.rng.random() < share
+
+    def pick(self, items):
+        return items[int(self.rng.random() * len(items))]
+
+    def upto(self, bound):
+        """0 to bound - 1."""
+        return int(self.rng.random() * bound)
+
+    def bytes(self, size):
+        style = self.rng.random()
+        if style < 0.8:
+            return self.rng.randbytes(size)
+        return bytes([self.pick((0x00, 0x00, 0xFF, 0x01, 0x30))]) * size
+
+    def digits(self):
+        return bytes(0x30 + self.upto(10) for _ in range(15))
+
+    def wrong_digit(self, imei):
+        imei = bytearray(imei)
+        imei[self.upto(15)] = self.pick((0x00, 0x09, 0x20, 0x2F, 0x3A, 0x41, 0x61, 0xB5, 0xFF))
+        return bytes(imei)
+
+    def wrong_imei(self, imei):
+        """A login's bytes with a wrong length, a wrong digit, or both."""
+        style = self.rng.random()
+        if style < 0.5:
+            imei = self.pick((b"\x00\x00", b"\x00\x0e", b"\x00\x10", b"\x00\x11", b"\x0f\x00", b"\x01\x0f",
+                              b"\x80\x0f", b"\xff\xff")) + imei[2:]
+        if style > 0.4:
+            imei = imei[:2] + self.wrong_digit(imei[2:])
+        return imei
+
+    def buffer(self, size):
+        """A lent buffer for a result of this size."""
+        style = self.rng.random()
+        if style < 0.06:
+            room = 0
+        elif style < 0.16:
+            room = max(size - 1, 0)
+        elif style < 0.24:
+            room = self.upto(size + 1)
+        elif style < 0.55:
+            room = size
+        elif style < 0.70:
+            room = size + 1
+        elif style < 0.94:
+            room = size + 1 + self.upto(64)
+        elif style < 0.995:
+            room = size + self.upto(1400)
+        else:
+            room = self.pick((5000, 65536))
+        return self.bytes(room)
+
+    def beyond(self, bound):
+        """A number from bound on, some of them within it in fewer bits."""
+        inside = self.upto(bound) if bound else 0
+        return max(bound, self.pick((
+            bound, bound, bound, bound + 1, 255, 256, 65535, 65536, 256 + inside, 65536 + inside,
+            (1 << 31) + inside, (1 << 32) - 1, (1 << 32) + inside, (1 << 63) + inside,
+            (1 << 64) - 1, (1 << 64) - 1 - inside)))
+
+    def numbered(self, bound):
+        """A number below bound in most cases."""
+        if bound and self.chance(0.85):
+            return self.upto(bound)
+        return self.beyond(bound)
+
+    # ------------------------------------------------------------ records
+
+    def ident(self, codec):
+        ident = self.pick(IDS) if self.chance(0.7) else self.upto(65536)
+        return ident & 0xFF if codec == 0x08 else ident
+
+    def groups_of(self, codec, room):
+        """Groups whose elements have room bytes together, or a little less."""
+        reach = REACH[codec]
+        width = WIDTHS[codec][3]
+        while not reach[room]:
+            room -= 1
+        groups = [[], [], [], [], []]
+        style = self.pick((5, 5, 5, 4, 3, 2, 1))    # how many of the groups are used
+        while room:
+            place = self.upto(style)
+            if place == 4 and codec != 0x8E:
+                place = self.upto(4)
+            if place < 4:
+                size = KINDS[place]
+                used = width + size
+                if used > room or not reach[room - used]:
+                    place = self.upto(5 if codec == 0x8E else 4)
+                    size = KINDS[place]
+                    used = width + size
+            if place == 4:
+                size = self.pick((0, 0, 1, 2, 3, 4, 7, 8, 15, 16, 40, 200, room - 4, room - 4))
+                used = 4 + size
+            if size < 0 or used > room or not reach[room - used]:
+                continue
+            groups[place].append((self.ident(codec), self.bytes(size)))
+            room -= used
+        return groups
+
+    def record(self, codec, size=None):
+        """A valid record, of this size if given and if there is such a one."""
+        rng = self.rng
+        if size is None:
+            groups = [[(self.ident(codec), self.bytes(kind)) for _ in range(self.pick((0, 0, 1, 1, 2, 3)))]
+                      for kind in KINDS[:4]]
+            groups.append([(self.ident(codec), self.bytes(self.pick((0, 0, 1, 2, 5, 8, 17))))
+                           for _ in range(self.pick((0, 1, 1, 2, 3)) if codec == 0x8E else 0)])
+        else:
+            groups = self.groups_of(codec, size - LEAST[codec])
+        event = self.pick((0, 0, 1, 239, 255, 256, 65535, self.upto(65536)))
+        if codec == 0x08:
+            event &= 0xFF
+        return Record(self.bytes(8), self.upto(3), rng.randbytes(15) if self.chance(0.8) else self.bytes(15),
+                      event, self.upto(8) if codec == 0x10 else 0, groups)
+
+    def size(self, codec):
+        """A record size: anything up to the limit, often close to it."""
+        if self.chance(0.5):
+            return self.pick((250, 252, 253, 254, 255, 255, 255))
+        return LEAST[codec] + self.upto(RECORD_LIMIT - LEAST[codec] + 1)
+
+    def filled(self, codec, room):
+        """Records of room bytes together, or a little less."""
+        least = LEAST[codec]
+        small = self.pick((0, 0, 1, 8))        # records close to the least size
+        records = []
+        while room >= least:
+            if room < 2 * least or (room <= RECORD_LIMIT and not small and self.chance(0.5)):
+                size = room
+            else:
+                size = least + self.upto(small) if small else self.size(codec)
+                size = min(size, room - least)
+            records.append(self.record(codec, max(size, least)))
+            room -= len(records[-1].encode(codec))
+        return records
+
+    def records(self, codec, room):
+        """The records of a valid packet, at most room bytes."""
+        style = self.rng.random()
+        if style < 0.72:
+            records = [self.record(codec) for _ in range(self.pick((1, 1, 2, 2, 3, 3, 4, 5, 6)))]
+        elif style < 0.86:
+            records = [self.record(codec, self.size(codec)) for _ in range(self.pick((1, 1, 2, 3, 4)))]
+        else:
+            records = self.filled(codec, room - self.pick((0, 0, 0, 1, 2, 3, 20)))
+        return self.fitting(codec, records, room)
+
+    def fitting(self, codec, records, room, kept=0):
+        """As many of the records as fit; the one at kept is not given up."""
+        sizes = [len(record.encode(codec)) for record in records]
+        while sum(sizes) > room and len(records) > 1:
+            place = len(records) - 1 if len(records) - 1 != kept else 0
+            if place < kept:
+                kept -= 1
+            del records[place], sizes[place]
+        return records
+
+    # ------------------------------------------------------------ damage to records
+
+    def wrong_total(self, record):
+        right = record.fixed()
+        record.total = self.pick((right + 1, right - 1, right + len(record.groups[4]), right + 256,
+                                  0, 255, 65535, right + 128, self.upto(65536)))
+
+    def wrong_count(self, codec, record):
+        place = self.upto(5 if codec == 0x8E else 4)
+        right = len(record.groups[place])
+        record.counts[place] = self.pick((right + 1, right + 1, right - 1, right + 2, 0, 127, 128, 255, 256,
+                                          right + 256, 32768, 65535))
+        if self.chance(0.5) and place < 4:      # the total goes along with it
+            record.total = record.fixed() - right + record.counts[place]
+
+    def wrong_length(self, codec, records, place):
+        """A variable length that runs past its value, record, records or packet."""
+        record = records[place]
+        if not record.groups[4]:
+            record.groups[4].append((self.ident(codec), self.bytes(self.upto(6))))
+        item = self.upto(len(record.groups[4])) if self.chance(0.3) else len(record.groups[4]) - 1
+        right = len(record.groups[4][item][1])
+        after = sum(4 + len(value) for _, value in record.groups[4][item + 1:])
+        later = after + sum(len(other.encode(codec)) for other in records[place + 1:])
+        # later + 1 takes in the second count, later + 5 the CRC field
+        record.lengths[item] = right + self.pick((
+            1, 1, 2, 4, -1, self.upto(40), 256, later, later + 1, later + 1, later + 2, later + 5, later + 6,
+            (after + later) // 2, 255 - right, 32768 - right, 65535 - right, 65535 - self.upto(40)))
+
+    def long_record(self, codec, room, total=None):
+        """A record over the limit; with the total wrong if asked for."""
+        style = self.rng.random()
+        if style < 0.25 and codec != 0x8E:
+            # 256 elements or a few more, which wrap in a one-byte total
+            count = self.pick((256, 256, 257, 300 if codec == 0x08 else 260))
+            record = self.record(codec, LEAST[codec])
+            ones = self.pick((128, 100, 200))
+            for place, many in ((0, ones), (self.pick((0, 1)), min(count - ones, 255))):
+                if place == 0 and record.groups[0]:
+                    many = min(many, 255 - len(record.groups[0]))
+                record.groups[place] += [(self.ident(codec), self.bytes(KINDS[place]))
+                                         for _ in range(many)]
+            return record
+        size = self.pick((256, 256, 256, 257, 258, 260, 300, 511, 512, 256 + self.upto(700)))
+        record = self.record(codec, min(size, room))
+        if total or (total is None and self.chance(0.2)):
+            self.wrong_total(record)
+        return record
+
+    def walk_damage(self, codec, records, aim, room, place):
+        """Damages one record towards a refusal of the walk, 8 to 12."""
+        if place is None or place >= len(records):
+            place = self.upto(len(records))
+        record = records[place]
+        if aim == 8:
+            if codec == 0x8E and self.chance(0.6):
+                self.wrong_length(codec, records, self.pick((place, place, len(records) - 1)))
+            else:
+                self.wrong_count(codec, record)
+        elif aim == 9:
+            if self.chance(0.15):
+                records[place] = self.long_record(codec, room, total=True)
+            else:
+                self.wrong_total(record)
+        elif aim == 10:
+            record.priority = self.pick((3, 3, 4, 128, 255, 3 + self.upto(253)))
+        elif aim == 11:
+            record.generation = self.pick((8, 8, 9, 128, 255, 8 + self.upto(248)))
+        else:
+            records[place] = self.long_record(codec, room, total=False)
+        return self.fitting(codec, records, room, place)
+
+    def raw_damage(self, data):
+        """Damages any bytes."""
+        data = bytearray(data)
+        for _ in range(self.pick((1, 1, 1, 2, 3))):
+            style = self.upto(7)
+            place = self.upto(len(data)) if data else 0
+            if style <= 1 and data:
+                data[place] ^= 1 << self.upto(8)
+            elif style == 2 and data:
+                data[place] = self.pick((0, 1, 2, 3, 255, data[place] + 1 & 255, self.upto(256)))
+            elif style == 3:
+                del data[place:place + 1 + self.upto(4)]
+            elif style == 4:
+                data[place:place] = self.bytes(1 + self.upto(4))
+            elif style == 5:
+                del data[len(data) - 1 - self.upto(len(data) + 1):]
+            else:
+                data += self.bytes(1 + self.upto(12))
+        return bytes(data)
+
+    def data_field(self, codec, records, aims, room):
+        """A data field with damage towards 6 to 12."""
+        together = self.upto(len(records)) if self.chance(0.6) else None
+        for aim in sorted(aims):
+            if 8 <= aim <= 12:
+                records = self.walk_damage(codec, records, aim, room, together)
+        body = b"".join(record.encode(codec) for record in records)
+        first = second = len(records)
+        if 8 in aims and self.chance(0.35):
+            style = self.upto(6)
+            if style == 0:
+                first = second = min(first + self.pick((1, 1, 2, 200)), 255)
+            elif style == 1 and first > 1:
+                first = second = first - self.pick((1, 1, first - 1))
+            elif style == 2:
+                body = body[:self.upto(len(body))]
+            elif style == 3:
+                body = body[:-1 - self.upto(12)]
+            elif style == 4:
+                body += self.bytes(1 + self.upto(40))
+            else:
+                body = b""
+        if 7 in aims:
+            first, second = self.pick((
+                (0, 0), (0, second), (first, 0), (first + 1, second), (first, second + 1),
+                (first - 1, second), (first, second - 1), (255, second), (first, 255),
+                (second ^ 128, second), (self.upto(256), self.upto(256))))
+        if 6 in aims:
+            codec = self.pick(OTHER_CODECS) if self.chance(0.8) else self.upto(256)
+        ends = bytes([codec, first & 255]), bytes([second & 255])
+        if 0 in aims:
+            if self.chance(0.7):
+                body = self.raw_damage(body)
+            else:
+                return self.at_least_3(self.raw_damage(ends[0] + body + ends[1]))
+        return ends[0] + body + ends[1]
+
+    def at_least_3(self, field):
+        return field + bytes(max(3 - len(field), 0))
+
+    # ------------------------------------------------------------ TCP packets
+
+    def frame(self, field, aims, old=None):
+        """A TCP packet round a data field, with damage towards 1 to 5. Old is a
+        length to leave standing."""
+        length = len(field) if old is None else old
+        start = bytearray(4)
+        if 2 in aims:
+            for _ in range(self.pick((1, 1, 2))):
+                start[self.upto(4)] = self.pick((1, 128, 255, 1 + self.upto(255)))
+        if 3 in aims and 3 <= length <= PACKET_LIMIT - 12:
+            length = self.pick((0, 1, 2, 1269, 1270, 1280, 65535, 65536, 65536 + length,
+                                (1 << 24) + length, (1 << 31) + length, (1 << 32) - 1, (1 << 32) - 12,
+                                (1 << 32) - 8, self.rng.getrandbits(32)))
+        elif 4 in aims:
+            length += self.pick((-12, -8, -4, -1, -1, 1, 1, 4, 8, 12, self.upto(300)))
+            length = max(3, min(PACKET_LIMIT - 12, length))
+        crc = crc16(field)
+        if 5 in aims:
+            crc = self.pick((crc ^ 1 << self.upto(32), crc ^ 1 << self.upto(16), crc ^ 0x10000,
+                             crc + 1, crc << 16, crc16(number(length, 4) + field),
+                             crc | 0xFFFF0000, (crc & 255) << 8 | crc >> 8, crc16(field[:-1]), 0))
+        data = bytes(start) + number(length, 4) + field + number(crc, 4)
+        if 4 in aims and self.chance(0.5):
+            data = self.pick((data[:-1], data + b"\0", data[:8 + self.upto(len(data) - 8)],
+                              data + self.bytes(1 + self.upto(100)), data + data))
+        if 1 in aims:
+            data = data[:self.upto(8)]
+        return data
+
+    def too_long(self, codec, spare):
+        """Records that make a packet a little longer than the limit allows."""
+        over = self.pick((1, 1, 2, 3, 40, 110))
+        return self.filled(codec, PACKET_LIMIT - spare + over)
+
+    def aims(self, numbers, valid):
+        """What is to be damaged: nothing with this chance, else mostly one thing."""
+        style = self.rng.random()
+        if style < valid:
+            return set()
+        if style < valid + 0.08:
+            return {0}
+        aims = {self.pick(numbers)}
+        if self.chance(0.12):       # two rules that follow each other
+            aims.add(min([number for number in numbers if number > min(aims)], default=0))
+        while self.chance(0.25):
+            aims.add(self.pick(numbers))
+        return aims
+
+    def packet(self, valid=0.4):
+        """A TCP data packet: its bytes, codec and records."""
+        aims = self.aims(TCP_AIMS, valid)
+        codec = 0x10 if 11 in aims else self.pick(CODECS)
+        room = PACKET_LIMIT - 15
+        if 3 in aims and self.chance(0.4):
+            room = 2000
+            records = self.too_long(codec, 15)
+        else:
+            records = self.records(codec, room)
+        clean = 3 + sum(len(record.encode(codec)) for record in records)
+        field = self.data_field(codec, records, aims, room)
+        # the length is repaired in half of the cases, but more often for 8
+        left = len(field) != clean and self.chance(0.5 if 0 in aims else 0.15)
+        data = self.frame(field, aims, clean if left else None)
+        if 0 in aims and self.chance(0.25):
+            data = self.raw_damage(data)
+        return self.huge(data, 0.003), codec, records
+
+    def huge(self, data, share):
+        """Now and then, a very long input in its place."""
+        if not self.chance(share):
+            return data
+        size = self.pick((5000, 5000, 65536))
+        style = self.upto(5)
+        if style == 0:
+            return self.bytes(size)
+        if style == 1:
+            return data + bytes(max(size - len(data), 0))
+        if style == 2:
+            return number(size - 2, 2) + data[2:] + self.bytes(max(size - len(data), 0))
+        field = data[8:-4] + self.bytes(max(size - len(data), 0))
+        return bytes(4) + number(len(field), 4) + field + number(crc16(field), 4)
+
+    # ------------------------------------------------------------ datagrams
+
+    def datagram(self, valid=0.4):
+        """A UDP datagram: its bytes, codec and records."""
+        aims = self.aims(UDP_AIMS, valid)
+        codec = 0x10 if 11 in aims else self.pick(CODECS)
+        room = 2000 if 3 in aims else PACKET_LIMIT - 26
+        records = self.too_long(codec, 26) if 3 in aims else self.records(codec, room)
+        clean = 3 + sum(len(record.encode(codec)) for record in records)
+        field = self.data_field(codec, records, aims, room)
+        imei = b"\x00\x0f" + self.digits()
+        if 15 in aims:
+            imei = self.wrong_imei(imei)
+        data = self.bytes(4) + imei + field
+        length = len(data)
+        if len(field) != clean and self.chance(0.5 if 0 in aims else 0.15):
+            length += clean - len(field)
+        if 4 in aims:
+            length += self.pick((-2, -1, -1, 1, 1, 2, 256, -256, 32768, self.upto(65536)))
+        data = number(length, 2) + data
+        if 4 in aims and self.chance(0.4):
+            data = self.pick((data[:-1], data + b"\0", data + self.bytes(1 + self.upto(20)),
+                              data[:26 + self.upto(len(data) - 26)]))
+        if 1 in aims:
+            data = data[:self.pick((25, self.upto(26)))]
+            if self.chance(0.5) and len(data) >= 2:
+                data = number(len(data) - 2, 2) + data[2:]
+        if 0 in aims and self.chance(0.25):
+            data = self.raw_damage(data)
+        return self.huge(data, 0.003), codec, records
+
+    # ------------------------------------------------------------ commands, logins
+
+    def text(self, most):
+        style = self.rng.random()
+        if style < 0.15:
+            return b""
+        if style < 0.25:
+            return self.pick((b"getinfo", b"getio", b"getver", b"setparam 2001:internet"))
+        if style < 0.75:
+            return self.bytes(1 + self.upto(40))
+        if style < 0.85:
+            return self.bytes(self.upto(most + 1))
+        return self.bytes(most - self.pick((0, 0, 0, 1, 2)))
+
+    def command(self, valid=0.4):
+        """A command packet: its bytes."""
+        aims = self.aims(COMMAND_AIMS, valid)
+        codec = 0x0E if 15 in aims else self.pick((0x0C, 0x0E))
+        most = 1252 if codec == 0x0E else 1260
+        kind = self.pick((0x05, 0x06, 0x05, 0x06, 0x11) if codec == 0x0E else (0x05, 0x06))
+        text = b"" if kind == 0x11 else self.text(most)
+        if 3 in aims and self.chance(0.4):
+            text = self.bytes(most + self.pick((1, 1, 2, 50, 120)))
+        imei = bytes.fromhex("0" + self.digits().decode()) if codec == 0x0E else b""
+        if 15 in aims:
+            imei = self.wrong_packed(imei)
+        matched = True
+        if codec == 0x0E and (14 in aims and self.chance(0.3) or 15 in aims and self.chance(0.2)):
+            kind = 0x11
+            text = text or self.bytes(self.pick((1, 8, 1 + self.upto(9))))
+            matched = False
+        body = imei + text
+        if 14 in aims and codec == 0x0E and self.chance(0.25):
+            body = body[:self.pick((7, self.upto(8)))]
+            matched = False
+        size = len(body)
+        if 14 in aims and (matched or self.chance(0.1)):
+            size += self.pick((1, 1, -1, -1, 8, -8, -size, 256, 1 << 16, 1 << 24, 1 << 31, 1 << 31,
+                               -1 - size, -8, -15 - size, -23 - size, self.rng.getrandbits(32)))
+        if 13 in aims:
+            kind = self.pick((0x00, 0x04, 0x07, 0x10, 0x12, 0x85, 0xFF, 0x11, 0x11, 0x11, self.upto(256)))
+        first = second = 1
+        if 7 in aims:
+            first, second = self.pick(((2, 2), (2, 1), (1, 2), (0, 0), (0, 1), (1, 0), (255, 1),
+                                       (1, 129), (self.upto(256), self.upto(256))))
+        if 6 in aims:
+            codec = self.pick((0x00, 0x08, 0x0B, 0x0D, 0x0F, 0x10, 0x8E, 0x8C, self.upto(256)))
+        field = bytes([codec, first, kind]) + number(size, 4) + body + bytes([second])
+        clean = len(field)
+        if 8 in aims:
+            field = field[:self.pick((2, 3, 4, 5, 6))] + field[-1:]
+        if 0 in aims:
+            if self.chance(0.6):
+                field = self.at_least_3(self.raw_damage(field))
+            else:
+                field = field[:2] + self.raw_damage(field[2:-1]) + field[-1:]
+        left = len(field) != clean and self.chance(0.5 if 0 in aims else 0.15)
+        data = self.frame(field, aims, clean if left else None)
+        if 0 in aims and self.chance(0.25):
+            data = self.raw_damage(data)
+        return self.huge(data, 0.003)
+
+    def wrong_packed(self, imei):
+        """An IMEI of sixteen digits with one that is not allowed."""
+        imei = bytearray(imei)
+        place = self.upto(8)
+        if self.chance(0.4):
+            imei[0] |= self.pick((0x10, 0x10, 0x30, 0x80, 0x90, 0xA0, 0xF0))
+        elif self.chance(0.5):
+            imei[place] = imei[place] & 0xF0 | self.pick((0x0A, 0x0B, 0x0F))
+        else:
+            imei[place] = imei[place] & 0x0F | self.pick((0xA0, 0xB0, 0xF0))
+        return bytes(imei)
+
+    def login(self):
+        data = b"\x00\x0f" + self.digits()
+        style = self.rng.random()
+        if style < 0.4:
+            return data
+        if style < 0.52:
+            return data[:self.pick((0, 1, 2, 16, 16, self.upto(17)))]
+        if style < 0.62:
+            return data + self.bytes(self.pick((1, 1, 2, 17, 100)))
+        if style < 0.84:
+            return self.wrong_imei(data)
+        if style < 0.9:
+            return self.bytes(17)
+        return self.huge(self.raw_damage(data), 0.03)
+
+    def command_words(self):
+        """The words of a write_command call."""
+        codec = self.pick((0x0C, 0x0E, 0x0E))
+        kind = self.pick((0x05, 0x06, 0x05, 0x06, 0x11) if codec == 0x0E else (0x05, 0x06))
+        imei = self.digits() if codec == 0x0E else b""
+        most = 1252 if codec == 0x0E else 1260
+        text = b"" if kind == 0x11 and self.chance(0.7) else self.text(most)
+        size = (28 if codec == 0x0E else 20) + len(text)
+        aims = self.aims((6, 13, 14, 15), 0.45)
+        if 0 in aims:
+            aims = {aim for aim in (6, 13, 14, 15) if self.chance(0.5)}
+        if 6 in aims:
+            codec = self.pick((0x00, 0x08, 0x0B, 0x0D, 0x0F, 0x10, 0x8E, 0xFF, self.upto(256)))
+        if 13 in aims:
+            kind = self.pick((0x00, 0x04, 0x07, 0x10, 0x11, 0x12, 0xFF, self.upto(256)))
+        if 14 in aims:
+            text = self.bytes(most + self.pick((1, 1, 2, 20, 100, 148)))
+            if self.chance(0.02):
+                text = self.bytes(self.pick((5000, 65536)))
+        if 15 in aims:
+            imei = self.pick((b"", b"0", self.digits()[:14], self.digits() + b"0", b"0" + self.digits(),
+                              self.wrong_digit(self.digits()), self.wrong_digit(self.digits()),
+                              self.digits(), self.wrong_digit(self.digits()) + b"7"))
+        return f"{codec} {kind} {shown(imei)} {shown(text)} {shown(self.buffer(size))}"
+
+    # ------------------------------------------------------------ house forms
+
+    def form_entries(self, codec, records):
+        """The entries of a form, each [length, kind, body]."""
+        def entry(kind, body):
+            return [len(body), kind, body]
+
+        entries = [entry(100, bytes([codec]))]
+        for record in records:
+            place = record.place
+            body = b"".join((
+                record.time[::-1], number(record.priority, 1), place[0:4][::-1], place[4:8][::-1],
+                place[8:10][::-1], place[10:12][::-1], place[12:13], place[13:15][::-1],
+                little(record.event, 2), little(record.generation, 1)))
+            entries.append(entry(101, body))
+            for kind, group in zip(KINDS, record.groups):
+                for ident, value in group:
+                    entries.append(entry(kind, little(ident, 2) + value))
+        return entries
+
+    def form(self):
+        """A house form and the size of its packet."""
+        codec = self.pick(CODECS)
+        records = self.records(codec, PACKET_LIMIT - 15)
+        style = self.rng.random()
+        if style < 0.45:
+            damage = None
+        elif style < 0.6:
+            damage = "record"
+        elif style < 0.92:
+            damage = "entry"
+        else:
+            damage = "raw"
+        record = self.pick(records)
+        if damage == "record":
+            self.spoil_record(codec, records, record)
+        size = 15 + sum(len(record.encode(codec)) for record in records)
+        entries = self.form_entries(codec, records)
+        if damage == "entry":
+            entries = self.spoil_entries(codec, entries)
+        form = b"".join(little(length, 2) + little(kind, 2) + body for length, kind, body in entries)
+        if damage == "raw":
+            form = self.raw_damage(form)
+        if self.chance(0.003):
+            form = self.pick((self.bytes(5000), form * (5000 // len(form) + 1), form + bytes(65536 - len(form)),
+                              (form + form[5:] * (65536 // max(len(form) - 5, 1)))[:65536]))
+        return form, size
+
+    def spoil_record(self, codec, records, record):
+        """A form of a packet that breaks a rule of its records."""
+        style = self.upto(8)        # in 08 and 10 some are another damage
+        if style == 0:
+            record.priority = self.pick((3, 255))
+        elif style == 1:
+            record.generation = self.pick((8, 255)) if codec == 0x10 else self.pick((1, 7, 255))
+        elif style == 2 and codec == 0x08:
+            record.event = self.pick((256, 257, 65535))
+        elif style == 3 and codec == 0x08:
+            place = self.upto(4)
+            record.groups[place].append((self.pick((256, 257, 65535)), self.bytes(KINDS[place])))
+        elif style in (2, 3, 4):
+            records[records.index(record)] = self.long_record(codec, 1265)
+        elif style == 5:
+            records[:] = self.too_long(codec, 15)
+        elif style == 6 and codec != 0x8E:
+            record.groups[4].append((self.ident(codec), self.bytes(self.upto(9))))
+        elif self.chance(0.3):
+            records[:] = [self.record(codec, LEAST[codec]) for _ in range(self.pick((43, 255, 256, 257)))]
+        else:
+            del records[:]
+
+    def spoil_entries(self, codec, entries):
+        """A form with one entry broken."""
+        place = self.upto(len(entries))
+        chosen = entries[place]
+        style = self.upto(13)
+        if style == 0:
+            chosen[0] += self.pick((1, -1, 2, 256, -256, 65535, 4))
+        elif style == 1:
+            chosen[1] = self.pick((0, 1, 2, 3, 4, 5, 8, 9, 10, 16, 99, 100, 101, 102, 255,
+                                   chosen[1] + 256, chosen[1] ^ 0x8000, self.upto(65536)))
+        elif style == 2:
+            body = self.pick((chosen[2] + b"\0", chosen[2][:-1], chosen[2] + self.bytes(4),
+                              chosen[2][:1], b"", chosen[2][1:]))
+            chosen[0], chosen[2] = len(body), body
+        elif style == 3:
+            del entries[place]
+        elif style == 4:
+            entries.insert(place, list(chosen))
+        elif style == 5:
+            entries.insert(self.upto(len(entries) + 1), list(chosen))
+        elif style == 6:
+            other = self.upto(len(entries))
+            entries[place], entries[other] = entries[other], chosen
+        elif style == 7:
+            kind = self.pick(KINDS)
+            size = 2 + (self.upto(9) if kind == 9 or self.chance(0.3) else kind)
+            entries.insert(self.upto(len(entries) + 1), [size, kind, self.bytes(size)])
+        elif style == 8:
+            entries[0][2] = bytes([self.pick(OTHER_CODECS + CODECS)])
+        elif style == 9:
+            entries.append([self.pick((0, 1, 2, 3, 27)), self.pick((1, 9, 101, 100)), b""])
+        elif style == 10:
+            entries[0] = [2, 100, bytes([codec, 0])]
+        elif style == 11:
+            # neighbours of different kinds change places
+            for at in range(1, len(entries) - 1):
+                if entries[at][1] != entries[at + 1][1] and self.chance(0.5):
+                    entries[at], entries[at + 1] = entries[at + 1], entries[at]
+                    break
+        else:
+            # a value of another width under its old kind, or under a new one
+            chosen[1] = self.pick(KINDS)
+        return entries
+
+    def form_size(self, codec, records):
+        return sum(4 + len(body) for _, _, body in self.form_entries(codec, records))
+
+    # ------------------------------------------------------------ calls
+
+    def record_word(self, records):
+        return self.numbered(len(records))
+
+    def element_words(self, records):
+        """A record number and an element number."""
+        place = self.record_word(records)
+        elements = len(records[place].ids()) if place < len(records) else 3
+        return f"{place} {self.numbered(elements)}"
+
+    def wanted(self, codec, record, records):
+        """An ID: this record's, another record's, or any."""
+        ids = record.ids()
+        style = self.rng.random()
+        if style < 0.6 and ids:
+            ident = self.pick(ids)
+        elif style < 0.8:
+            ident = self.pick([ident for other in records for ident in other.ids()] or [5])
+        elif style < 0.9:
+            ident = self.pick((0, 1, 255, 256, 32768, 65535))
+        elif style < 0.95 and ids:
+            ident = self.pick(ids) ^ self.pick((0x100, 0x8000, 0xFF00))
+        else:
+            ident = self.upto(65536)
+        return ident & 0xFFFF
+
+    def id_words(self, codec, records):
+        """A record number and an ID."""
+        place = self.record_word(records)
+        record = records[place] if place < len(records) else records[-1]
+        return f"{place} {self.wanted(codec, record, records)}"
+
+    def two_packets(self):
+        """The words of a last-known call."""
+        newer, codec, records = self.packet(0.55)
+        older, _, older_records = self.packet(0.45)
+        if self.chance(0.05):
+            older = newer
+        known = self.pick((records, older_records))
+        if self.chance(0.65):
+            ident = self.wanted(codec, older_records[-1], older_records)
+        else:
+            ident = self.wanted(codec, known[-1], known)
+        return f"{shown(newer)} {shown(older)} {ident}"
+
+    def any_input(self, maker):
+        """Sometimes an input of another sort than the call expects."""
+        if self.chance(0.03):
+            maker = self.pick((self.packet, self.datagram, lambda: (self.command(), None, None),
+                               lambda: (self.login(), None, None), lambda: (self.form()[0], None, None)))
+            data, codec, records = maker()
+            return data, codec or 8, records or [self.record(8)]
+        return maker()
+
+    def line(self):
+        name = self.pick(NAMES)
+        if name in ("read_command", "command_text"):
+            data, _, _ = self.any_input(lambda: (self.command(), None, None))
+            return f"{name} {shown(data)}"
+        if name == "read_login":
+            data, _, _ = self.any_input(lambda: (self.login(), None, None))
+            return f"{name} {shown(data)}"
+        if name == "answer_login":
+            data, _, _ = self.any_input(lambda: (self.login(), None, None))
+            return f"{name} {shown(data)} {self.upto(2)} {shown(self.buffer(1))}"
+        if name == "write_command":
+            return f"{name} {self.command_words()}"
+        if name == "packet_of_form":
+            form, size = self.form()
+            return f"{name} {shown(form)} {shown(self.buffer(size))}"
+        if name in ("last_known", "last_known_view"):
+            return f"{name} {self.two_packets()}"
+        data, codec, records = self.any_input(self.datagram if name.endswith("datagram") else self.packet)
+        records = records or [self.record(codec)]
+        start = f"{name} {shown(data)}"
+        if name.startswith("read_"):
+            return start
+        if name.startswith("record_"):
+            return f"{start} {self.record_word(records)}"
+        if name.startswith(("value_", "view_")):
+            return f"{start} {self.element_words(records)}"
+        if name.startswith("id_"):
+            return f"{start} {self.id_words(codec, records)}"
+        if name.startswith("form_"):
+            return f"{start} {shown(self.buffer(self.form_size(codec, records)))}"
+        return f"{start} {shown(self.buffer(7 if name == 'acknowledge_datagram' else 4))}"
+
+
+NAMES = (
+    "read_packet", "read_datagram", "read_login", "read_command", "command_text",
+    "record_in_packet", "record_in_datagram", "value_in_packet", "value_in_datagram",
+    "id_in_packet", "id_in_datagram", "view_in_packet", "view_in_datagram",
+    "id_view_in_packet", "id_view_in_datagram", "last_known", "last_known_view",
+    "acknowledge_packet", "acknowledge_datagram", "answer_login", "write_command",
+    "form_of_packet", "form_of_datagram", "packet_of_form")
+
+
+def lines(count, seed):
+    """Count call lines; the first ones do not depend on count."""
+    maker = Maker(seed)
+    for _ in range(count):
+        yield maker.line()
+
+
+def main():
+    if len(sys.argv) != 3:
+        print("usage: generate.py COUNT SEED", file=sys.stderr)
+        return 2
+    for line in lines(int(sys.argv[1]), int(sys.argv[2])):
+        print(line)
+    return 0
+
+
+if __name__ == "__main__":
+    sys.exit(main())

@@ -1,0 +1,599 @@
+#!/usr/bin/env python3
+"""A second implementation of the packet rules of document 01.
+
+    python3 reference.py             answers calls from standard input, one a line
+    python3 reference.py --selftest  checks the published examples
+
+It is written from the papers alone and is meant to be read beside them.
+Byte strings in a call are lower-case hexadecimal, '-' stands for none.
+"""
+
+import re
+import struct
+import sys
+from collections import namedtuple
+
+PACKET_LIMIT = 1280
+RECORD_LIMIT = 255
+LENGTH_LIMIT = PACKET_LIMIT - 12    # the greatest data length of a TCP packet
+
+# The widths of a codec's IO part. Generation 0 means: no such field.
+Widths = namedtuple("Widths", "event generation count id variable")
+WIDTHS = {
+    0x08: Widths(event=1, generation=0, count=1, id=1, variable=False),
+    0x8E: Widths(event=2, generation=0, count=2, id=2, variable=True),
+    0x10: Widths(event=2, generation=1, count=1, id=2, variable=False),
+}
+FIXED_KINDS = (1, 2, 4, 8)
+VARIABLE_KIND = 9
+
+# The message types that a command codec allows.
+TYPES = {0x0C: (0x05, 0x06), 0x0E: (0x05, 0x06, 0x11)}
+NO_MATCH = 0x11
+
+# House form: the kinds of its first entry and of a record's, and the layout of
+# the latter: the fields of Record but the last, little-endian, 27 bytes.
+CODEC_ENTRY = 100
+RECORD_ENTRY = 101
+RECORD_BODY = struct.Struct("<QBiihHBHHB")
+
+Element = namedtuple("Element", "id kind offset size")
+Record = namedtuple("Record", "timestamp priority longitude latitude altitude angle"
+                              " satellites speed event generation elements")
+Packet = namedtuple("Packet", "codec records")
+Datagram = namedtuple("Datagram", "codec records imei packet unused avl")
+Command = namedtuple("Command", "codec type imei offset size")
+
+
+class Refused(Exception):
+    """A refusal: its number and its record index."""
+
+    def __init__(self, number, index=0):
+        super().__init__(number, index)
+        self.number, self.index = number, index
+
+
+# ---------------------------------------------------------------- numbers
+
+def big(data):
+    return int.from_bytes(data, "big")
+
+
+def signed(data):
+    return int.from_bytes(data, "big", signed=True)
+
+
+def byte_crc(byte):
+    for _ in range(8):
+        byte = byte >> 1 ^ (0xA001 if byte & 1 else 0)
+    return byte
+
+
+CRC_TABLE = [byte_crc(byte) for byte in range(256)]
+
+
+def crc16(data):
+    """CRC-16/IBM: start 0, lowest bit first, polynomial A001, no final change."""
+    crc = 0
+    table = CRC_TABLE
+    for byte in data:
+        crc = crc >> 8 ^ table[(crc ^ byte) & 0xFF]
+    return crc
+
+
+def ascii_imei(data):
+    """The number of an IMEI of 15 ASCII digits."""
+    if len(data) != 15 or not all(0x30 <= byte <= 0x39 for byte in data):
+        raise Refused(15)
+    return int(data)
+
+
+def login_imei(data):
+    """The number of an IMEI of 15 ASCII digits after its length."""
+    if big(data[:2]) != 15:
+        raise Refused(15)
+    return ascii_imei(data[2:])
+
+
+def packed_imei(data):
+    """The number of an IMEI of sixteen digits, two a byte, the first of them 0."""
+    digits = data.hex()
+    if digits[0] != "0" or not all(digit in "0123456789" for digit in digits):
+        raise Refused(15)
+    return int(digits)
+
+
+# ---------------------------------------------------------------- reading records
+
+class Space:
+    """Fields taken one after the other from data[at:end]."""
+
+    def __init__(self, data, at, end):
+        self.data, self.at, self.end = data, at, end
+        self.index = 0          # the record index of a refusal
+
+    def take(self, size):
+        if self.end - self.at < size:
+            raise Refused(8, self.index)
+        start = self.at
+        self.at = start + size
+        return self.data[start:self.at]
+
+
+def read_elements(space, widths, size):
+    """One group: a count, then its elements. Size None: each with its own length."""
+    elements = []
+    for _ in range(big(space.take(widths.count))):
+        ident = big(space.take(widths.id))
+        length = big(space.take(2)) if size is None else size
+        offset = space.at
+        space.take(length)
+        elements.append(Element(ident, VARIABLE_KIND if size is None else size, offset, length))
+    return elements
+
+
+def read_record(space, widths, index):
+    space.index = index
+    start = space.at
+    timestamp = big(space.take(8))
+    priority = big(space.take(1))
+    if priority > 2:
+        raise Refused(10, index)
+    longitude = signed(space.take(4))
+    latitude = signed(space.take(4))
+    altitude = signed(space.take(2))
+    angle = big(space.take(2))
+    satellites = big(space.take(1))
+    speed = big(space.take(2))
+    event = big(space.take(widths.event))
+    generation = 0
+    if widths.generation:
+        generation = big(space.take(widths.generation))
+        if generation > 7:
+            raise Refused(11, index)
+    total = big(space.take(widths.count))
+    elements = []
+    for size in FIXED_KINDS:
+        elements += read_elements(space, widths, size)
+    fixed = len(elements)       # the total counts the first four groups (006)
+    if widths.variable:
+        elements += read_elements(space, widths, None)
+    if total != fixed:
+        raise Refused(9, index)
+    if space.at - start > RECORD_LIMIT:
+        raise Refused(12, index)
+    return Record(timestamp, priority, longitude, latitude, altitude, angle,
+                  satellites, speed, event, generation, elements)
+
+
+def read_data_field(data, start, end):
+    """A data field: codec, count, records, count. It has at least 3 bytes."""
+    codec = data[start]
+    if codec not in WIDTHS:
+        raise Refused(6)
+    count = data[start + 1]
+    if count == 0 or count != data[end - 1]:
+        raise Refused(7)
+    space = Space(data, start + 2, end - 1)
+    records = [read_record(space, WIDTHS[codec], index) for index in range(count)]
+    if space.at != space.end:
+        raise Refused(8, count)
+    return codec, records
+
+
+# ---------------------------------------------------------------- reading inputs
+
+def check_frame(data):
+    """What all TCP packets share: refusals 1 to 5."""
+    if len(data) < 8:
+        raise Refused(1)
+    if data[:4] != bytes(4):
+        raise Refused(2)
+    length = big(data[4:8])
+    if not 3 <= length <= LENGTH_LIMIT:
+        raise Refused(3)
+    if len(data) != length + 12:
+        raise Refused(4)
+    if big(data[-4:]) != crc16(data[8:-4]):
+        raise Refused(5)
+
+
+def read_packet(data):
+    check_frame(data)
+    return Packet(*read_data_field(data, 8, len(data) - 4))
+
+
+def read_datagram(data):
+    if len(data) < 26:
+        raise Refused(1)
+    if len(data) > PACKET_LIMIT:
+        raise Refused(3)
+    if len(data) != 2 + big(data[:2]):
+        raise Refused(4)
+    imei = login_imei(data[6:23])
+    codec, records = read_data_field(data, 23, len(data))
+    return Datagram(codec, records, imei, big(data[2:4]), data[4], data[5])
+
+
+def read_login(data):
+    if len(data) < 17:
+        raise Refused(1)
+    if len(data) > 17:
+        raise Refused(4)
+    return login_imei(data)
+
+
+def read_command(data):
+    check_frame(data)
+    codec = data[8]
+    if codec not in TYPES:
+        raise Refused(6)
+    if data[9] != 1 or data[-5] != 1:
+        raise Refused(7)
+    space = Space(data, 10, len(data) - 5)
+    kind = big(space.take(1))
+    if kind not in TYPES[codec]:
+        raise Refused(13)
+    size = big(space.take(4))
+    if size != space.end - space.at:
+        raise Refused(14)
+    imei = 0
+    if codec == 0x0E:
+        if size < 8:
+            raise Refused(14)
+        imei = packed_imei(space.take(8))
+    text = space.end - space.at
+    if kind == NO_MATCH and text > 0:
+        raise Refused(14)
+    return Command(codec, kind, imei, space.at, text)
+
+
+# ---------------------------------------------------------------- looking up
+
+def record_at(packet, number):
+    if number >= len(packet.records):
+        raise Refused(16)
+    return packet.records[number]
+
+
+def element_at(packet, number, place):
+    elements = record_at(packet, number).elements
+    if place >= len(elements):
+        raise Refused(16)
+    return elements[place]
+
+
+def first_with(record, ident):
+    """The record's first element with this ID, or None."""
+    for element in record.elements:
+        if element.id == ident:
+            return element
+    return None
+
+
+def element_with(packet, number, ident):
+    element = first_with(record_at(packet, number), ident)
+    if element is None:
+        raise Refused(16)
+    return element
+
+
+def last_known(newer, older, ident):
+    """Which packet (0 newer, 1 older) and the element in its last record."""
+    for which, data in enumerate((newer, older)):
+        element = first_with(read_packet(data).records[-1], ident)
+        if element is not None:
+            return which, element
+    raise Refused(16)
+
+
+def part(data, element):
+    return data[element.offset:element.offset + element.size]
+
+
+# ---------------------------------------------------------------- writing
+
+def tcp_packet(field):
+    """The TCP packet around a data field."""
+    return bytes(4) + len(field).to_bytes(4, "big") + field + crc16(field).to_bytes(4, "big")
+
+
+def entry(kind, body):
+    return len(body).to_bytes(2, "little") + kind.to_bytes(2, "little") + body
+
+
+def house_form(data, packet):
+    """The house form of a packet or datagram that was read from data."""
+    form = [entry(CODEC_ENTRY, bytes([packet.codec]))]
+    for record in packet.records:
+        form.append(entry(RECORD_ENTRY, RECORD_BODY.pack(*record[:-1])))
+        for element in record.elements:
+            form.append(entry(element.kind, element.id.to_bytes(2, "little") + part(data, element)))
+    return b"".join(form)
+
+
+def split_form(form):
+    """The (kind, body) pairs of a form, None if an entry is not whole."""
+    entries = []
+    at = 0
+    while at < len(form):
+        length = int.from_bytes(form[at:at + 2], "little")
+        kind = int.from_bytes(form[at + 2:at + 4], "little")
+        end = at + 4 + length
+        if end > len(form):
+            return None
+        entries.append((kind, form[at + 4:end]))
+        at = end
+    return entries
+
+
+def candidate_record(widths, body, elements):
+    """The record bytes that a 101 body and its (kind, body) elements speak of.
+    Numbers too large for their field raise OverflowError."""
+    def counted(number):
+        return number.to_bytes(widths.count, "big")
+
+    *fields, event, generation = RECORD_BODY.unpack(body)
+    parts = [struct.pack(">QBiihHBH", *fields), event.to_bytes(widths.event, "big")]
+    if widths.generation:
+        parts.append(bytes([generation]))
+    kinds = FIXED_KINDS + ((VARIABLE_KIND,) if widths.variable else ())
+    groups = [[item for kind, item in elements if kind == wanted] for wanted in kinds]
+    parts.append(counted(sum(len(group) for group in groups[:4])))
+    for kind, group in zip(kinds, groups):
+        parts.append(counted(len(group)))
+        for item in group:
+            parts.append(int.from_bytes(item[:2], "little").to_bytes(widths.id, "big"))
+            if kind == VARIABLE_KIND:
+                parts.append((len(item) - 2).to_bytes(2, "big"))
+            parts.append(item[2:])
+    return b"".join(parts)
+
+
+def candidate_packet(form):
+    """The only packet whose house form this can be, or None."""
+    entries = split_form(form)
+    if not entries or entries[0][0] != CODEC_ENTRY or len(entries[0][1]) != 1:
+        return None
+    codec = entries[0][1][0]
+    if codec not in WIDTHS:
+        return None
+    records = []                # each a 101 body and its elements
+    for kind, body in entries[1:]:
+        if kind == RECORD_ENTRY and len(body) == RECORD_BODY.size:
+            records.append((body, []))
+        elif records and len(body) >= 2:
+            records[-1][1].append((kind, body))
+        else:
+            return None
+    if not 1 <= len(records) <= 255:
+        return None
+    count = bytes([len(records)])
+    field = b"".join(candidate_record(WIDTHS[codec], *record) for record in records)
+    return tcp_packet(bytes([codec]) + count + field + count)
+
+
+def packet_of_form(form):
+    """The packet with this house form. What it is taken for is read back and
+    written again: only an accepted packet with the very same form will do."""
+    try:
+        packet = candidate_packet(form)
+    except OverflowError:
+        packet = None
+    try:
+        if packet is not None and house_form(packet, read_packet(packet)) == form:
+            return packet
+    except Refused:
+        pass
+    raise Refused(17)
+
+
+def write_command(codec, kind, imei, text):
+    if codec not in TYPES:
+        raise Refused(6)
+    if kind not in TYPES[codec]:
+        raise Refused(13)
+    packed = b""
+    if codec == 0x0E:
+        ascii_imei(imei)
+        packed = bytes.fromhex("0" + imei.decode("ascii"))
+    elif imei:
+        raise Refused(15)
+    body = packed + text
+    field = bytes([codec, 1, kind]) + len(body).to_bytes(4, "big") + body + b"\x01"
+    if len(field) > LENGTH_LIMIT or (kind == NO_MATCH and text):
+        raise Refused(14)
+    return tcp_packet(field)
+
+
+def packet_receipt(data):
+    try:
+        count = len(read_packet(data).records)
+    except Refused:
+        count = 0
+    return count.to_bytes(4, "big")
+
+
+def datagram_receipt(data):
+    count = len(read_datagram(data).records)
+    return b"\x00\x05" + data[2:6] + bytes([count])
+
+
+def login_answer(data, known):
+    try:
+        read_login(data)
+    except Refused:
+        known = 0
+    return bytes([known])
+
+
+# ---------------------------------------------------------------- the calls
+
+def shown(data):
+    return data.hex() or "-"
+
+
+def packet_words(data):
+    packet = read_packet(data)
+    return packet.codec, len(packet.records)
+
+
+def datagram_words(data):
+    datagram = read_datagram(data)
+    return (datagram.codec, len(datagram.records)) + datagram[2:]
+
+
+def record_words(reader):
+    def call(data, number):
+        record = record_at(reader(data), number)
+        return record[:-1] + (len(record.elements),)
+    return call
+
+
+def command_text(data):
+    return part(data, read_command(data))
+
+
+def last_known_words(newer, older, ident):
+    which, element = last_known(newer, older, ident)
+    return (which,) + element
+
+
+def last_known_view(newer, older, ident):
+    which, element = last_known(newer, older, ident)
+    return part((newer, older)[which], element)
+
+
+def lookup(reader, find):
+    return lambda data, number, wanted: find(reader(data), number, wanted)
+
+
+def lookup_view(reader, find):
+    return lambda data, number, wanted: part(data, find(reader(data), number, wanted))
+
+
+def form_of(reader):
+    return lambda data: house_form(data, reader(data))
+
+
+# Each call: its sort of answer, the sorts of its words, its function. The last
+# word of a 'write' call, the lent buffer, does not go to the function.
+CALLS = {
+    "read_packet": ("read", "P", packet_words),
+    "read_datagram": ("read", "P", datagram_words),
+    "read_login": ("read", "P", lambda data: (read_login(data),)),
+    "read_command": ("read", "P", read_command),
+    "command_text": ("view", "P", command_text),
+    "record_in_packet": ("read", "PN", record_words(read_packet)),
+    "record_in_datagram": ("read", "PN", record_words(read_datagram)),
+    "value_in_packet": ("read", "PNN", lookup(read_packet, element_at)),
+    "value_in_datagram": ("read", "PNN", lookup(read_datagram, element_at)),
+    "id_in_packet": ("read", "PNI", lookup(read_packet, element_with)),
+    "id_in_datagram": ("read", "PNI", lookup(read_datagram, element_with)),
+    "view_in_packet": ("view", "PNN", lookup_view(read_packet, element_at)),
+    "view_in_datagram": ("view", "PNN", lookup_view(read_datagram, element_at)),
+    "id_view_in_packet": ("view", "PNI", lookup_view(read_packet, element_with)),
+    "id_view_in_datagram": ("view", "PNI", lookup_view(read_datagram, element_with)),
+    "last_known": ("read", "PPI", last_known_words),
+    "last_known_view": ("view", "PPI", last_known_view),
+    "acknowledge_packet": ("write", "PP", packet_receipt),
+    "acknowledge_datagram": ("write", "PP", datagram_receipt),
+    "answer_login": ("write", "PKP", login_answer),
+    "write_command": ("write", "BBPPP", write_command),
+    "form_of_packet": ("write", "PP", form_of(read_packet)),
+    "form_of_datagram": ("write", "PP", form_of(read_datagram)),
+    "packet_of_form": ("write", "PP", packet_of_form),
+}
+
+# The sorts of words: P bytes; numbers below these bounds.
+BOUNDS = {"N": 1 << 64, "I": 1 << 16, "B": 1 << 8, "K": 2}
+HEX = re.compile(r"(?:[0-9a-f]{2})+")
+DECIMAL = re.compile(r"[0-9]{1,20}")
+
+
+def argument(sort, word):
+    """A word's value; ValueError if it is not of its sort."""
+    if sort == "P":
+        if word == "-":
+            return b""
+        if not HEX.fullmatch(word):
+            raise ValueError("not lower-case hexadecimal bytes")
+        return bytes.fromhex(word)
+    if not DECIMAL.fullmatch(word) or int(word) >= BOUNDS[sort]:
+        raise ValueError("not a number of this place")
+    return int(word)
+
+
+def evaluate(line):
+    """The answer to a call line, and the number of its refusal or None.
+    A view hides its refusal in the answer; the number is given all the same."""
+    words = line.split()
+    if not words or words[0] not in CALLS:
+        return "error unknown call", None
+    answered, sorts, function = CALLS[words[0]]
+    if len(words) != len(sorts) + 1:
+        return "error wrong number of words", None
+    try:
+        arguments = [argument(sort, word) for sort, word in zip(sorts, words[1:])]
+    except ValueError as error:
+        return "error " + str(error), None
+    lent = arguments.pop() if answered == "write" else b""
+    try:
+        result = function(*arguments)
+        if answered == "read":
+            return "accepted " + " ".join(map(str, result)), None
+        if answered == "view":
+            return "bytes " + shown(result), None
+        if len(lent) < len(result):
+            raise Refused(18)
+        return f"written {len(result)} {shown(result + lent[len(result):])}", None
+    except Refused as refusal:
+        text = f"refused {refusal.number} {refusal.index}"
+        if answered == "view":
+            text = "bytes -"
+        elif answered == "write":
+            text += " " + shown(lent)
+        return text, refusal.number
+
+
+def answer(line):
+    return evaluate(line)[0]
+
+
+# ---------------------------------------------------------------- running
+
+def selftest():
+    sys.dont_write_bytecode = True
+    from examples import published_calls
+    calls = published_calls()
+    # Every published TCP data packet comes back from its house form.
+    for name, call, expected in list(calls):
+        if call.startswith("read_packet") and expected.startswith("accepted"):
+            data = bytes.fromhex(call.split()[1])
+            form = house_form(data, read_packet(data)).hex()
+            room = "ee" * (len(data) + 1)
+            calls.append((name, f"packet_of_form {form} {room}",
+                          f"written {len(data)} {data.hex()}ee"))
+    failures = 0
+    for name, call, expected in calls:
+        given = answer(call)
+        if given != expected:
+            failures += 1
+            print(f"{name}: {call}\n  expected {expected}\n  answered {given}")
+    print(f"{len(calls) - failures} passed, {failures} failed")
+    return 1 if failures else 0
+
+
+def main():
+    if sys.argv[1:] == ["--selftest"]:
+        return selftest()
+    if sys.argv[1:]:
+        print("usage: reference.py [--selftest]", file=sys.stderr)
+        return 2
+    for line in sys.stdin:
+        print(answer(line), flush=True)
+    return 0
+
+
+if __name__ == "__main__":
+    sys.exit(main())
