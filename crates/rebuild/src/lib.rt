@@ -295,7 +295,7 @@ fn put_records(w: Widths, f: &[u8], from: usize, out: &mut [u8], to: usize) -> u
 }
 
 // The data field of a form, and how long it is; a buffer that is too short gets its first bytes.
-pub fn decode_form(f: &[u8], out: &mut [u8]) -> usize
+fn decode_form(f: &[u8], out: &mut [u8]) -> usize
     requires { ⌜ length (now f) ≤ 65536 ⌝ }
     ensures size { λ r. ⌜ r ≡ length (dataBytes (decoded (now (f .entry)))) ⌝ }
     ensures buffer { λ r. ⌜ now (out .exit) ≡ sets (now (out .entry)) 0 (dataBytes (decoded (now (f .entry)))) ⌝ }

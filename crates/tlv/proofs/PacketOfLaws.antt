@@ -15,7 +15,7 @@ use Rattle.packet.specs.DataPackets.{packetBytes, DataPacket, readPacket}
 use Rattle.packet.proofs.PacketLaws.{packet-exact, packet-complete}
 use Rattle.tlv.specs.Form.{form}
 use Rattle.tlv.specs.Decoding.{decoded}
-use Rattle.tlv.specs.PacketOf.{same, or17, readForm}
+use Rattle.tlv.specs.PacketOf.{same, or17, readForm, formOfPacket, packetOfForm}
 use Rattle.tlv.proofs.DecodedBytes.{bytes-decoded}
 use Rattle.tlv.proofs.FormLaws.{form-decoded}
 
@@ -93,3 +93,28 @@ form-refusal largest longest f n i e = refused-17 (readPacket largest longest (p
 -- a form stands for one packet at most, whatever the limits
 pub form-unique : (longest other : ℕ) (a b : AvlData) → longest < 256 ^ 2 → other < 256 ^ 2 → DataRules longest a → DataRules other b → form a ≡ form b → a ≡ b
 form-unique longest other a b l m h k e = sym (form-decoded longest a l h) ∙ ap decoded e ∙ form-decoded other b m k
+
+-- packet to form to packet: the same bytes
+pub packet-again : (largest longest : ℕ) (p f : List ℕ) → Bytes p → longest < 256 ^ 2
+    → formOfPacket largest longest p ≡ accepted f → packetOfForm largest longest f ≡ accepted p
+unfolding formOfPacket packetOfForm
+packet-again largest longest p f h l e =
+    let i = onAccepted-accepted (readPacket largest longest p) _ e in
+    let k = packet-exact largest longest p (i .0) h .0 (i .1) in
+    let own : form (i .0) ≡ f = cc in
+    onAccepted-passed (readForm largest longest f) _
+    (form-complete largest longest f (i .0) l
+    (record { packet = record { rules = k .rules; frame = k .frame; whole = refl }; form = sym own }))
+    ∙ ap accepted (sym (k .whole))
+
+-- form to packet to form: the same form
+pub form-again : (largest longest : ℕ) (f p : List ℕ) → Bytes f
+    → packetOfForm largest longest f ≡ accepted p → formOfPacket largest longest p ≡ accepted f
+unfolding formOfPacket packetOfForm
+form-again largest longest f p h e =
+    let i = onAccepted-accepted (readForm largest longest f) _ e in
+    let k = form-sound largest longest f (i .0) h (i .1) in
+    let own : packetBytes (i .0) ≡ p = cc in
+    onAccepted-passed (readPacket largest longest p) _
+    (ap (readPacket largest longest) (sym own) ∙ packet-complete largest longest (packetBytes (i .0)) (i .0) (k .packet))
+    ∙ ap accepted (sym (k .form))
