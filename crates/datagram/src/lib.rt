@@ -45,7 +45,7 @@ pub enum DatagramWalk {
     Refused(Refusal),
 }
 
-fn refused(number: u8) -> DatagramWalk
+fn refused(number: usize) -> DatagramWalk
     ensures { λ r. ⌜ r ≡ DatagramWalk.Refused (record { number = number; index = 0 }) ⌝ }
 {
     DatagramWalk::Refused(Refusal { number, index: 0 })

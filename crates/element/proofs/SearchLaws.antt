@@ -1,12 +1,12 @@
 -- The search among a record's elements: within a group, from group to group, and what it is of the whole record.
 use Prim.Native.Nat.{ℕ, zero, suc, _+_, _-_, _*_, _^_, _≤_, _<_}
-use native.Mathlib.Nat.{add-zero, add-assoc, pow-le-pow-right, le-trans}
+use native.Mathlib.Nat.{add-zero, add-assoc, suc-mul, pow-le-pow-right, le-trans}
 use native.Mathlib.Numerals.{add-one}
 use native.Mathlib.Omega.{arith}
 use mathlib.Core.Path.{_≡_, refl, sym, ap, ap₂, _∙_, subst}
 use mathlib.Core.Bool.{Bool, true, false}
 use mathlib.Core.List.{List, [], _∷_, _++_}
-use lib.ListN.{length}
+use lib.ListN.{length, drop, getD, drop-of-length-le}
 use lib.Dec.{eqb}
 use borrow.Author.Tests.{eq-eqb, ne-eqb}
 use Rattle.wire.specs.Numbers.{Bytes, numberAt, pick}
@@ -15,17 +15,18 @@ use Rattle.wire.specs.Answers.{Answer, accepted, refused}
 use Rattle.wire.proofs.Accepting.{pick-true, pick-false, pick-either}
 use Rattle.wire.proofs.Widths.{byte-pos}
 use Rattle.avl.specs.declared.Widths.{Widths}
-use Rattle.avl.specs.Codecs.{kinds}
+use Rattle.avl.specs.Codecs.{kinds, allKinds}
 use Rattle.avl.specs.Records.{Element, AvlRecord, elementBytes, groupBytes}
 use Rattle.avl.specs.RecordReader.{element, group, groups, avlRecord}
 use Rattle.avl.proofs.RecordLaws.{group-exact}
 use Rattle.walk.specs.Walks.{Narrow}
+use Rattle.walk.proofs.KindLaws.{kinds-few, kind-known, next-kind}
 use Rattle.element.specs.declared.Value.{Value}
 use Rattle.element.specs.declared.Wanted.{Wanted}
 use Rattle.element.specs.declared.Search.{Search}
 use Rattle.element.specs.declared.ElementAnswer.{ElementAnswer}
-use Rattle.element.specs.Elements.{Located, locateGroup, locateGroups, fixedSize, elements, nth, firstWith}
-use Rattle.element.specs.Search.{ReadableElement, ReadableGroup, isWanted, pickFrom, locatedValue, valueAt, hitOr, searched, elementAs}
+use Rattle.element.specs.Elements.{Located, leadSize, locateGroup, locateGroups, fixedSize, elements, nth, firstWith}
+use Rattle.element.specs.Search.{ReadableElement, ReadableGroup, isWanted, Unwanted, pickFrom, locatedValue, valueAt, hitOr, searched, elementAs}
 use Rattle.element.proofs.ElementLaws.{length-element, length-group}
 use Rattle.element.proofs.ReadLaws.{got-same, element-read, Parted, repeat-parted, repeat-nothing, groups-parted, group-repeat, record-read}
 
@@ -142,6 +143,42 @@ module _ {w : Widths} {kind : ℕ} {s : List ℕ} {at passed : ℕ} {wanted : Wa
                   ∙ h .same;
             }
 
+pub unwanted-none : (wanted : Wanted) (kind passed count : ℕ) → Unwanted wanted kind passed count 0
+unwanted-none wanted kind passed count = record { inside = omega arith; fixed = λ h. absurd (omega arith); none = λ i id h. absurd (omega arith) }
+
+pub unwanted-number : {wanted : Wanted} {k : ℕ} (kind passed count n : ℕ) → wanted ≡ Wanted.Number k → (kind ≡ 9 → ⊥) → n ≤ count → passed + n ≤ k → Unwanted wanted kind passed count n
+unfolding isWanted
+unwanted-number {wanted} {k} kind passed count n is ne h before =
+    subst (λ (x : Wanted). Unwanted x kind passed count n) (sym is)
+    (record { inside = h; fixed = λ some. ne; none = λ i id less. ne-eqb (passed + i) k (λ same. omega arith) })
+
+-- elements of one size that are not wanted are stepped over at once
+module _ {w : Widths} {kind : ℕ} {s : List ℕ} {at passed : ℕ} {wanted : Wanted} where
+  step : {next i : ℕ} (h : Searching w kind s at passed wanted next i) → i < numberAt s at (w .count) → (kind ≡ 9 → ⊥) → ((id : ℕ) → isWanted wanted (passed + i) id ≡ false)
+      → Searching w kind s at passed wanted (next + (w .id + kind)) (i + 1)
+  unfolding valueAt leadSize
+  step {next} {i} h more ne none =
+      let e = search-element h more in
+      let read = element-read w kind s next .if-got _ _ (e .reads) in
+      let size : length (e .content .value) ≡ kind = read .sizeIs ∙ pick-false (eqb kind 9) _ _ (ne-eqb kind 9 ne) in
+      let lead : pick {A = ℕ} (eqb kind 9) 2 0 ≡ 0 = pick-false (eqb kind 9) 2 0 (ne-eqb kind 9 ne) in
+      subst (λ (n : ℕ). Searching w kind s at passed wanted n (i + 1)) (omega arith)
+      (search-on h more {v = valueAt w kind next (e .content)} (λ x n k. ap (valueAt w kind next) (got-same (e .reads) k .0)) (none _))
+
+  steps : (g : ReadableGroup w kind s at) (n : ℕ) → n ≤ numberAt s at (w .count) → (0 < n → kind ≡ 9 → ⊥) → ((i id : ℕ) → i < n → isWanted wanted (passed + i) id ≡ false)
+      → Searching w kind s at passed wanted (at + w .count + n * (w .id + kind)) n
+  steps g zero h ne none = subst (λ (m : ℕ). Searching w kind s at passed wanted m 0) (omega arith) (search-start g)
+  steps g (suc n) h ne none =
+      let before = steps g n (omega arith) (λ some. ne (omega arith)) (λ i id k. none i id (omega arith)) in
+      let all : at + w .count + n * (w .id + kind) + (w .id + kind) ≡ at + w .count + suc n * (w .id + kind) = omega (arith, suc-mul n (w .id + kind)) in
+      subst (λ (m : ℕ). Searching w kind s at passed wanted m (suc n)) all
+      (subst (λ (m : ℕ). Searching w kind s at passed wanted (at + w .count + n * (w .id + kind) + (w .id + kind)) m) (add-one n)
+      (step before (omega arith) (ne (omega arith)) (λ id. none n id (omega arith))))
+
+  pub search-from : {count n : ℕ} → ReadableGroup w kind s at → count ≡ numberAt s at (w .count) → Unwanted wanted kind passed count n
+      → Searching w kind s at passed wanted (at + w .count + n * (w .id + kind)) n
+  search-from g is u = steps g _ (omega (arith, is, u .inside)) (u .fixed) (u .none)
+
 -- ---- from group to group
 
 -- the first answer where it found one, else the second
@@ -226,29 +263,29 @@ module _ {w : Widths} {k : ℕ} {ks : List ℕ} {s : List ℕ} {at passed : ℕ}
               ∙ ahead;
         }
 
--- the kinds behind the first four
-abbrev pub lastKinds : Widths → List ℕ
-lastKinds w = pick (w .variable) (9 ∷ []) []
+-- before the group with number `k`, whatever record is read
+abbrev pub Ahead : Widths → List ℕ → Wanted → ℕ → ℕ → ℕ → Type 0
+Ahead w s wanted k at passed =
+    (x : AvlRecord) (n : ℕ) → avlRecord 255 w s 0 ≡ got x n → Onward w (drop k (kinds w)) s at passed wanted (elementAs (pickFrom wanted 0 (elements w x)))
 
-pub onward-start : {w : Widths} {s : List ℕ} {at : ℕ} {x : AvlRecord} {next : ℕ} (wanted : Wanted) → at ≡ fixedSize w → avlRecord 255 w s 0 ≡ got x next
-    → Onward w (1 ∷ 2 ∷ 4 ∷ 8 ∷ lastKinds w) s at 0 wanted (elementAs (pickFrom wanted 0 (elements w x)))
-unfolding elements kinds
-onward-start {w} {s} {at} {x} {next} wanted e h =
+pub ahead-start : (w : Widths) (s : List ℕ) {at : ℕ} (wanted : Wanted) → at ≡ fixedSize w → Ahead w s wanted 0 at 0
+unfolding elements
+ahead-start w s wanted e x next h =
     record {
       rest = x .groups;
       end = next;
       reads = ap (groups w (kinds w) s) e ∙ record-read 255 w s .if-got _ _ h .groupsRead;
-      few = omega (arith, pick-either (λ (l : List ℕ). length l ≤ 1) (w .variable) (9 ∷ []) [] (omega arith) (omega arith));
+      few = omega (arith, kinds-few w);
       same = ap (λ (n : ℕ). elementAs (pickFrom wanted 0 (locateGroups w (kinds w) n (x .groups)))) e;
     }
 
-module _ {w : Widths} {s : List ℕ} {at passed : ℕ} {wanted : Wanted} {answer : ElementAnswer} where
-  pub onward-none : Onward w [] s at passed wanted answer → ElementAnswer.Nothing ≡ answer
-  unfolding locateGroups pickFrom elementAs
-  onward-none h = h .same
+pub ahead-next : {w : Widths} {s : List ℕ} {wanted : Wanted} {k at passed kind : ℕ} → k < length (kinds w) → kind ≡ getD allKinds k 0 → Ahead w s wanted k at passed
+    → (x : AvlRecord) (n : ℕ) → avlRecord 255 w s 0 ≡ got x n → Onward w (kind ∷ drop (k + 1) (kinds w)) s at passed wanted (elementAs (pickFrom wanted 0 (elements w x)))
+ahead-next {w} {s} {wanted} {k} {at} {passed} h e a x n r =
+    subst (λ (ks : List ℕ). Onward w ks s at passed wanted (elementAs (pickFrom wanted 0 (elements w x)))) (next-kind w k h (e ∙ kind-known w k h)) (a x n r)
 
-  pub onward-fixed : w .variable ≡ false → Onward w (lastKinds w) s at passed wanted answer → Onward w [] s at passed wanted answer
-  onward-fixed e h = subst (λ (l : List ℕ). Onward w l s at passed wanted answer) (pick-false (w .variable) (9 ∷ []) [] e) h
-
-  pub onward-variable : w .variable ≡ true → Onward w (lastKinds w) s at passed wanted answer → Onward w (9 ∷ []) s at passed wanted answer
-  onward-variable e h = subst (λ (l : List ℕ). Onward w l s at passed wanted answer) (pick-true (w .variable) (9 ∷ []) [] e) h
+pub ahead-none : {w : Widths} {s : List ℕ} {wanted : Wanted} {k at passed : ℕ} → length (kinds w) ≤ k → Ahead w s wanted k at passed
+    → (x : AvlRecord) (n : ℕ) → avlRecord 255 w s 0 ≡ got x n → ElementAnswer.Nothing ≡ elementAs (pickFrom wanted 0 (elements w x))
+unfolding locateGroups pickFrom elementAs
+ahead-none {w} {s} {wanted} {k} {at} {passed} h a x n r =
+    subst (λ (ks : List ℕ). Onward w ks s at passed wanted (elementAs (pickFrom wanted 0 (elements w x)))) (drop-of-length-le (kinds w) h) (a x n r) .same
