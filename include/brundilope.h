@@ -156,18 +156,21 @@ struct brundilope_value brundilope_id_in_datagram(const uint8_t *p, size_t p_len
 /* The first element with this ID in the last record of the newer TCP data packet; if there is none, in the last record
  * of the older. Refusals: those of reading the newer; those of reading the older, which is judged only if the newer
  * lacks the ID; then 16. */
-struct brundilope_known brundilope_last_known(const uint8_t *newer, size_t newer_len, const uint8_t *older, size_t older_len, uint16_t id);
+struct brundilope_known brundilope_last_known(const uint8_t *newer, size_t newer_len,
+                                              const uint8_t *older, size_t older_len, uint16_t id);
 
 /* ---- answering */
 
 /* One byte to a login: 01 if it is well formed and `known` says that the caller knows the unit, else 00.
  * Refusal 18 only. */
-struct brundilope_written brundilope_answer_login(const uint8_t *p, size_t p_len, bool known, uint8_t *out, size_t out_len);
+struct brundilope_written brundilope_answer_login(const uint8_t *p, size_t p_len, bool known,
+                                                  uint8_t *out, size_t out_len);
 
-/* Four bytes to a TCP data packet: the number of records, or zeros for a refused packet. Refusal 18 only. */
+/* Four bytes to a TCP data packet: the number of records, big-endian; zeros for a refused packet. Refusal 18 only. */
 struct brundilope_written brundilope_acknowledge_packet(const uint8_t *p, size_t p_len, uint8_t *out, size_t out_len);
 
-/* Seven bytes to a datagram. Refusals: those of reading the datagram (it gets no acknowledgement then), 18. */
+/* Seven bytes to a datagram: 00 05, packet ID, unused byte and AVL packet ID as received, number of records.
+ * Refusals: those of reading the datagram, which then gets no acknowledgement; then 18. */
 struct brundilope_written brundilope_acknowledge_datagram(const uint8_t *p, size_t p_len, uint8_t *out, size_t out_len);
 
 /* ---- writing: 1,280 bytes are enough for every packet, 4,096 for every TLV form */

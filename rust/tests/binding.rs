@@ -17,7 +17,10 @@ const DATA: [u8; 113] = [
     2, // count again
 ];
 
-const PRIORITY: usize = 2 + 38 + 8;
+const PRIORITY: usize = 48;
+const TOTAL: usize = 67;
+const VARIABLE_COUNT: usize = 100;
+const TAG: usize = 103;
 
 const RECORD: Record = Record {
     timestamp: 0x0102_0304_0506_0708,
@@ -137,6 +140,23 @@ fn a_refusal_says_its_record() {
     assert_eq!(form_of_datagram(d, out), Err(refusal));
     assert_eq!(acknowledge_datagram(d, out), Err(refusal));
     assert_eq!(out, [0; 512]);
+}
+
+#[test]
+fn refusals_8_to_12_go_with_a_record() {
+    let codec16 = &samples::CODEC16[8..103];
+    let over_255_bytes = [&DATA[..TAG], &[0, 203], &[0; 203], &DATA[TAG + 5..]].concat();
+    let refused = [
+        (8, with(&DATA, VARIABLE_COUNT, 3)),
+        (9, with(&DATA, TOTAL, 5)),
+        (10, with(&DATA, PRIORITY, 3)),
+        (11, with(codec16, 74, 8)),
+        (12, over_255_bytes),
+    ];
+    for (number, data) in refused {
+        assert_eq!(read_packet(&packet(&data)), Err(Refusal { number, record: Some(1) }));
+        assert_eq!(read_datagram(&datagram(&data)), Err(Refusal { number, record: Some(1) }));
+    }
 }
 
 #[test]
