@@ -10,7 +10,7 @@
  *    3  data length outside 3 to 1,268; datagram over 1,280
  *    4  input length differs from what its length field gives; login over 17 bytes
  *    5  CRC field wrong
- *    6  codec not one this call takes
+ *    6  codec not one this entry point takes
  *    7  counts or quantities break their rule
  *    8  a field's bytes are not all there, or bytes are left over
  *    9  IO total wrong

@@ -9,7 +9,7 @@ const MEANINGS: [&str; 18] = [
     "data length outside 3 to 1,268; datagram over 1,280",
     "input length differs from what its length field gives; login over 17 bytes",
     "CRC field wrong",
-    "codec not one this call takes",
+    "codec not one this entry point takes",
     "counts or quantities break their rule",
     "a field's bytes are not all there, or bytes are left over",
     "IO total wrong",
