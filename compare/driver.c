@@ -45,7 +45,7 @@ static void print_bytes(const uint8_t *at, size_t size) {
     for (size_t i = 0; i < size; i++) printf("%02x", at[i]);
 }
 
-static void refused(uint8_t number, size_t index) { printf("refused %u %zu", number, index); }
+static void refused(size_t number, size_t index) { printf("refused %zu %zu", number, index); }
 
 static void written(struct brundilope_written w, struct bytes out) {
     if (w.number) refused(w.number, w.index);
@@ -60,7 +60,7 @@ static void value(struct brundilope_value v) {
 }
 
 /* A view, empty on a refusal. */
-static void view(struct bytes p, uint8_t number, size_t offset, size_t size) {
+static void view(struct bytes p, size_t number, size_t offset, size_t size) {
     printf("bytes ");
     if (number) putchar('-');
     else print_bytes(p.at + offset, size);

@@ -11,7 +11,7 @@ int main(void) {
 
     struct brundilope_packet packet = brundilope_read_packet(bytes, size);
     if (packet.number != 0) {
-        printf("refusal %u\n", packet.number);
+        printf("refusal %zu\n", packet.number);
         return 1;
     }
     printf("codec %02X, records %u\n", packet.codec, packet.count);

@@ -44,7 +44,7 @@ extern "C" {
 
 /* A TCP data packet. */
 struct brundilope_packet {
-    uint8_t number;
+    size_t number;
     size_t index;
     uint8_t codec; /* 0x08, 0x8E or 0x10 */
     uint8_t count; /* of records, 1 to 255 */
@@ -52,7 +52,7 @@ struct brundilope_packet {
 
 /* A UDP datagram. */
 struct brundilope_datagram {
-    uint8_t number;
+    size_t number;
     size_t index;
     uint8_t codec; /* 0x08, 0x8E or 0x10 */
     uint8_t count; /* of records, 1 to 255 */
@@ -64,14 +64,14 @@ struct brundilope_datagram {
 
 /* A TCP login. */
 struct brundilope_login {
-    uint8_t number;
+    size_t number;
     size_t index;
     uint64_t imei; /* below 10^15 */
 };
 
 /* A command packet. Its text is the `size` bytes of the input from `offset` on. */
 struct brundilope_command {
-    uint8_t number;
+    size_t number;
     size_t index;
     uint8_t codec; /* 0x0C or 0x0E */
     uint8_t type;  /* 0x05 command, 0x06 response, 0x11 IMEI doesn't match (0x0E only) */
@@ -82,7 +82,7 @@ struct brundilope_command {
 
 /* A record's fixed fields, and the number of its elements. */
 struct brundilope_record {
-    uint8_t number;
+    size_t number;
     size_t index;
     uint64_t timestamp; /* ms since 1970, UTC */
     uint8_t priority;   /* 0 to 2 */
@@ -99,7 +99,7 @@ struct brundilope_record {
 
 /* An element. Its value is the `size` bytes of the input from `offset` on; they lie within its record. */
 struct brundilope_value {
-    uint8_t number;
+    size_t number;
     size_t index;
     uint16_t id;
     uint8_t kind; /* 1, 2, 4, 8: a value of so many bytes; 9: of variable length, which may be 0 */
@@ -109,7 +109,7 @@ struct brundilope_value {
 
 /* The last known value of an ID. */
 struct brundilope_known {
-    uint8_t number;
+    size_t number;
     size_t index;
     bool older; /* the value is in the older packet, else in the newer */
     uint16_t id;
@@ -120,7 +120,7 @@ struct brundilope_known {
 
 /* What a writer gives: how many bytes it wrote, 0 on a refusal. */
 struct brundilope_written {
-    uint8_t number;
+    size_t number;
     size_t index;
     size_t written;
 };

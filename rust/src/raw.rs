@@ -2,7 +2,7 @@
 
 #[repr(C)]
 pub struct Packet {
-    pub number: u8,
+    pub number: usize,
     pub index: usize,
     pub codec: u8,
     pub count: u8,
@@ -10,7 +10,7 @@ pub struct Packet {
 
 #[repr(C)]
 pub struct Datagram {
-    pub number: u8,
+    pub number: usize,
     pub index: usize,
     pub codec: u8,
     pub count: u8,
@@ -22,14 +22,14 @@ pub struct Datagram {
 
 #[repr(C)]
 pub struct Login {
-    pub number: u8,
+    pub number: usize,
     pub index: usize,
     pub imei: u64,
 }
 
 #[repr(C)]
 pub struct Command {
-    pub number: u8,
+    pub number: usize,
     pub index: usize,
     pub codec: u8,
     pub message_type: u8,
@@ -40,7 +40,7 @@ pub struct Command {
 
 #[repr(C)]
 pub struct Record {
-    pub number: u8,
+    pub number: usize,
     pub index: usize,
     pub timestamp: u64,
     pub priority: u8,
@@ -57,7 +57,7 @@ pub struct Record {
 
 #[repr(C)]
 pub struct Value {
-    pub number: u8,
+    pub number: usize,
     pub index: usize,
     pub id: u16,
     pub kind: u8,
@@ -67,7 +67,7 @@ pub struct Value {
 
 #[repr(C)]
 pub struct Known {
-    pub number: u8,
+    pub number: usize,
     pub index: usize,
     pub older: bool,
     pub id: u16,
@@ -78,7 +78,7 @@ pub struct Known {
 
 #[repr(C)]
 pub struct Written {
-    pub number: u8,
+    pub number: usize,
     pub index: usize,
     pub written: usize,
 }

@@ -40,7 +40,7 @@ const MEANINGS: [&str; 18] = [
 #[derive(Clone, Copy, Debug, PartialEq, Eq, Hash)]
 pub struct Refusal {
     /// The number, 1 to 18.
-    pub number: u8,
+    pub number: usize,
     /// The record's index, from 0. It goes with 8 to 12 in data packets and datagrams; left-over bytes have the number
     /// of records.
     pub record: Option<usize>,
@@ -54,7 +54,7 @@ impl Refusal {
     /// assert_eq!(refusal.meaning(), "under 8 bytes (TCP packet), 17 (login), 26 (UDP)");
     /// ```
     pub fn meaning(self) -> &'static str {
-        let place = usize::from(self.number).wrapping_sub(1);
+        let place = self.number.wrapping_sub(1);
         MEANINGS.get(place).copied().unwrap_or("not the number of a refusal")
     }
 }
@@ -72,7 +72,7 @@ impl Display for Refusal {
 impl Error for Refusal {}
 
 /// The judgement of a login, command or form, which have no records: `number` is 0 where it is accepted.
-pub(crate) fn judged(number: u8) -> Result<(), Refusal> {
+pub(crate) fn judged(number: usize) -> Result<(), Refusal> {
     match number {
         0 => Ok(()),
         _ => Err(Refusal { number, record: None }),
@@ -80,7 +80,7 @@ pub(crate) fn judged(number: u8) -> Result<(), Refusal> {
 }
 
 /// The judgement of a data packet or datagram, with the record's index.
-pub(crate) fn data_judged(number: u8, index: usize) -> Result<(), Refusal> {
+pub(crate) fn data_judged(number: usize, index: usize) -> Result<(), Refusal> {
     let record = (8..=12).contains(&number).then_some(index);
     judged(number).map_err(|refusal| Refusal { record, ..refusal })
 }

@@ -54,11 +54,11 @@ fn with(input: &[u8], changes: &[(usize, u8)]) -> Vec<u8> {
     changed
 }
 
-const fn refused(number: u8) -> Answer {
+const fn refused(number: usize) -> Answer {
     Err(Refusal { number, record: None })
 }
 
-const fn refused_at(record: usize, number: u8) -> Answer {
+const fn refused_at(record: usize, number: usize) -> Answer {
     Err(Refusal { number, record: Some(record) })
 }
 
