@@ -1,6 +1,6 @@
 -- The search among a record's elements: within a group, from group to group, and what it is of the whole record.
 use Prim.Native.Nat.{ℕ, zero, suc, _+_, _-_, _*_, _^_, _≤_, _<_}
-use native.Mathlib.Nat.{add-zero, add-assoc, suc-mul, pow-le-pow-right, le-trans}
+use native.Mathlib.Nat.{add-zero, add-assoc, pow-le-pow-right, le-trans}
 use native.Mathlib.Numerals.{add-one}
 use native.Mathlib.Omega.{arith}
 use mathlib.Core.Path.{_≡_, refl, sym, ap, ap₂, _∙_, subst}
@@ -25,8 +25,8 @@ use Rattle.element.specs.declared.Value.{Value}
 use Rattle.element.specs.declared.Wanted.{Wanted}
 use Rattle.element.specs.declared.Search.{Search}
 use Rattle.element.specs.declared.ElementAnswer.{ElementAnswer}
-use Rattle.element.specs.Elements.{Located, leadSize, locateGroup, locateGroups, fixedSize, elements, nth, firstWith}
-use Rattle.element.specs.Search.{ReadableElement, ReadableGroup, isWanted, Unwanted, pickFrom, locatedValue, valueAt, hitOr, searched, elementAs}
+use Rattle.element.specs.Elements.{Located, locateGroup, locateGroups, fixedSize, elements, nth, firstWith}
+use Rattle.element.specs.Search.{ReadableElement, ReadableGroup, isWanted, pickFrom, locatedValue, valueAt, hitOr, searched, elementAs}
 use Rattle.element.proofs.ElementLaws.{length-element, length-group}
 use Rattle.element.proofs.ReadLaws.{got-same, element-read, Parted, repeat-parted, repeat-nothing, groups-parted, group-repeat, record-read}
 
@@ -142,42 +142,6 @@ module _ {w : Widths} {kind : ℕ} {s : List ℕ} {at passed : ℕ} {wanted : Wa
                   ∙ ap (λ (l : List Element). searched wanted (passed + i) (h .end) (locateGroup w kind next l)) (sym (front .is))
                   ∙ h .same;
             }
-
-pub unwanted-none : (wanted : Wanted) (kind passed count : ℕ) → Unwanted wanted kind passed count 0
-unwanted-none wanted kind passed count = record { inside = omega arith; fixed = λ h. absurd (omega arith); none = λ i id h. absurd (omega arith) }
-
-pub unwanted-number : {wanted : Wanted} {k : ℕ} (kind passed count n : ℕ) → wanted ≡ Wanted.Number k → (kind ≡ 9 → ⊥) → n ≤ count → passed + n ≤ k → Unwanted wanted kind passed count n
-unfolding isWanted
-unwanted-number {wanted} {k} kind passed count n is ne h before =
-    subst (λ (x : Wanted). Unwanted x kind passed count n) (sym is)
-    (record { inside = h; fixed = λ some. ne; none = λ i id less. ne-eqb (passed + i) k (λ same. omega arith) })
-
--- elements of one size that are not wanted are stepped over at once
-module _ {w : Widths} {kind : ℕ} {s : List ℕ} {at passed : ℕ} {wanted : Wanted} where
-  step : {next i : ℕ} (h : Searching w kind s at passed wanted next i) → i < numberAt s at (w .count) → (kind ≡ 9 → ⊥) → ((id : ℕ) → isWanted wanted (passed + i) id ≡ false)
-      → Searching w kind s at passed wanted (next + (w .id + kind)) (i + 1)
-  unfolding valueAt leadSize
-  step {next} {i} h more ne none =
-      let e = search-element h more in
-      let read = element-read w kind s next .if-got _ _ (e .reads) in
-      let size : length (e .content .value) ≡ kind = read .sizeIs ∙ pick-false (eqb kind 9) _ _ (ne-eqb kind 9 ne) in
-      let lead : pick {A = ℕ} (eqb kind 9) 2 0 ≡ 0 = pick-false (eqb kind 9) 2 0 (ne-eqb kind 9 ne) in
-      subst (λ (n : ℕ). Searching w kind s at passed wanted n (i + 1)) (omega arith)
-      (search-on h more {v = valueAt w kind next (e .content)} (λ x n k. ap (valueAt w kind next) (got-same (e .reads) k .0)) (none _))
-
-  steps : (g : ReadableGroup w kind s at) (n : ℕ) → n ≤ numberAt s at (w .count) → (0 < n → kind ≡ 9 → ⊥) → ((i id : ℕ) → i < n → isWanted wanted (passed + i) id ≡ false)
-      → Searching w kind s at passed wanted (at + w .count + n * (w .id + kind)) n
-  steps g zero h ne none = subst (λ (m : ℕ). Searching w kind s at passed wanted m 0) (omega arith) (search-start g)
-  steps g (suc n) h ne none =
-      let before = steps g n (omega arith) (λ some. ne (omega arith)) (λ i id k. none i id (omega arith)) in
-      let all : at + w .count + n * (w .id + kind) + (w .id + kind) ≡ at + w .count + suc n * (w .id + kind) = omega (arith, suc-mul n (w .id + kind)) in
-      subst (λ (m : ℕ). Searching w kind s at passed wanted m (suc n)) all
-      (subst (λ (m : ℕ). Searching w kind s at passed wanted (at + w .count + n * (w .id + kind) + (w .id + kind)) m) (add-one n)
-      (step before (omega arith) (ne (omega arith)) (λ id. none n id (omega arith))))
-
-  pub search-from : {count n : ℕ} → ReadableGroup w kind s at → count ≡ numberAt s at (w .count) → Unwanted wanted kind passed count n
-      → Searching w kind s at passed wanted (at + w .count + n * (w .id + kind)) n
-  search-from g is u = steps g _ (omega (arith, is, u .inside)) (u .fixed) (u .none)
 
 -- ---- from group to group
 

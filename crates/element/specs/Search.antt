@@ -1,7 +1,7 @@
 -- The search among a record's elements, and what its functions answer.
-use Prim.Native.Nat.{ℕ, zero, suc, _+_, _≤_, _<_}
+use Prim.Native.Nat.{ℕ, zero, suc, _+_}
 use mathlib.Core.Path.{_≡_}
-use mathlib.Core.Bool.{Bool, false}
+use mathlib.Core.Bool.{Bool}
 use mathlib.Core.List.{List, [], _∷_}
 use lib.ListN.{length}
 use lib.Dec.{eqb}
@@ -40,12 +40,6 @@ pub record ReadableGroup (w : Widths) (kind : ℕ) (s : List ℕ) (at : ℕ) : T
 unfoldable pub isWanted : Wanted → ℕ → ℕ → Bool
 isWanted (Wanted.Number k) place id = eqb place k
 isWanted (Wanted.Id d) place id = eqb id d
-
--- the first `n` elements of a group of `count`, whose values have one size, are not wanted, whatever their IDs
-pub record Unwanted (wanted : Wanted) (kind passed count n : ℕ) : Type 0 where
-  pub inside : n ≤ count
-  pub fixed : 0 < n → kind ≡ 9 → ⊥
-  pub none : (i id : ℕ) → i < n → isWanted wanted (passed + i) id ≡ false
 
 -- the first that is wanted, the first of the list having this number
 unfoldable pub pickFrom : Wanted → ℕ → List Located → Answer Located

@@ -9,7 +9,7 @@ ghost use Rattle.avl.specs.RecordReader.{element, group, avlRecord};
 ghost use Rattle.walk.specs.Walks.{Narrow};
 ghost use Rattle.element.specs.Elements.{elements, fixedSize, locateGroup};
 ghost use Rattle.element.specs.Results.{recordResult};
-ghost use Rattle.element.specs.Search.{Readable, ReadableElement, ReadableGroup, isWanted, Unwanted, pickFrom, valueAt, searched, elementAs};
+ghost use Rattle.element.specs.Search.{Readable, ReadableElement, ReadableGroup, isWanted, pickFrom, valueAt, searched, elementAs};
 
 // A record's fixed fields, and the number of its elements.
 pub struct RecordFields {
@@ -147,27 +147,6 @@ fn element_value(w: Widths, kind: usize, part: &[u8], at: usize) -> Value
     }
 }
 
-// How many elements at the start of a group need not be looked at: those before the wanted number, where all have one size.
-fn unwanted(wanted: Wanted, kind: usize, passed: usize, count: usize) -> usize
-    ensures { λ r. ⌜ Unwanted wanted kind passed count r ⌝ }
-{
-    match wanted {
-        Wanted::Id(_) => 0,
-        Wanted::Number(k) => {
-            if kind == 9 {
-                return 0;
-            }
-            if k < passed {
-                return 0;
-            }
-            if count < k - passed {
-                return count;
-            }
-            k - passed
-        }
-    }
-}
-
 // The wanted element of a group, of whose record `passed` elements stand before it.
 fn find_in_group(
     w: Widths,
@@ -184,11 +163,9 @@ fn find_in_group(
     ensures { λ r. ⌜ ((g : List Element) (n : ℕ) → group w kind (now (part .entry)) at ≡ got g n → r ≡ searched wanted passed n (locateGroup w kind (at + w .count) g)) ⌝ }
 {
     let width = w.count;
-    let id = w.id;
     let count = wire::short_number(part, at, width) as usize;
-    let first = unwanted(wanted, kind, passed, count);
-    let mut next = at + width + first * (id + kind);
-    let mut i = first;
+    let mut next = at + width;
+    let mut i: usize = 0;
     while i < count {
         let v = element_value(w, kind, part, next);
         if is_wanted(wanted, passed + i, v.id) {
