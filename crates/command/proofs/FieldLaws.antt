@@ -15,8 +15,8 @@ use Rattle.wire.proofs.Accepting.{told-got}
 use Rattle.command.specs.declared.Layout.{Layout}
 use Rattle.command.specs.declared.BodyWalk.the-variants.{Of, Stopped}
 use Rattle.command.specs.Layouts.{layoutOf}
-use Rattle.command.specs.Commands.{Command, commandBody, readField}
-use Rattle.command.specs.Walks.{bodyAs, answered}
+use Rattle.command.specs.Commands.{Command, commandBody, readField, answered}
+use Rattle.command.specs.Walks.{bodyAs}
 use Rattle.command.proofs.CommandLaws.{layout-codec, body-sound}
 
 body-of : (r : Read Command) {type imei size : ℕ} → bodyAs r ≡ Of type imei size

@@ -2,7 +2,7 @@
 use mathlib.Core.Path.{_≡_, refl}
 use mathlib.Core.List.{List, [], _∷_}
 use Prim.Native.Nat.{ℕ}
-use Rattle.command.specs.Commands.{Command}
+use Rattle.command.specs.Commands.{Command, commandField, commandBody, readField, readCommand, answerCommand, textView}
 use Rattle.wire.specs.Answers.{accepted, refused}
 use Rattle.wire.specs.Answers.{onAccepted, told, check}
 use Rattle.wire.specs.Envelope.{enclosed, codecOf, firstCount, lastCount, inner}
@@ -11,7 +11,6 @@ use Rattle.wire.specs.Numbers.{numberAt, digits, valueFrom, littleAt, le, signe
 use Rattle.wire.specs.Reading.{walked, numbered, andThen, _>>=_, _>>_, pure, here, require, span, number, bytes, upTo, repeat}
 use Rattle.checksum.specs.Crc.{feedback, shift, shifts, absorb, crcFrom, crc}
 use Rattle.frame.specs.Frame.{framed, fieldLength, fieldOf, unframe, lastFour, framing}
-use Rattle.command.specs.Commands.{commandField, commandBody, readField, readCommand, answerCommand, textView}
 use Rattle.command.specs.Layouts.{types, layouts, findLayout, layoutOf}
 use Rattle.command.specs.Writing.{givenImei, packetOf, commandBytes}
 

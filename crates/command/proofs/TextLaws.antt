@@ -15,7 +15,7 @@ use Rattle.frame.specs.Frame.{framed}
 use Rattle.command.specs.declared.Layout.{Layout}
 use Rattle.command.specs.declared.CommandFields.{CommandFields}
 use Rattle.command.specs.Layouts.{layoutOf}
-use Rattle.command.specs.Commands.{Command, bodyBytes, commandField, readCommand, answerCommand, textView}
+use Rattle.command.specs.Commands.{Command, bodyBytes, commandField, readCommand, answerCommand, answered, textView}
 use Rattle.command.proofs.CommandLaws.{layout-unique}
 use Rattle.command.proofs.PacketLaws.{command-exact}
 
@@ -38,7 +38,7 @@ text-between l c p e =
 
 pub text-stands : (largest : ℕ) (p : List ℕ) (f : CommandFields) → Bytes p → answerCommand largest p ≡ accepted f
     → (c : Command) × (readCommand largest p ≡ accepted c) × (take (f .size) (drop (f .offset) p) ≡ c .text) × (f .offset + f .size ≤ length p)
-unfolding answerCommand
+unfolding answerCommand answered
 text-stands largest p f h e =
     let read = onAccepted-accepted (readCommand largest p) _ e in
     let c = read .0 in
@@ -60,7 +60,7 @@ first-refused (refused m j) f h e = ap₂ refused (cc) (cc)
 
 -- a refused packet has no text
 pub text-refused : (largest : ℕ) (p : List ℕ) {n i : ℕ} → Bytes p → answerCommand largest p ≡ refused n i → textView (readCommand largest p) ≡ []
-unfolding answerCommand textView
+unfolding answerCommand answered textView
 text-refused largest p h e =
     ap textView (first-refused (readCommand largest p) _ (λ c r.
     let k = command-exact largest p c h .0 r in

@@ -82,11 +82,14 @@ readCommand largest p = onAccepted (unframe largest p) readField
 
 -- ---- the result: codec, type, IMEI, and the text's offset from the input's start and length
 
-unfoldable pub answerCommand : ℕ → List ℕ → Answer CommandFields
-answerCommand largest p =
-    onAccepted (readCommand largest p)
+unfoldable pub answered : Answer Command → Answer CommandFields
+answered r =
+    onAccepted r
     (λ c. onAccepted (layoutOf (c .codec))
     (λ l. accepted (record { codec = c .codec; kind = c .type; imei = c .imei; offset = 15 + l .imei; size = length (c .text) })))
+
+unfoldable pub answerCommand : ℕ → List ℕ → Answer CommandFields
+answerCommand largest p = answered (readCommand largest p)
 
 -- the view of the text, empty on every refusal
 unfoldable pub textView : Answer Command → List ℕ

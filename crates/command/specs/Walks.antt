@@ -7,24 +7,15 @@ use Rattle.wire.specs.Answers.{Answer, accepted, refused, onAccepted}
 use Rattle.frame.specs.Frame.{framed}
 use Rattle.command.specs.declared.BodyWalk.{BodyWalk}
 use Rattle.command.specs.declared.BodyWalk.the-variants.{Of, Stopped}
-use Rattle.command.specs.declared.CommandFields.{CommandFields}
 use Rattle.command.specs.declared.Given.{Given}
 use Rattle.command.specs.declared.Given.the-variants.{Imei, Refused}
 use Rattle.command.specs.declared.Layout.{Layout}
-use Rattle.command.specs.Layouts.{layoutOf}
 use Rattle.command.specs.Commands.{Command, commandField}
 
 -- the type, the IMEI and the text's length
 unfoldable pub bodyAs : Read Command → BodyWalk
 bodyAs (got c next) = Of (c .type) (c .imei) (length (c .text))
 bodyAs (bad x) = Stopped x
-
--- the fields of a command that was read
-unfoldable pub answered : Answer Command → Answer CommandFields
-answered r =
-    onAccepted r
-    (λ c. onAccepted (layoutOf (c .codec))
-    (λ l. accepted (record { codec = c .codec; kind = c .type; imei = c .imei; offset = 15 + l .imei; size = length (c .text) })))
 
 -- the IMEI that is given
 unfoldable pub givenAs : Given → Answer ℕ

@@ -13,9 +13,9 @@ ghost use Rattle.wire.specs.Buffers.{writing, leaving, writtenAs};
 ghost use Rattle.wire.specs.Imei.{packed};
 ghost use Rattle.frame.specs.Frame.{framed};
 ghost use Rattle.command.specs.Layouts.{layoutOf, rowAs, types, member};
-ghost use Rattle.command.specs.Commands.{bodyBytes, commandField, mismatch, commandBody, readField, readCommand, answerCommand, textView, commandAs};
+ghost use Rattle.command.specs.Commands.{bodyBytes, commandField, mismatch, commandBody, readField, readCommand, answerCommand, textView, commandAs, answered};
 ghost use Rattle.command.specs.Writing.{givenImei, commandBytes};
-ghost use Rattle.command.specs.Walks.{bodyAs, answered, givenAs, planned};
+ghost use Rattle.command.specs.Walks.{bodyAs, givenAs, planned};
 
 // The most bytes of a packet.
 pub const LARGEST: usize = 1280;

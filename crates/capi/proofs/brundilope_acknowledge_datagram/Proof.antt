@@ -8,19 +8,15 @@ use Rattle.capi.proofs.brundilope_acknowledge_datagram.Lts as lts
 use Rattle.capi.proofs.flat_written.Reads as flat-written-reads
 use Rattle.datagram.proofs.acknowledge_datagram.Reads as acknowledge-datagram-reads
 
--- src/lib.rt:144:18
 acknowledge-datagram-requires : tie.Need-acknowledge-datagram-requires
 acknowledge-datagram-requires c κs = search needs
 
--- src/lib.rt:144:5
 flat-written-requires : tie.Need-flat-written-requires
 flat-written-requires c κs = search needs
 
--- src/lib.rt:139:1
 same-length : tie.Need-same-length
 same-length c = search needs
 
--- src/lib.rt:139:1
 returns : tie.Need-returns
 returns c = (c .flat-written .ensures ∙ ap flatWritten (c .before .before .before .acknowledge-datagram .ensures .0), c .before .before .before .acknowledge-datagram .ensures .1)
 

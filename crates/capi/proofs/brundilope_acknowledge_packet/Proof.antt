@@ -8,19 +8,15 @@ use Rattle.capi.proofs.brundilope_acknowledge_packet.Lts as lts
 use Rattle.capi.proofs.flat_written.Reads as flat-written-reads
 use Rattle.packet.proofs.acknowledge_packet.Reads as acknowledge-packet-reads
 
--- src/lib.rt:104:18
 acknowledge-packet-requires : tie.Need-acknowledge-packet-requires
 acknowledge-packet-requires c κs = search needs
 
--- src/lib.rt:104:5
 flat-written-requires : tie.Need-flat-written-requires
 flat-written-requires c κs = search needs
 
--- src/lib.rt:99:1
 same-length : tie.Need-same-length
 same-length c = search needs
 
--- src/lib.rt:99:1
 returns : tie.Need-returns
 returns c = (c .flat-written .ensures ∙ ap flatWritten (c .before .before .before .acknowledge-packet .ensures .0), c .before .before .before .acknowledge-packet .ensures .1)
 

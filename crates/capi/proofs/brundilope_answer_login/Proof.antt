@@ -8,19 +8,15 @@ use Rattle.capi.proofs.brundilope_answer_login.Lts as lts
 use Rattle.capi.proofs.flat_written.Reads as flat-written-reads
 use Rattle.login.proofs.answer_login.Reads as answer-login-reads
 
--- src/lib.rt:170:18
 answer-login-requires : tie.Need-answer-login-requires
 answer-login-requires c κs = search needs
 
--- src/lib.rt:170:5
 flat-written-requires : tie.Need-flat-written-requires
 flat-written-requires c κs = search needs
 
--- src/lib.rt:165:1
 same-length : tie.Need-same-length
 same-length c = search needs
 
--- src/lib.rt:165:1
 returns : tie.Need-returns
 returns c = (c .flat-written .ensures ∙ ap flatWritten (c .before .before .before .answer-login .ensures .0), c .before .before .before .answer-login .ensures .1)
 

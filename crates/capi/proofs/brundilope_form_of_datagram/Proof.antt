@@ -8,19 +8,15 @@ use Rattle.capi.proofs.brundilope_form_of_datagram.Lts as lts
 use Rattle.capi.proofs.flat_written.Reads as flat-written-reads
 use Rattle.form.proofs.form_of_datagram.Reads as form-of-datagram-reads
 
--- src/lib.rt:402:18
 form-of-datagram-requires : tie.Need-form-of-datagram-requires
 form-of-datagram-requires c κs = search needs
 
--- src/lib.rt:402:5
 flat-written-requires : tie.Need-flat-written-requires
 flat-written-requires c κs = search needs
 
--- src/lib.rt:397:1
 same-length : tie.Need-same-length
 same-length c = search needs
 
--- src/lib.rt:397:1
 returns : tie.Need-returns
 returns c = (c .flat-written .ensures ∙ ap flatWritten (c .before .before .before .form-of-datagram .ensures .0), c .before .before .before .form-of-datagram .ensures .1)
 

@@ -8,19 +8,15 @@ use Rattle.capi.proofs.brundilope_form_of_packet.Lts as lts
 use Rattle.capi.proofs.flat_written.Reads as flat-written-reads
 use Rattle.form.proofs.form_of_packet.Reads as form-of-packet-reads
 
--- src/lib.rt:394:18
 form-of-packet-requires : tie.Need-form-of-packet-requires
 form-of-packet-requires c κs = search needs
 
--- src/lib.rt:394:5
 flat-written-requires : tie.Need-flat-written-requires
 flat-written-requires c κs = search needs
 
--- src/lib.rt:389:1
 same-length : tie.Need-same-length
 same-length c = search needs
 
--- src/lib.rt:389:1
 returns : tie.Need-returns
 returns c = (c .flat-written .ensures ∙ ap flatWritten (c .before .before .before .form-of-packet .ensures .0), c .before .before .before .form-of-packet .ensures .1)
 

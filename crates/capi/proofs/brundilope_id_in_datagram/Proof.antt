@@ -8,15 +8,12 @@ use Rattle.capi.proofs.brundilope_id_in_datagram.Lts as lts
 use Rattle.capi.proofs.flat_value.Reads as flat-value-reads
 use Rattle.lookup.proofs.id_in_datagram.Reads as id-in-datagram-reads
 
--- src/lib.rt:357:16
 id-in-datagram-requires : tie.Need-id-in-datagram-requires
 id-in-datagram-requires c κs = search needs
 
--- src/lib.rt:357:5
 flat-value-requires : tie.Need-flat-value-requires
 flat-value-requires c κs = search needs
 
--- src/lib.rt:353:1
 returns : tie.Need-returns
 returns c = c .flat-value .ensures ∙ ap flatValue (c .before .id-in-datagram .ensures)
 

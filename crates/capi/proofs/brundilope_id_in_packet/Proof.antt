@@ -8,15 +8,12 @@ use Rattle.capi.proofs.brundilope_id_in_packet.Lts as lts
 use Rattle.capi.proofs.flat_value.Reads as flat-value-reads
 use Rattle.lookup.proofs.id_in_packet.Reads as id-in-packet-reads
 
--- src/lib.rt:350:16
 id-in-packet-requires : tie.Need-id-in-packet-requires
 id-in-packet-requires c κs = search needs
 
--- src/lib.rt:350:5
 flat-value-requires : tie.Need-flat-value-requires
 flat-value-requires c κs = search needs
 
--- src/lib.rt:346:1
 returns : tie.Need-returns
 returns c = c .flat-value .ensures ∙ ap flatValue (c .before .id-in-packet .ensures)
 

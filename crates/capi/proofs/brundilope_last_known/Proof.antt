@@ -8,24 +8,19 @@ use Rattle.capi.proofs.brundilope_last_known.Reads as reads
 use Rattle.capi.proofs.brundilope_last_known.Lts as lts
 use Rattle.lookup.proofs.last_known.Reads as last-known-reads
 
--- src/lib.rt:364:11
 last-known-requires : tie.Need-last-known-requires
 last-known-requires c κs = search needs
 
--- src/lib.rt:365:37
 enum-known-past : tie.Need-enum-known-past
 enum-known-past c = search needs
 
--- src/lib.rt:374:30
 enum-known-r : tie.Need-enum-known-r
 enum-known-r c = search needs
 
--- src/lib.rt:360:1
 returns : tie.Need-returns
 unfolding flatKnown knownAs
 returns c = ap flatKnown (ap knownAs (sym (c .before .past .given .1)) ∙ c .before .before .before .last-known .ensures)
 
--- src/lib.rt:360:1
 returns-2 : tie.Need-returns-2
 unfolding flatKnown knownAs
 returns-2 c = ap flatKnown (ap knownAs (sym (c .before .r .given .1)) ∙ c .before .before .before .last-known .ensures)

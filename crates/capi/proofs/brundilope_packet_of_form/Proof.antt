@@ -8,19 +8,15 @@ use Rattle.capi.proofs.brundilope_packet_of_form.Lts as lts
 use Rattle.capi.proofs.flat_written.Reads as flat-written-reads
 use Rattle.rebuild.proofs.packet_of_form.Reads as packet-of-form-reads
 
--- src/lib.rt:410:18
 packet-of-form-requires : tie.Need-packet-of-form-requires
 packet-of-form-requires c κs = search needs
 
--- src/lib.rt:410:5
 flat-written-requires : tie.Need-flat-written-requires
 flat-written-requires c κs = search needs
 
--- src/lib.rt:405:1
 same-length : tie.Need-same-length
 same-length c = search needs
 
--- src/lib.rt:405:1
 returns : tie.Need-returns
 returns c = (c .flat-written .ensures ∙ ap flatWritten (c .before .before .before .packet-of-form .ensures .0), c .before .before .before .packet-of-form .ensures .1)
 

@@ -8,24 +8,19 @@ use Rattle.capi.proofs.brundilope_read_command.Reads as reads
 use Rattle.capi.proofs.brundilope_read_command.Lts as lts
 use Rattle.command.proofs.read_command.Reads as read-command-reads
 
--- src/lib.rt:177:11
 read-command-requires : tie.Need-read-command-requires
 read-command-requires c κs = search needs
 
--- src/lib.rt:178:33
 enum-known-f : tie.Need-enum-known-f
 enum-known-f c = search needs
 
--- src/lib.rt:187:32
 enum-known-r : tie.Need-enum-known-r
 enum-known-r c = search needs
 
--- src/lib.rt:173:1
 returns : tie.Need-returns
 unfolding flatCommand commandAs
 returns c = ap flatCommand (ap commandAs (sym (c .before .f .given .1)) ∙ c .before .before .before .read-command .ensures)
 
--- src/lib.rt:173:1
 returns-2 : tie.Need-returns-2
 unfolding flatCommand commandAs
 returns-2 c = ap flatCommand (ap commandAs (sym (c .before .r .given .1)) ∙ c .before .before .before .read-command .ensures)

@@ -8,24 +8,19 @@ use Rattle.capi.proofs.brundilope_read_datagram.Reads as reads
 use Rattle.capi.proofs.brundilope_read_datagram.Lts as lts
 use Rattle.datagram.proofs.read_datagram.Reads as read-datagram-reads
 
--- src/lib.rt:111:11
 read-datagram-requires : tie.Need-read-datagram-requires
 read-datagram-requires c κs = search needs
 
--- src/lib.rt:113:13
 enum-known-codec : tie.Need-enum-known-codec
 enum-known-codec c = search needs
 
--- src/lib.rt:126:33
 enum-known-r : tie.Need-enum-known-r
 enum-known-r c = search needs
 
--- src/lib.rt:107:1
 returns : tie.Need-returns
 unfolding flatDatagram datagramAs
 returns c = ap flatDatagram (ap datagramAs (sym (c .before .codec .given .1)) ∙ c .before .before .before .read-datagram .ensures)
 
--- src/lib.rt:107:1
 returns-2 : tie.Need-returns-2
 unfolding flatDatagram datagramAs
 returns-2 c = ap flatDatagram (ap datagramAs (sym (c .before .r .given .1)) ∙ c .before .before .before .read-datagram .ensures)

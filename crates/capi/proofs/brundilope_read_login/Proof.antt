@@ -8,24 +8,19 @@ use Rattle.capi.proofs.brundilope_read_login.Reads as reads
 use Rattle.capi.proofs.brundilope_read_login.Lts as lts
 use Rattle.login.proofs.read_login.Reads as read-login-reads
 
--- src/lib.rt:151:11
 read-login-requires : tie.Need-read-login-requires
 read-login-requires c κs = search needs
 
--- src/lib.rt:152:27
 enum-known-imei : tie.Need-enum-known-imei
 enum-known-imei c = search needs
 
--- src/lib.rt:157:30
 enum-known-r : tie.Need-enum-known-r
 enum-known-r c = search needs
 
--- src/lib.rt:147:1
 returns : tie.Need-returns
 unfolding flatLogin loginAs
 returns c = ap flatLogin (ap loginAs (sym (c .before .imei .given .1)) ∙ c .before .before .before .read-login .ensures)
 
--- src/lib.rt:147:1
 returns-2 : tie.Need-returns-2
 unfolding flatLogin loginAs
 returns-2 c = ap flatLogin (ap loginAs (sym (c .before .r .given .1)) ∙ c .before .before .before .read-login .ensures)

@@ -8,15 +8,12 @@ use Rattle.capi.proofs.brundilope_record_in_datagram.Lts as lts
 use Rattle.capi.proofs.flat_record.Reads as flat-record-reads
 use Rattle.lookup.proofs.record_in_datagram.Reads as record-in-datagram-reads
 
--- src/lib.rt:329:17
 record-in-datagram-requires : tie.Need-record-in-datagram-requires
 record-in-datagram-requires c κs = search needs
 
--- src/lib.rt:329:5
 flat-record-requires : tie.Need-flat-record-requires
 flat-record-requires c κs = search needs
 
--- src/lib.rt:325:1
 returns : tie.Need-returns
 returns c = c .flat-record .ensures ∙ ap flatRecord (c .before .record-in-datagram .ensures)
 

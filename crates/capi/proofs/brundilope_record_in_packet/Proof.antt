@@ -8,15 +8,12 @@ use Rattle.capi.proofs.brundilope_record_in_packet.Lts as lts
 use Rattle.capi.proofs.flat_record.Reads as flat-record-reads
 use Rattle.lookup.proofs.record_in_packet.Reads as record-in-packet-reads
 
--- src/lib.rt:322:17
 record-in-packet-requires : tie.Need-record-in-packet-requires
 record-in-packet-requires c κs = search needs
 
--- src/lib.rt:322:5
 flat-record-requires : tie.Need-flat-record-requires
 flat-record-requires c κs = search needs
 
--- src/lib.rt:318:1
 returns : tie.Need-returns
 returns c = c .flat-record .ensures ∙ ap flatRecord (c .before .record-in-packet .ensures)
 

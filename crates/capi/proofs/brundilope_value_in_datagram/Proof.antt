@@ -8,15 +8,12 @@ use Rattle.capi.proofs.brundilope_value_in_datagram.Lts as lts
 use Rattle.capi.proofs.flat_value.Reads as flat-value-reads
 use Rattle.lookup.proofs.value_in_datagram.Reads as value-in-datagram-reads
 
--- src/lib.rt:343:16
 value-in-datagram-requires : tie.Need-value-in-datagram-requires
 value-in-datagram-requires c κs = search needs
 
--- src/lib.rt:343:5
 flat-value-requires : tie.Need-flat-value-requires
 flat-value-requires c κs = search needs
 
--- src/lib.rt:339:1
 returns : tie.Need-returns
 returns c = c .flat-value .ensures ∙ ap flatValue (c .before .value-in-datagram .ensures)
 

@@ -8,15 +8,12 @@ use Rattle.capi.proofs.brundilope_value_in_packet.Lts as lts
 use Rattle.capi.proofs.flat_value.Reads as flat-value-reads
 use Rattle.lookup.proofs.value_in_packet.Reads as value-in-packet-reads
 
--- src/lib.rt:336:16
 value-in-packet-requires : tie.Need-value-in-packet-requires
 value-in-packet-requires c κs = search needs
 
--- src/lib.rt:336:5
 flat-value-requires : tie.Need-flat-value-requires
 flat-value-requires c κs = search needs
 
--- src/lib.rt:332:1
 returns : tie.Need-returns
 returns c = c .flat-value .ensures ∙ ap flatValue (c .before .value-in-packet .ensures)
 

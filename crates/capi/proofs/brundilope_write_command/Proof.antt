@@ -8,19 +8,15 @@ use Rattle.capi.proofs.brundilope_write_command.Lts as lts
 use Rattle.capi.proofs.flat_written.Reads as flat-written-reads
 use Rattle.command.proofs.write_command.Reads as write-command-reads
 
--- src/lib.rt:210:18
 write-command-requires : tie.Need-write-command-requires
 write-command-requires c κs = search needs
 
--- src/lib.rt:210:5
 flat-written-requires : tie.Need-flat-written-requires
 flat-written-requires c κs = search needs
 
--- src/lib.rt:199:1
 same-length : tie.Need-same-length
 same-length c = search needs
 
--- src/lib.rt:199:1
 returns : tie.Need-returns
 returns c = (c .flat-written .ensures ∙ ap flatWritten (c .before .before .before .write-command .ensures .0), c .before .before .before .write-command .ensures .1)
 

@@ -9,15 +9,12 @@ use Rattle.capi.proofs.flat_record.Tie as tie
 use Rattle.capi.proofs.flat_record.Reads as reads
 use Rattle.capi.proofs.flat_record.Lts as lts
 
--- src/lib.rt:262:30
 enum-known-a : tie.Need-enum-known-a
 enum-known-a c = search needs
 
--- src/lib.rt:277:31
 enum-known-a-2 : tie.Need-enum-known-a-2
 enum-known-a-2 c = search needs
 
--- src/lib.rt:258:1
 returns : tie.Need-returns
 unfolding flatRecord recordAs
 returns c = let f = c .before .before .a .given .0 .0 in
@@ -41,7 +38,6 @@ returns c = let f = c .before .before .a .given .0 .0 in
     })
     ∙ ap (λ x. flatRecord (recordAs x)) (sym (c .before .before .a .given .1))
 
--- src/lib.rt:258:1
 returns-2 : tie.Need-returns-2
 unfolding flatRecord recordAs
 returns-2 c = ap (λ x. flatRecord (recordAs x)) (sym (c .before .a2 .given .1))

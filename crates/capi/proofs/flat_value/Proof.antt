@@ -7,20 +7,16 @@ use Rattle.capi.proofs.flat_value.Tie as tie
 use Rattle.capi.proofs.flat_value.Reads as reads
 use Rattle.capi.proofs.flat_value.Lts as lts
 
--- src/lib.rt:299:28
 enum-known-a : tie.Need-enum-known-a
 enum-known-a c = search needs
 
--- src/lib.rt:307:30
 enum-known-a-2 : tie.Need-enum-known-a-2
 enum-known-a-2 c = search needs
 
--- src/lib.rt:295:1
 returns : tie.Need-returns
 unfolding flatValue valueAs
 returns c = ap (λ x. flatValue (valueAs x)) (sym (c .before .a .given .1))
 
--- src/lib.rt:295:1
 returns-2 : tie.Need-returns-2
 unfolding flatValue valueAs
 returns-2 c = ap (λ x. flatValue (valueAs x)) (sym (c .before .a2 .given .1))

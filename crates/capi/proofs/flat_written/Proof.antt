@@ -7,20 +7,16 @@ use Rattle.capi.proofs.flat_written.Tie as tie
 use Rattle.capi.proofs.flat_written.Reads as reads
 use Rattle.capi.proofs.flat_written.Lts as lts
 
--- src/lib.rt:66:24
 enum-known-w : tie.Need-enum-known-w
 enum-known-w c = search needs
 
--- src/lib.rt:71:26
 enum-known-w-2 : tie.Need-enum-known-w-2
 enum-known-w-2 c = search needs
 
--- src/lib.rt:62:1
 returns : tie.Need-returns
 unfolding flatWritten writtenAs
 returns c = ap (λ x. flatWritten (writtenAs x)) (sym (c .before .w .given .1))
 
--- src/lib.rt:62:1
 returns-2 : tie.Need-returns-2
 unfolding flatWritten writtenAs
 returns-2 c = ap (λ x. flatWritten (writtenAs x)) (sym (c .before .w2 .given .1))

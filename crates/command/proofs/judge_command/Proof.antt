@@ -9,8 +9,7 @@ use Rattle.wire.specs.Answers.{accepted, onAccepted}
 use Rattle.wire.proofs.Widths.{getD-bytes}
 use Rattle.frame.specs.Frame.{unframe}
 use Rattle.frame.proofs.FramingLaws.{framing-field, framing-unframed}
-use Rattle.command.specs.Walks.{answered}
-use Rattle.command.specs.Commands.{readCommand, answerCommand, commandAs}
+use Rattle.command.specs.Commands.{answered, readCommand, answerCommand, commandAs}
 use Rattle.command.proofs.judge_command.Statement.{statement}
 use Rattle.command.proofs.judge_command.Tie as tie
 
@@ -56,7 +55,7 @@ read-field-requires c κs =
     omega (arith, length-take-le (8 + n - 8) (drop 8 p) inside, field (c .before))
 
 returns : tie.Need-returns
-unfolding commandAs answerCommand readCommand onAccepted
+unfolding commandAs answerCommand answered readCommand onAccepted
 returns c = simp (c .refused .ensures, framing-unframed _ _ _ (sym (c .before .before .before .before .unframed .ensures) ∙ c .before .before .number .given .1))
 
 returns-2 : tie.Need-returns-2

@@ -9,8 +9,8 @@ use Rattle.wire.specs.Envelope.{codecOf, firstCount, lastCount, inner}
 use Rattle.wire.specs.Answers.{accepted, refused, onAccepted}
 use Rattle.wire.proofs.Widths.{getD-bytes}
 use Rattle.command.specs.declared.Layout.{Layout}
-use Rattle.command.specs.Walks.{bodyAs, answered}
-use Rattle.command.specs.Commands.{commandBody, commandAs}
+use Rattle.command.specs.Walks.{bodyAs}
+use Rattle.command.specs.Commands.{answered, commandBody, commandAs}
 use Rattle.command.specs.Layouts.{layoutOf, rowAs}
 use Rattle.command.proofs.FieldLaws.{codec-unknown, first-wrong, last-wrong, field-taken, field-stopped}
 use Rattle.command.proofs.CommandLaws.{layout-narrow}

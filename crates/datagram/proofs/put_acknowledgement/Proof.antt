@@ -11,47 +11,36 @@ use Rattle.datagram.proofs.put_acknowledgement.Tie as tie
 use Rattle.datagram.proofs.put_acknowledgement.Reads as reads
 use Rattle.datagram.proofs.put_acknowledgement.Lts as lts
 
--- src/lib.rt:117:5
 slice-write-out : tie.Need-slice-write-out
 slice-write-out c = search needs
 
--- src/lib.rt:118:5
 slice-write-out-2 : tie.Need-slice-write-out-2
 slice-write-out-2 c = simp length-set (omega arith)
 
--- src/lib.rt:119:14
 cast-out : tie.Need-cast-out
 cast-out c = search needs
 
--- src/lib.rt:119:5
 slice-write-out-3 : tie.Need-slice-write-out-3
 slice-write-out-3 c = simp length-set (omega arith)
 
--- src/lib.rt:120:14
 cast-out-2 : tie.Need-cast-out-2
 cast-out-2 c = search needs
 
--- src/lib.rt:120:5
 slice-write-out-4 : tie.Need-slice-write-out-4
 slice-write-out-4 c = simp length-set (omega arith)
 
--- src/lib.rt:121:5
 slice-write-out-5 : tie.Need-slice-write-out-5
 slice-write-out-5 c = simp length-set (omega arith)
 
--- src/lib.rt:122:5
 slice-write-out-6 : tie.Need-slice-write-out-6
 slice-write-out-6 c = simp length-set (omega arith)
 
--- src/lib.rt:123:5
 slice-write-out-7 : tie.Need-slice-write-out-7
 slice-write-out-7 c = simp length-set (omega arith)
 
--- src/lib.rt:113:1
 same-length : tie.Need-same-length
 same-length c = simp length-set
 
--- src/lib.rt:113:1
 returns : tie.Need-returns
 returns c = let h = c .before .before .args .header in
     let n = c .before .before .args .count in

@@ -15,16 +15,13 @@ use Rattle.lookup.proofs.id_in_packet.Lts as lts
 use Rattle.lookup.proofs.packet_part.Reads as packet-part-reads
 use Rattle.lookup.proofs.value_in.Reads as value-in-reads
 
--- src/lib.rt:167:17
 packet-part-requires : tie.Need-packet-part-requires
 packet-part-requires c κs = search needs
 
--- src/lib.rt:167:5
 value-in-requires : tie.Need-value-in-requires
 unfolding partOf onAccepted
 value-in-requires c κs = part-in (λ x. tcp-stored 1280 255 (c .before .before .args .p .now) x (getD-bytes (c .before .before .args .p .now) (λ k. c .before .shared-slice-known .given k .fits))) _ _ (c .packet-part .ensures)
 
--- src/lib.rt:164:1
 returns : tie.Need-returns
 unfolding partOf valueById onAccepted
 returns c = value-answer (λ x. tcp-stored 1280 255 (c .before .before .before .args .p .now) x (getD-bytes (c .before .before .before .args .p .now) (λ k. c .before .before .shared-slice-known .given k .fits))) (λ x. c .before .before .before .args .n) (firstWith (c .before .before .before .args .id)) (Wanted.Id (c .before .before .before .args .id)) _ _ (pick-id (c .before .before .before .args .id) 0) (c .before .packet-part .ensures) (c .value-in .ensures)

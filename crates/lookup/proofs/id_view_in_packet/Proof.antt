@@ -12,16 +12,13 @@ use Rattle.lookup.proofs.id_view_in_packet.Lts as lts
 use Rattle.lookup.proofs.id_in_packet.Reads as id-in-packet-reads
 use Rattle.lookup.proofs.view_of.Reads as view-of-reads
 
--- src/lib.rt:207:16
 id-in-packet-requires : tie.Need-id-in-packet-requires
 id-in-packet-requires c κs = search needs
 
--- src/lib.rt:207:5
 view-of-requires : tie.Need-view-of-requires
 unfolding valueById
 view-of-requires c κs = value-view (λ x. tcp-stored 1280 255 (c .before .before .args .p .now) x (getD-bytes (c .before .before .args .p .now) (λ k. c .before .shared-slice-known .given k .fits))) (λ x. c .before .before .args .n) (firstWith (c .before .before .args .id)) (first-member (c .before .before .args .id)) _ (c .id-in-packet .ensures) .0
 
--- src/lib.rt:204:1
 returns : tie.Need-returns
 unfolding valueById
 returns c = c .view-of .ensures ∙ value-view (λ x. tcp-stored 1280 255 (c .before .before .before .args .p .now) x (getD-bytes (c .before .before .before .args .p .now) (λ k. c .before .before .shared-slice-known .given k .fits))) (λ x. c .before .before .before .args .n) (firstWith (c .before .before .before .args .id)) (first-member (c .before .before .before .args .id)) _ (c .before .id-in-packet .ensures) .1

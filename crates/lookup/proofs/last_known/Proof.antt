@@ -12,15 +12,12 @@ use Rattle.lookup.proofs.last_known.Lts as lts
 use Rattle.lookup.proofs.last_part.Reads as last-part-reads
 use Rattle.lookup.proofs.value_in.Reads as value-in-reads
 
--- src/lib.rt:221:9
 last-part-requires : tie.Need-last-part-requires
 last-part-requires c κs = search needs
 
--- src/lib.rt:222:26
 enum-known-part : tie.Need-enum-known-part
 enum-known-part c = search needs
 
--- src/lib.rt:223:9
 returns : tie.Need-returns
 unfolding partAs
 returns c = known-refused (c .before .before .before .before .before .before .args .id) (tcpSource 1280 255 (c .before .before .before .before .before .before .args .newer .now)) (tcpSource 1280 255 (c .before .before .before .before .before .before .args .older .now)) (c .before .part .given .0 .0) (last-refused 1280 255 (c .before .before .before .before .before .before .args .newer .now) (getD-bytes (c .before .before .before .before .before .before .args .newer .now) (λ k. c .before .before .before .before .before .shared-slice-known .given k .fits)) (ap partAs (sym (c .before .part .given .1)) ∙ c .before .before .before .last-part .ensures))
@@ -28,45 +25,36 @@ returns c = known-refused (c .before .before .before .before .before .before .ar
 enum-told : tie.Need-enum-told
 enum-told c = search needs
 
--- src/lib.rt:225:40
 value-in-requires : tie.Need-value-in-requires
 value-in-requires c κs = last-in (c .before .before .before .before .before .args .newer .now) (getD-bytes (c .before .before .before .before .before .args .newer .now) (λ k. c .before .before .before .before .shared-slice-known .given k .fits)) _ (c .before .before .last-part .ensures)
 
--- src/lib.rt:225:31
 enum-known-value : tie.Need-enum-known-value
 enum-known-value c = search needs
 
--- src/lib.rt:226:9
 returns-2 : tie.Need-returns-2
 returns-2 c = known-newer (c .before .before .before .before .before .before .before .before .before .args .id) (tcpSource 1280 255 (c .before .before .before .before .before .before .before .before .before .args .newer .now)) (tcpSource 1280 255 (c .before .before .before .before .before .before .before .before .before .args .older .now)) (c .before .value .given .0 .0) (ap valueAs (sym (c .before .value .given .1)) ∙ last-value (c .before .before .before .before .before .before .before .before .before .args .newer .now) (getD-bytes (c .before .before .before .before .before .before .before .before .before .args .newer .now) (λ k. c .before .before .before .before .before .before .before .before .shared-slice-known .given k .fits)) (c .before .before .before .before .before .before .before .before .before .args .id) (c .before .before .before .before .before .before .last-part .result) (c .before .before .before .value-in .result) (c .before .before .before .before .before .before .last-part .ensures) (c .before .before .before .value-in .ensures))
 
 enum-told-2 : tie.Need-enum-told-2
 enum-told-2 c = search needs
 
--- src/lib.rt:231:27
 last-part-requires-2 : tie.Need-last-part-requires-2
 last-part-requires-2 c κs = search needs
 
--- src/lib.rt:231:11
 value-in-requires-2 : tie.Need-value-in-requires-2
 value-in-requires-2 c κs = last-in (c .before .before .before .before .before .before .before .before .before .args .older .now) (getD-bytes (c .before .before .before .before .before .before .before .before .before .args .older .now) (λ k. c .before .before .before .before .before .before .before .shared-slice-known2 .given k .fits)) _ (c .last-part2 .ensures)
 
--- src/lib.rt:232:28
 enum-known-value-2 : tie.Need-enum-known-value-2
 enum-known-value-2 c = search needs
 
--- src/lib.rt:233:30
 enum-known-r : tie.Need-enum-known-r
 enum-known-r c = search needs
 
--- src/lib.rt:218:1
 returns-3 : tie.Need-returns-3
 unfolding partAs valueAs
 returns-3 c = known-older (c .before .before .before .before .before .before .before .before .before .before .before .before .before .args .id) (tcpSource 1280 255 (c .before .before .before .before .before .before .before .before .before .before .before .before .before .args .newer .now)) (tcpSource 1280 255 (c .before .before .before .before .before .before .before .before .before .before .before .before .before .args .older .now)) (ValueAnswer.Found (c .before .value2 .given .0 .0)) (ap partAs (sym (c .before .before .before .before .before .before .before .before .enum-told .given .1)) ∙ c .before .before .before .before .before .before .before .before .before .before .last-part .ensures)
     (ap valueAs (sym (c .before .before .before .before .before .enum-told2 .given .1)) ∙ last-value (c .before .before .before .before .before .before .before .before .before .before .before .before .before .args .newer .now) (getD-bytes (c .before .before .before .before .before .before .before .before .before .before .before .before .before .args .newer .now) (λ k. c .before .before .before .before .before .before .before .before .before .before .before .before .shared-slice-known .given k .fits)) (c .before .before .before .before .before .before .before .before .before .before .before .before .before .args .id) (c .before .before .before .before .before .before .before .before .before .before .last-part .result) (c .before .before .before .before .before .before .before .value-in .result) (c .before .before .before .before .before .before .before .before .before .before .last-part .ensures) (c .before .before .before .before .before .before .before .value-in .ensures))
     (ap valueAs (sym (c .before .value2 .given .1)) ∙ last-value (c .before .before .before .before .before .before .before .before .before .before .before .before .before .args .older .now) (getD-bytes (c .before .before .before .before .before .before .before .before .before .before .before .before .before .args .older .now) (λ k. c .before .before .before .before .before .before .before .before .before .before .before .shared-slice-known2 .given k .fits)) (c .before .before .before .before .before .before .before .before .before .before .before .before .before .args .id) (c .before .before .before .before .last-part2 .result) (c .before .before .before .value-in2 .result) (c .before .before .before .before .last-part2 .ensures) (c .before .before .before .value-in2 .ensures))
 
--- src/lib.rt:218:1
 returns-4 : tie.Need-returns-4
 unfolding partAs valueAs
 returns-4 c = known-older (c .before .before .before .before .before .before .before .before .before .before .before .before .before .args .id) (tcpSource 1280 255 (c .before .before .before .before .before .before .before .before .before .before .before .before .before .args .newer .now)) (tcpSource 1280 255 (c .before .before .before .before .before .before .before .before .before .before .before .before .before .args .older .now)) (ValueAnswer.Refused (c .before .r .given .0 .0)) (ap partAs (sym (c .before .before .before .before .before .before .before .before .enum-told .given .1)) ∙ c .before .before .before .before .before .before .before .before .before .before .last-part .ensures)

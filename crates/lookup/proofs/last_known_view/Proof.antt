@@ -14,49 +14,38 @@ use Rattle.lookup.proofs.last_known_view.Lts as lts
 use Rattle.lookup.proofs.last_known.Reads as last-known-reads
 use Rattle.lookup.proofs.view_of.Reads as view-of-reads
 
--- src/lib.rt:240:11
 last-known-requires : tie.Need-last-known-requires
 last-known-requires c κs = search needs
 
--- src/lib.rt:241:36
 enum-told : tie.Need-enum-told
 enum-told c = search needs
 
--- src/lib.rt:241:36
 sub-result : tie.Need-sub-result
 sub-result c = search needs
 
--- src/lib.rt:241:36
 part-result-start : tie.Need-part-result-start
 part-result-start c = search needs
 
--- src/lib.rt:241:36
 part-result-end : tie.Need-part-result-end
 part-result-end c = search needs
 
--- src/lib.rt:242:37
 enum-known-past : tie.Need-enum-known-past
 enum-known-past c = search needs
 
--- src/lib.rt:244:17
 view-of-requires : tie.Need-view-of-requires
 view-of-requires c κs = last-view (c .before .before .before .before .before .before .before .args .older .now) (getD-bytes (c .before .before .before .before .before .before .before .args .older .now) (λ k. c .before .before .before .before .before .shared-slice-known2 .given k .fits)) (c .before .before .before .before .before .before .before .args .id) (ValueAnswer.Found (c .before .before .past .given .0 .1 .0)) (known-in (c .before .before .before .before .before .before .before .args .id) (tcpSource 1280 255 (c .before .before .before .before .before .before .before .args .newer .now)) (tcpSource 1280 255 (c .before .before .before .before .before .before .before .args .older .now)) true (c .before .before .past .given .0 .1 .0) (ap (λ (b : Bool). knownAs (KnownAnswer.Found b (c .before .before .past .given .0 .1 .0))) (sym (c .if1 .taken)) ∙ ap knownAs (sym (c .before .before .past .given .1)) ∙ c .before .before .before .before .last-known .ensures) .0) .0
 
--- src/lib.rt:246:17
 view-of-requires-2 : tie.Need-view-of-requires-2
 view-of-requires-2 c κs = last-view (c .before .before .before .before .before .before .before .args .newer .now) (getD-bytes (c .before .before .before .before .before .before .before .args .newer .now) (λ k. c .before .before .before .before .before .before .shared-slice-known .given k .fits)) (c .before .before .before .before .before .before .before .args .id) (ValueAnswer.Found (c .before .before .past .given .0 .1 .0)) (known-in (c .before .before .before .before .before .before .before .args .id) (tcpSource 1280 255 (c .before .before .before .before .before .before .before .args .newer .now)) (tcpSource 1280 255 (c .before .before .before .before .before .before .before .args .older .now)) false (c .before .before .past .given .0 .1 .0) (ap (λ (b : Bool). knownAs (KnownAnswer.Found b (c .before .before .past .given .0 .1 .0))) (sym (c .if1 .left)) ∙ ap knownAs (sym (c .before .before .past .given .1)) ∙ c .before .before .before .before .last-known .ensures) .0) .0
 
--- src/lib.rt:237:1
 returns : tie.Need-returns
 unfolding knownAs
 returns c = known-nowhere (lastKnown (c .before .before .before .before .before .before .args .id) (tcpSource 1280 255 (c .before .before .before .before .before .before .args .newer .now)) (tcpSource 1280 255 (c .before .before .before .before .before .before .args .older .now))) (ap knownAs (sym (c .before .enum-told .given .1)) ∙ c .before .before .before .last-known .ensures)
 
--- src/lib.rt:237:1
 returns-2 : tie.Need-returns-2
 returns-2 c = let k = known-in (c .before .before .before .before .before .before .before .before .args .id) (tcpSource 1280 255 (c .before .before .before .before .before .before .before .before .args .newer .now)) (tcpSource 1280 255 (c .before .before .before .before .before .before .before .before .args .older .now)) true (c .before .before .before .past .given .0 .1 .0) (ap (λ (b : Bool). knownAs (KnownAnswer.Found b (c .before .before .before .past .given .0 .1 .0))) (sym (c .before .if1 .taken)) ∙ ap knownAs (sym (c .before .before .before .past .given .1)) ∙ c .before .before .before .before .before .last-known .ensures) in
     c .view-of .ensures ∙ last-view (c .before .before .before .before .before .before .before .before .args .older .now) (getD-bytes (c .before .before .before .before .before .before .before .before .args .older .now) (λ k. c .before .before .before .before .before .before .shared-slice-known2 .given k .fits)) (c .before .before .before .before .before .before .before .before .args .id) (ValueAnswer.Found (c .before .before .before .past .given .0 .1 .0)) (k .0) .1 ∙ k .1
 
--- src/lib.rt:237:1
 returns-3 : tie.Need-returns-3
 returns-3 c = let k = known-in (c .before .before .before .before .before .before .before .before .args .id) (tcpSource 1280 255 (c .before .before .before .before .before .before .before .before .args .newer .now)) (tcpSource 1280 255 (c .before .before .before .before .before .before .before .before .args .older .now)) false (c .before .before .before .past .given .0 .1 .0) (ap (λ (b : Bool). knownAs (KnownAnswer.Found b (c .before .before .before .past .given .0 .1 .0))) (sym (c .before .if1 .left)) ∙ ap knownAs (sym (c .before .before .before .past .given .1)) ∙ c .before .before .before .before .before .last-known .ensures) in
     c .view-of2 .ensures ∙ last-view (c .before .before .before .before .before .before .before .before .args .newer .now) (getD-bytes (c .before .before .before .before .before .before .before .before .args .newer .now) (λ k. c .before .before .before .before .before .before .before .shared-slice-known .given k .fits)) (c .before .before .before .before .before .before .before .before .args .id) (ValueAnswer.Found (c .before .before .before .past .given .0 .1 .0)) (k .0) .1 ∙ k .1

@@ -10,35 +10,27 @@ use Rattle.lookup.proofs.last_part.Reads as reads
 use Rattle.lookup.proofs.last_part.Lts as lts
 use Rattle.lookup.proofs.packet_part.Reads as packet-part-reads
 
--- src/lib.rt:89:9
 packet-part-requires : tie.Need-packet-part-requires
 packet-part-requires c κs = search needs
 
--- src/lib.rt:89:9
 returns : tie.Need-returns
 returns c = c .packet-part .ensures ∙ last-number (tcpSource 1280 255 (c .before .before .before .args .p .now)) 0 (λ x e. omega (arith, tcp-count 1280 255 (c .before .before .before .args .p .now) x (getD-bytes (c .before .before .before .args .p .now) (λ k. c .before .before .shared-slice-known .given k .fits)) e, c .before .if1 .taken))
 
--- src/lib.rt:91:17
 shared-slice-read-count : tie.Need-shared-slice-read-count
 shared-slice-read-count c = search needs
 
--- src/lib.rt:91:17
 cast-count : tie.Need-cast-count
 cast-count c = omega (arith, c .shared-slice-known2 .given 9 .fits)
 
--- src/lib.rt:93:9
 packet-part-requires-2 : tie.Need-packet-part-requires-2
 packet-part-requires-2 c κs = search needs
 
--- src/lib.rt:93:9
 returns-2 : tie.Need-returns-2
 returns-2 c = c .packet-part2 .ensures ∙ last-number (tcpSource 1280 255 (c .before .before .before .before .before .args .p .now)) 0 (λ x e. omega (arith, tcp-count 1280 255 (c .before .before .before .before .before .args .p .now) x (getD-bytes (c .before .before .before .before .before .args .p .now) (λ k. c .before .before .before .before .shared-slice-known .given k .fits)) e, c .before .if2 .taken))
 
--- src/lib.rt:95:5
 packet-part-requires-3 : tie.Need-packet-part-requires-3
 packet-part-requires-3 c κs = search needs
 
--- src/lib.rt:85:1
 returns-3 : tie.Need-returns-3
 returns-3 c = c .packet-part3 .ensures ∙ last-number (tcpSource 1280 255 (c .before .before .before .before .before .args .p .now)) _ (λ x e. omega (arith, tcp-count 1280 255 (c .before .before .before .before .before .args .p .now) x (getD-bytes (c .before .before .before .before .before .args .p .now) (λ k. c .before .before .before .before .shared-slice-known .given k .fits)) e))
 

@@ -18,40 +18,31 @@ use Rattle.lookup.proofs.record_in.Lts as lts
 use Rattle.element.proofs.fields_of.Reads as fields-of-reads
 use Rattle.walk.proofs.widths_of.Reads as widths-of-reads
 
--- src/lib.rt:105:23
 enum-known-part : tie.Need-enum-known-part
 enum-known-part c = search needs
 
--- src/lib.rt:106:20
 enum-known-part-2 : tie.Need-enum-known-part-2
 enum-known-part-2 c = search needs
 
--- src/lib.rt:107:13
 widths-of-requires : tie.Need-widths-of-requires
 widths-of-requires c κs = search needs
 
--- src/lib.rt:108:13
 sub-fields-of : tie.Need-sub-fields-of
 sub-fields-of c = subst (PartIn (c .before .before .before .before .before .args .p .now)) (c .before .before .part2 .given .1) (c .before .before .before .before .before .pre) .0
 
--- src/lib.rt:108:13
 part-fields-of-start : tie.Need-part-fields-of-start
 part-fields-of-start c = omega (arith, subst (PartIn (c .before .before .before .before .before .args .p .now)) (c .before .before .part2 .given .1) (c .before .before .before .before .before .pre))
 
--- src/lib.rt:108:13
 part-fields-of-end : tie.Need-part-fields-of-end
 part-fields-of-end c = omega (arith, subst (PartIn (c .before .before .before .before .before .args .p .now)) (c .before .before .part2 .given .1) (c .before .before .before .before .before .pre))
 
--- src/lib.rt:106:64
 fields-of-requires : tie.Need-fields-of-requires
 unfolding part
 fields-of-requires c κs = subst (λ (w : Widths). Narrow w × Readable 255 w (part (c .before .before .before .before .before .before .args .p .now) (c .before .before .before .part2 .given .0 .1 .0) (c .before .before .before .part2 .given .0 .1 .1 .0 - c .before .before .before .part2 .given .0 .1 .0))) (sym (c .before .widths-of .ensures)) (narrow (c .before .before .before .part2 .given .0 .0), subst (PartIn (c .before .before .before .before .before .before .args .p .now)) (c .before .before .before .part2 .given .1) (c .before .before .before .before .before .before .pre) .1 .1)
 
--- src/lib.rt:100:1
 returns : tie.Need-returns
 returns c = subst (λ (q : Part). RecordIn (c .before .before .before .before .args .p .now) q (RecordAnswer.Refused (c .before .part .given .0 .0))) (sym (c .before .part .given .1)) refl
 
--- src/lib.rt:100:1
 returns-2 : tie.Need-returns-2
 unfolding part
 returns-2 c = subst (λ (q : Part). RecordIn (c .before .before .before .before .before .before .before .args .p .now) q (RecordAnswer.Fields (c .fields-of .result))) (sym (c .before .before .before .before .part2 .given .1))

@@ -12,16 +12,13 @@ use Rattle.lookup.proofs.record_in_datagram.Lts as lts
 use Rattle.lookup.proofs.datagram_part.Reads as datagram-part-reads
 use Rattle.lookup.proofs.record_in.Reads as record-in-reads
 
--- src/lib.rt:122:18
 datagram-part-requires : tie.Need-datagram-part-requires
 datagram-part-requires c κs = search needs
 
--- src/lib.rt:122:5
 record-in-requires : tie.Need-record-in-requires
 unfolding partOf onAccepted
 record-in-requires c κs = part-in (λ x. udp-stored 1280 255 (c .before .before .args .p .now) x (getD-bytes (c .before .before .args .p .now) (λ k. c .before .shared-slice-known .given k .fits))) _ _ (c .datagram-part .ensures)
 
--- src/lib.rt:119:1
 returns : tie.Need-returns
 unfolding partOf recordByNumber onAccepted
 returns c = record-answer (λ x. udp-stored 1280 255 (c .before .before .before .args .p .now) x (getD-bytes (c .before .before .before .args .p .now) (λ k. c .before .before .shared-slice-known .given k .fits))) (λ x. c .before .before .before .args .n) _ _ (c .before .datagram-part .ensures) (c .record-in .ensures)

@@ -19,59 +19,46 @@ use Rattle.lookup.proofs.value_in.Lts as lts
 use Rattle.element.proofs.find_element.Reads as find-element-reads
 use Rattle.walk.proofs.widths_of.Reads as widths-of-reads
 
--- src/lib.rt:132:23
 enum-known-part : tie.Need-enum-known-part
 enum-known-part c = search needs
 
--- src/lib.rt:133:20
 enum-known-part-2 : tie.Need-enum-known-part-2
 enum-known-part-2 c = search needs
 
--- src/lib.rt:134:13
 widths-of-requires : tie.Need-widths-of-requires
 widths-of-requires c κs = search needs
 
--- src/lib.rt:135:13
 sub-find-element : tie.Need-sub-find-element
 sub-find-element c = subst (PartIn (c .before .before .before .before .before .args .p .now)) (c .before .before .part2 .given .1) (c .before .before .before .before .before .pre) .0
 
--- src/lib.rt:135:13
 part-find-element-start : tie.Need-part-find-element-start
 part-find-element-start c = omega (arith, subst (PartIn (c .before .before .before .before .before .args .p .now)) (c .before .before .part2 .given .1) (c .before .before .before .before .before .pre))
 
--- src/lib.rt:135:13
 part-find-element-end : tie.Need-part-find-element-end
 part-find-element-end c = omega (arith, subst (PartIn (c .before .before .before .before .before .args .p .now)) (c .before .before .part2 .given .1) (c .before .before .before .before .before .pre))
 
--- src/lib.rt:133:49
 find-element-requires : tie.Need-find-element-requires
 unfolding part
 find-element-requires c κs = subst (λ (w : Widths). Narrow w × Readable 255 w (part (c .before .before .before .before .before .before .args .p .now) (c .before .before .before .part2 .given .0 .1 .0) (c .before .before .before .part2 .given .0 .1 .1 .0 - c .before .before .before .part2 .given .0 .1 .0))) (sym (c .before .widths-of .ensures)) (narrow (c .before .before .before .part2 .given .0 .0), subst (PartIn (c .before .before .before .before .before .before .args .p .now)) (c .before .before .before .part2 .given .1) (c .before .before .before .before .before .before .pre) .1 .1)
 
--- src/lib.rt:138:60
 enum-told : tie.Need-enum-told
 enum-told c = search needs
 
--- src/lib.rt:142:31
 enum-known-v : tie.Need-enum-known-v
 enum-known-v c = search needs
 
--- src/lib.rt:145:25
 add-t18 : tie.Need-add-t18
 unfolding part
 add-t18 c = omega (arith, value-within (c .before .before .before .before .before .before .before .before .before .before .before .args .p .now) (c .before .before .before .before .before .before .before .before .part2 .given .0 .0) (c .before .before .before .before .before .before .before .before .part2 .given .0 .1 .0) (c .before .before .before .before .before .before .before .before .part2 .given .0 .1 .1 .0) (c .before .before .before .before .before .before .before .before .before .before .before .args .wanted) (c .before .before .before .before .before .before .widths-of .ensures) (c .before .before .before .before .find-element .ensures) (c .before .before .v .given .1) (getD-bytes (c .before .before .before .before .before .before .before .before .before .before .before .args .p .now) (λ k. c .before .before .before .before .before .before .before .before .before .before .shared-slice-known .given k .fits)) (subst (PartIn (c .before .before .before .before .before .before .before .before .before .before .before .args .p .now)) (c .before .before .before .before .before .before .before .before .part2 .given .1) (c .before .before .before .before .before .before .before .before .before .before .before .pre)))
 
--- src/lib.rt:127:1
 returns : tie.Need-returns
 returns c = subst (λ (q : Part). ValueIn (c .before .before .before .before .args .p .now) q (c .before .before .before .before .args .wanted) (ValueAnswer.Refused (c .before .part .given .0 .0))) (sym (c .before .part .given .1)) refl
 
--- src/lib.rt:127:1
 returns-2 : tie.Need-returns-2
 unfolding part
 returns-2 c = subst (λ (q : Part). ValueIn (c .before .before .before .before .before .before .before .before .before .args .p .now) q (c .before .before .before .before .before .before .before .before .before .args .wanted) (ValueAnswer.Refused (record { number = 16; index = 0 }))) (sym (c .before .before .before .before .before .before .part2 .given .1))
     (value-none (c .before .before .before .before .before .before .before .before .before .args .p .now) (c .before .before .before .before .before .before .part2 .given .0 .0) (c .before .before .before .before .before .before .part2 .given .0 .1 .0) (c .before .before .before .before .before .before .part2 .given .0 .1 .1 .0) (c .before .before .before .before .before .before .before .before .before .args .wanted) (c .before .before .before .before .widths-of .ensures) (c .before .before .find-element .ensures) (c .enum-told .given .1))
 
--- src/lib.rt:127:1
 returns-3 : tie.Need-returns-3
 unfolding part
 returns-3 c = let v = c .before .before .v .given .0 .0 in

@@ -10,48 +10,37 @@ use Rattle.lookup.proofs.view_of.Tie as tie
 use Rattle.lookup.proofs.view_of.Reads as reads
 use Rattle.lookup.proofs.view_of.Lts as lts
 
--- src/lib.rt:183:36
 enum-told : tie.Need-enum-told
 enum-told c = search needs
 
--- src/lib.rt:183:36
 sub-result : tie.Need-sub-result
 sub-result c = search needs
 
--- src/lib.rt:183:36
 part-result-start : tie.Need-part-result-start
 part-result-start c = search needs
 
--- src/lib.rt:183:36
 part-result-end : tie.Need-part-result-end
 part-result-end c = search needs
 
--- src/lib.rt:184:28
 enum-known-answer : tie.Need-enum-known-answer
 enum-known-answer c = search needs
 
--- src/lib.rt:186:23
 add-end : tie.Need-add-end
 add-end c = omega (arith, subst (Within (c .before .before .before .before .args .p .now)) (c .before .before .answer .given .1) (c .before .before .before .before .pre))
 
--- src/lib.rt:187:13
 sub-result-2 : tie.Need-sub-result-2
 sub-result-2 c = search needs
 
--- src/lib.rt:187:13
 part-result-start-2 : tie.Need-part-result-start-2
 part-result-start-2 c = search needs
 
--- src/lib.rt:187:13
 part-result-end-2 : tie.Need-part-result-end-2
 part-result-end-2 c = omega (arith, subst (Within (c .before .before .before .before .args .p .now)) (c .before .before .answer .given .1) (c .before .before .before .before .pre))
 
--- src/lib.rt:178:1
 returns : tie.Need-returns
 unfolding viewOf
 returns c = sym (ap (viewOf (c .before .before .before .args .p .now)) (c .before .enum-told .given .1))
 
--- src/lib.rt:178:1
 returns-2 : tie.Need-returns-2
 unfolding viewOf part
 returns-2 c = let v = c .before .before .before .answer .given .0 .0 in

@@ -12,37 +12,29 @@ use Rattle.packet.proofs.acknowledge_packet.Reads as reads
 use Rattle.packet.proofs.acknowledge_packet.Lts as lts
 use Rattle.packet.proofs.record_count.Reads as record-count-reads
 
--- src/lib.rt:69:9
 record-count-requires : tie.Need-record-count-requires
 record-count-requires c κs = search needs
 
--- src/lib.rt:71:9
 returns : tie.Need-returns
 unfolding writtenAs
 returns c = rw (← (acknowledgement-bytes 1280 255 (c .before .before .before .before .args .p .now) (c .before .record-count .ensures) (c .before .record-count .ok)))
     (sym (writing-short (0 ∷ 0 ∷ 0 ∷ c .before .record-count .result ∷ []) (c .before .before .before .before .args .out .now) (c .if1 .taken)), sym (leaving-short (0 ∷ 0 ∷ 0 ∷ c .before .record-count .result ∷ []) (c .before .before .before .before .args .out .now) (c .if1 .taken)))
 
--- src/lib.rt:76:5
 slice-write-out : tie.Need-slice-write-out
 slice-write-out c = search needs
 
--- src/lib.rt:77:5
 slice-write-out-2 : tie.Need-slice-write-out-2
 slice-write-out-2 c = simp length-set (omega arith)
 
--- src/lib.rt:78:5
 slice-write-out-3 : tie.Need-slice-write-out-3
 slice-write-out-3 c = simp length-set (omega arith)
 
--- src/lib.rt:79:5
 slice-write-out-4 : tie.Need-slice-write-out-4
 slice-write-out-4 c = simp length-set (omega arith)
 
--- src/lib.rt:65:1
 same-length : tie.Need-same-length
 same-length c = simp length-set
 
--- src/lib.rt:65:1
 returns-2 : tie.Need-returns-2
 unfolding writtenAs
 returns-2 c = rw (← (acknowledgement-bytes 1280 255 (c .before .before .before .before .args .p .now) (c .before .record-count .ensures) (c .before .record-count .ok)))

@@ -9,24 +9,19 @@ use Rattle.packet.proofs.read_packet.Reads as reads
 use Rattle.packet.proofs.read_packet.Lts as lts
 use Rattle.packet.proofs.judge_packet.Reads as judge-packet-reads
 
--- src/lib.rt:41:11
 judge-packet-requires : tie.Need-judge-packet-requires
 judge-packet-requires c κs = search needs
 
--- src/lib.rt:43:13
 enum-known-codec : tie.Need-enum-known-codec
 enum-known-codec c = search needs
 
--- src/lib.rt:47:27
 enum-known-r : tie.Need-enum-known-r
 enum-known-r c = search needs
 
--- src/lib.rt:38:1
 returns : tie.Need-returns
 unfolding packetAs
 returns c = sym (answer-taken 1280 255 (c .before .before .before .before .before .args .p .now) (taken 0 (readPacket 1280 255 (c .before .before .before .before .before .args .p .now)) (sym (c .before .before .before .judge-packet .ensures) ∙ c .before .codec .given .1)))
 
--- src/lib.rt:38:1
 returns-2 : tie.Need-returns-2
 unfolding packetAs
 returns-2 c = sym (answer-refused 1280 255 (c .before .before .before .before .before .args .p .now) (not-taken 0 (readPacket 1280 255 (c .before .before .before .before .before .args .p .now)) (sym (c .before .before .before .judge-packet .ensures) ∙ c .before .r .given .1)))

@@ -9,23 +9,18 @@ use Rattle.packet.proofs.record_count.Reads as reads
 use Rattle.packet.proofs.record_count.Lts as lts
 use Rattle.packet.proofs.judge_packet.Reads as judge-packet-reads
 
--- src/lib.rt:54:11
 judge-packet-requires : tie.Need-judge-packet-requires
 judge-packet-requires c κs = search needs
 
--- src/lib.rt:57:13
 enum-known-count : tie.Need-enum-known-count
 enum-known-count c = search needs
 
--- src/lib.rt:60:33
 enum-told : tie.Need-enum-told
 enum-told c = search needs
 
--- src/lib.rt:51:1
 returns : tie.Need-returns
 returns c = sym (count-taken 1280 255 (c .before .before .before .before .before .args .p .now) (taken 0 (readPacket 1280 255 (c .before .before .before .before .before .args .p .now)) (sym (c .before .before .before .judge-packet .ensures) ∙ c .before .count .given .1)))
 
--- src/lib.rt:51:1
 returns-2 : tie.Need-returns-2
 returns-2 c = sym (count-refused 1280 255 (c .before .before .before .before .args .p .now) (not-taken 0 (readPacket 1280 255 (c .before .before .before .before .args .p .now)) (sym (c .before .before .judge-packet .ensures) ∙ c .enum-told .given .1)))
 
