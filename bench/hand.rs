@@ -740,11 +740,11 @@ fn le16(b: &[u8], at: usize) -> Option<usize> {
     Some(usize::from(u16::from_le_bytes([b[0], b[1]])))
 }
 
-/// The entry at `at`: its kind and body.
-fn entry(form: &[u8], at: usize) -> Option<(usize, &[u8])> {
-    let len = le16(form, at)?;
-    let kind = le16(form, at + 2)?;
-    Some((kind, form.get(at + 4..at + 4 + len)?))
+/// The first entry of a form, its kind and body, and what is behind it.
+fn entry(form: &[u8]) -> Option<(usize, &[u8], &[u8])> {
+    let (&[a, b, c, d], rest) = form.split_first_chunk::<4>()?;
+    let (body, rest) = rest.split_at_checked(usize::from(u16::from_le_bytes([a, b])))?;
+    Some((usize::from(u16::from_le_bytes([c, d])), body, rest))
 }
 
 /// What the entries of a form have come to: records, the data field without its last record, that record, its last kind.
@@ -789,13 +789,12 @@ impl FormSums {
 }
 
 /// Judges the entries after the first; gives the number of records and the length of the data field.
-fn judge_form<C: Codec>(form: &[u8]) -> Option<(u8, usize)> {
+fn judge_form<C: Codec>(mut entries: &[u8]) -> Option<(u8, usize)> {
     let mut sums = FormSums::START;
-    let mut at = 5;
-    while at < form.len() {
-        let (kind, body) = entry(form, at)?;
-        at += 4 + body.len();
+    while !entries.is_empty() {
+        let (kind, body, rest) = entry(entries)?;
         sums = sums.with::<C>(kind, body)?;
+        entries = rest;
     }
     sums.packet()
 }
@@ -859,7 +858,7 @@ fn put_variable<C: Codec>(form: &[u8], at: &mut usize, out: &mut [u8], to: &mut 
     let count_at = *to;
     *to += C::COUNT;
     let mut count = 0;
-    while let Some((9, e)) = entry(form, *at) {
+    while let Some((9, e, _)) = form.get(*at..).and_then(entry) {
         let size = e.len() - 2;
         put(out, *to, C::ID, le16(e, 0)?);
         put(out, *to + C::ID, 2, size);
@@ -895,13 +894,13 @@ fn packet_write<C: Codec>(form: &[u8], out: &mut [u8]) -> Option<()> {
 
 #[inline(never)]
 pub fn packet_of_form(form: &[u8], out: &mut [u8]) -> Answer<usize> {
-    let Some(&[1, 0, 100, 0, codec]) = form.first_chunk::<5>() else {
+    let Some((&[1, 0, 100, 0, codec], entries)) = form.split_first_chunk::<5>() else {
         return Err(no(17));
     };
     let judged = match codec {
-        0x08 => judge_form::<Codec8>(form),
-        0x8E => judge_form::<Codec8E>(form),
-        0x10 => judge_form::<Codec16>(form),
+        0x08 => judge_form::<Codec8>(entries),
+        0x8E => judge_form::<Codec8E>(entries),
+        0x10 => judge_form::<Codec16>(entries),
         _ => None,
     };
     let Some((records, length)) = judged else {

@@ -8,7 +8,7 @@ mod library;
 mod measure;
 
 use input::{Data, Random};
-use measure::{head, row, Side, POOL};
+use measure::{line, Side, HEAD, POOL};
 use std::cell::RefCell;
 use std::hint::black_box;
 use std::ops::Range;
@@ -38,8 +38,9 @@ macro_rules! sides {
     };
 }
 
-/// What the lines of the table have in common.
+/// The lines of the table, each behind its call, and what they have in common.
 struct Table {
+    lines: RefCell<Vec<(String, String)>>,
     random: Random,
     budget: Duration,
     out: RefCell<[u8; 6000]>,
@@ -47,7 +48,18 @@ struct Table {
 
 impl Table {
     fn row(&self, call: &str, codecs: &str, inputs: &[Vec<u8>], sides: &[Side]) {
-        row(self.budget, call, codecs, inputs, sides);
+        let line = line(self.budget, call, codecs, inputs, sides);
+        self.lines.borrow_mut().push((call.to_string(), line));
+    }
+
+    /// The lines of each call together, in the order in which the calls first came.
+    fn print(&self) {
+        let lines = self.lines.borrow();
+        let calls: Vec<_> = lines.iter().map(|l| &l.0).collect();
+        let mut places: Vec<_> = (0..lines.len()).collect();
+        places.sort_by_key(|&i| calls.iter().position(|call| *call == calls[i]));
+        println!("{HEAD}");
+        places.iter().for_each(|&i| println!("{}", lines[i].1));
     }
 
     /// Look-ups of any record, and of each packet's last value.
@@ -73,13 +85,10 @@ impl Table {
         };
         let forms: Vec<_> = tcp.iter().map(form).collect();
         let out = &self.out;
-        self.row("form_of_packet", codecs, tcp, &sides!(form_of_packet(|i| &tcp[i][..], &mut out.borrow_mut()[..])));
-        self.row(
-            "packet_of_form",
-            codecs,
-            &forms,
-            &sides!(packet_of_form(|i| &forms[i][..], &mut out.borrow_mut()[..])),
-        );
+        let sides = sides!(form_of_packet(|i| &tcp[i][..], &mut out.borrow_mut()[..]));
+        self.row("form_of_packet", codecs, tcp, &sides);
+        let sides = sides!(packet_of_form(|i| &forms[i][..], &mut out.borrow_mut()[..]));
+        self.row("packet_of_form", codecs, &forms, &sides);
     }
 
     /// The lines of data packets and datagrams of one size, their codecs mixed.
@@ -141,8 +150,7 @@ fn main() {
 
     let before = load();
     let budget = Duration::from_millis(if full { 1200 } else { 4000 });
-    let mut table = Table { random, budget, out: RefCell::new([0; 6000]) };
-    head();
+    let mut table = Table { lines: RefCell::default(), random, budget, out: RefCell::new([0; 6000]) };
     for size in SIZES {
         if full {
             CODECS.iter().for_each(|&(codec, name)| table.data_rows(&[codec], name, size));
@@ -153,6 +161,7 @@ fn main() {
     table.command_rows(10);
     table.command_rows(1000);
     table.login_row();
+    table.print();
     let cores = std::thread::available_parallelism().map_or(0, usize::from);
     println!("\n{cores} cores; load average {before} at the start and {} at the end.", load());
 }

@@ -55,19 +55,19 @@ fn figures(mut t: Vec<f64>) -> (f64, f64) {
     (t[t.len() / 2], t[0])
 }
 
-pub fn head() {
-    println!("| call | codecs | bytes | by hand, ns | library, ns | library / hand | nom, ns | nom / hand |");
-    println!("|---|---|---:|---:|---:|---:|---:|---:|");
-}
+/// The head of the table.
+pub const HEAD: &str = "\
+| call | codecs | bytes | by hand, ns | library, ns | library / hand | nom, ns | nom / hand |
+|---|---|---:|---:|---:|---:|---:|---:|";
 
-/// Measures and prints one line of the table: medians, with minimums in brackets; by hand, the library, perhaps nom.
-pub fn row(budget: Duration, call: &str, codecs: &str, inputs: &[Vec<u8>], sides: &[Side]) {
+/// Measures one line of the table: medians, with minimums in brackets; by hand, the library, perhaps nom.
+pub fn line(budget: Duration, call: &str, codecs: &str, inputs: &[Vec<u8>], sides: &[Side]) -> String {
     let bytes = inputs.iter().map(Vec::len).sum::<usize>() / inputs.len();
     let times: Vec<_> = measure(budget, inputs, sides).into_iter().map(figures).collect();
     let hand = times[0];
-    print!("| {call} | {codecs} | {bytes} | {:.1} ({:.1}) |", hand.0, hand.1);
+    let mut line = format!("| {call} | {codecs} | {bytes} | {:.1} ({:.1}) |", hand.0, hand.1);
     for t in &times[1..] {
-        print!(" {:.1} ({:.1}) | {:.2} ({:.2}) |", t.0, t.1, t.0 / hand.0, t.1 / hand.1);
+        line += &format!(" {:.1} ({:.1}) | {:.2} ({:.2}) |", t.0, t.1, t.0 / hand.0, t.1 / hand.1);
     }
-    println!("{}", if times.len() < 3 { " | |" } else { "" });
+    line + if times.len() < 3 { " | |" } else { "" }
 }
