@@ -8,7 +8,7 @@ an input is built here; with None the two programs only have to agree.
 from generate import CODECS, KINDS, LEAST, PACKET_LIMIT, Maker, Record, little, number, shown
 
 MAKER = Maker(1)
-HEAD = bytes.fromhex("cafe0105000f") + b"123456789012345"
+HEAD = bytes.fromhex("c0de5a69000f") + b"123456789012345"
 LOGIN = HEAD[4:]
 IMEI = b"123456789012345"
 LARGE = (255, 256, 65535, 65536, (1 << 32) - 1, 1 << 32, 1 << 63, (1 << 64) - 1)
@@ -463,6 +463,67 @@ def form_rules():
             yield rebuilding("codec", form, None if other in CODECS else 17)
 
 
+# ---------------------------------------------------------------- the order of refusals
+
+def walk_orders():
+    """Records that break several rules at once: the first in the walk counts."""
+    for codec, side, wrap, _ in each_side():
+        def attempt(expected, first, second, count=2, last=None, more=b""):
+            records = pair(codec)
+            vars(records[0]).update(first)
+            vars(records[1]).update(second)
+            field = data_field(codec, records, count, last)
+            if expected == refused(6):
+                field = bytes([0x07]) + field[1:]
+            return reading("order", side, wrap(field[:-1] + more + field[-1:]), expected)
+
+        wrong = {"priority": 3, "generation": 8, "total": 1}
+        yield attempt(refused(6), wrong, wrong, last=9)
+        yield attempt(refused(7), wrong, wrong, last=9, more=b"\0")
+        yield attempt(refused(10), wrong, wrong)
+        yield attempt(refused(11 if codec == 0x10 else 9), wrong | {"priority": 2}, wrong)
+        yield attempt(refused(9), {"total": 1}, {"priority": 3})
+        yield attempt(refused(10, 1), {}, {"priority": 3}, more=b"\0")
+        yield attempt(refused(9, 1), {}, {"total": 1}, count=3)
+        yield attempt(refused(8), {"total": 1, "counts": {3: 255}}, {"priority": 3})
+        long = vars(of_elements(codec, 120)) | {"total": 1}
+        yield attempt(refused(9), long, {"priority": 3})
+        yield attempt(refused(12), vars(of_elements(codec, 120)), {"priority": 3}, more=b"\0")
+
+
+def head_orders():
+    """Inputs that break several rules of their head, or a rule of it and one of the walk."""
+    bad = data_field(0x08, pair(0x08), 3, 9)
+    frame = tcp(bytes([7]) + bad[1:])
+    spoiled = frame[:-1] + bytes([frame[-1] ^ 1])
+    for side in ("packet", "command"):
+        for data, refusal in ((b"\x01" * 7, 1), (b"\x01" * 8, 2), (bytes(4) + b"\xff" * 9, 3), (spoiled[:-2], 4),
+                              (spoiled, 5), (frame, 6)):
+            yield reading("order", side, data, refused(refusal))
+    wrong = changed(udp(bytes([7]) + bad[1:]), 9, 0x41)
+    for data, refusal in ((wrong[:25], 1), (wrong + bytes(1280), 3), (wrong + b"\0", 4), (wrong, 15),
+                          (changed(wrong, 9, 0x31), 6), (udp(bad), 7)):
+        yield reading("order", "datagram", data, refused(refusal))
+    yield "order", f"read_login {shown(bytes(16))}", refused(1)
+    yield "order", f"read_login {shown(bytes(18))}", refused(4)
+
+
+def command_orders():
+    """Commands, read and to be written, that break several rules."""
+    digit = bytes([0x1F] * 8)
+    for field, refusal in (
+            (b"\x0d\x02\x04\x00\x03", 6), (b"\x0e\x02\x04\x00\x03", 7), (b"\x0e\x01\x04\x00\x01", 13),
+            (b"\x0e\x01\x05\x00\x01", 8), (command_field(0x0E, 4, size=1, imei=digit), 13),
+            (command_field(0x0E, 0x11, size=1, imei=digit), 14), (command_field(0x0E, 0x11, imei=digit), 15),
+            (command_field(0x0E, 0x11), 14), (command_field(0x0C, 0x11, size=1), 13)):
+        yield reading("order", "command", tcp(field), refused(refusal))
+    long = "61" * 1261
+    for words, refusal in ((f"13 4 30 {long}", 6), (f"14 4 30 {long}", 13), (f"12 17 30 {long}", 13),
+                           (f"14 5 30 {long}", 15), (f"12 5 30 {long}", 15), (f"14 17 {shown(IMEI)} {long}", 14),
+                           (f"12 5 - {long}", 14), (f"14 17 {shown(IMEI)} 61", 14), ("12 5 - 61", 18)):
+        yield "order", f"write_command {words} -", refused(refusal) + " -"
+
+
 # ---------------------------------------------------------------- every refusal in every call
 
 def refused_fields(codec):
@@ -540,5 +601,5 @@ def command_texts():
 def edge_calls():
     for part in (beginnings, frames, codecs_and_counts, cuts, fields, counts_and_lengths, past_the_record, sizes,
                  wraps, command_rules, imeis, lookups, twice, last_known, buffers, form_entries, form_rules,
-                 everywhere, command_texts):
+                 walk_orders, head_orders, command_orders, everywhere, command_texts):
         yield from part()
