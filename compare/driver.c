@@ -1,4 +1,4 @@
-/* Answers calls from standard input, one a line, as reference/reference.py does: the library's side of the comparison. */
+/* Answers calls from standard input, one a line, as compare/reference.py does: the library's side of the comparison. */
 #include <inttypes.h>
 #include <stdio.h>
 #include <stdlib.h>
@@ -19,16 +19,22 @@ static int digit(char c) {
     return -1;
 }
 
-/* A word of hexadecimal, '-' for no bytes. Every byte string has a block of its own, so that a tool sees a read past it. */
+static _Noreturn void fail(const char *why, const char *word) {
+    fprintf(stderr, "driver: %s: %.60s\n", why, word);
+    exit(2);
+}
+
+/* A word of hexadecimal, '-' for no bytes and a null pointer. Every byte string has a block of its own, so that a tool sees a read past it. */
 static struct bytes bytes_of(const char *word) {
     struct bytes b = {NULL, 0};
     if (strcmp(word, "-") == 0) return b;
     b.size = strlen(word) / 2;
     b.at = malloc(b.size ? b.size : 1);
-    if (!b.at) exit(2);
+    if (!b.at) fail("no memory", word);
+    if (strlen(word) % 2) fail("an odd number of digits", word);
     for (size_t i = 0; i < b.size; i++) {
         int high = digit(word[2 * i]), low = digit(word[2 * i + 1]);
-        if (high < 0 || low < 0) exit(2);
+        if (high < 0 || low < 0) fail("not lower-case hexadecimal", word);
         b.at[i] = (uint8_t)(high * 16 + low);
     }
     return b;
@@ -39,7 +45,7 @@ static void print_bytes(const uint8_t *at, size_t size) {
     for (size_t i = 0; i < size; i++) printf("%02x", at[i]);
 }
 
-static void refused(uint8_t number, size_t index) { printf("refused %u %zu", number, index); }
+static void refused(size_t number, size_t index) { printf("refused %zu %zu", number, index); }
 
 static void written(struct brundilope_written w, struct bytes out) {
     if (w.number) refused(w.number, w.index);
@@ -53,9 +59,11 @@ static void value(struct brundilope_value v) {
     else printf("accepted %u %u %zu %zu", v.id, v.kind, v.offset, v.size);
 }
 
-static void view(struct bytes p, uint8_t number, size_t offset, size_t size) {
+/* A view, empty on a refusal. */
+static void view(struct bytes p, size_t number, size_t offset, size_t size) {
     printf("bytes ");
-    print_bytes(p.at + (number ? 0 : offset), number ? 0 : size);
+    if (number) putchar('-');
+    else print_bytes(p.at + offset, size);
 }
 
 static void record(struct brundilope_record r) {
@@ -110,22 +118,15 @@ static int on_view(const char *call, struct bytes p, char **w) {
 }
 
 /* The calls that write into the buffer of their last word. */
-static int on_buffer(const char *call, struct bytes p, char **w) {
-    int last = !strcmp(call, "write_command") ? 5 : !strcmp(call, "answer_login") ? 3 : 2;
-    if (!w[last]) return 0;
-    struct bytes out = bytes_of(w[last]);
+static void on_buffer(const char *call, struct bytes p, char **w) {
+    struct bytes out = bytes_of(w[!strcmp(call, "answer_login") ? 3 : 2]);
     if (!strcmp(call, "acknowledge_packet")) written(brundilope_acknowledge_packet(p.at, p.size, out.at, out.size), out);
     else if (!strcmp(call, "acknowledge_datagram")) written(brundilope_acknowledge_datagram(p.at, p.size, out.at, out.size), out);
     else if (!strcmp(call, "form_of_packet")) written(brundilope_form_of_packet(p.at, p.size, out.at, out.size), out);
     else if (!strcmp(call, "form_of_datagram")) written(brundilope_form_of_datagram(p.at, p.size, out.at, out.size), out);
     else if (!strcmp(call, "packet_of_form")) written(brundilope_packet_of_form(p.at, p.size, out.at, out.size), out);
-    else if (!strcmp(call, "answer_login")) written(brundilope_answer_login(p.at, p.size, number(w[2]) != 0, out.at, out.size), out);
-    else {
-        free(out.at);
-        return 0;
-    }
+    else written(brundilope_answer_login(p.at, p.size, number(w[2]) != 0, out.at, out.size), out);
     free(out.at);
-    return 1;
 }
 
 static void write_command(char **w) {
@@ -146,17 +147,37 @@ static void last_known(char **w, int as_view) {
     free(older.at);
 }
 
+/* How many words follow the name of a call; -1 for an unknown one. */
+static int words_after(const char *call) {
+    static const struct {
+        const char *call;
+        int words;
+    } calls[] = {
+        {"read_packet", 1},           {"read_datagram", 1},         {"read_login", 1},         {"read_command", 1},
+        {"command_text", 1},          {"record_in_packet", 2},      {"record_in_datagram", 2}, {"value_in_packet", 3},
+        {"value_in_datagram", 3},     {"id_in_packet", 3},          {"id_in_datagram", 3},     {"view_in_packet", 3},
+        {"view_in_datagram", 3},      {"id_view_in_packet", 3},     {"last_known", 3},         {"last_known_view", 3},
+        {"id_view_in_datagram", 3},   {"acknowledge_packet", 2},    {"answer_login", 3},       {"write_command", 5},
+        {"acknowledge_datagram", 2},  {"form_of_packet", 2},        {"form_of_datagram", 2},   {"packet_of_form", 2},
+    };
+    for (size_t i = 0; i < sizeof calls / sizeof *calls; i++)
+        if (!strcmp(call, calls[i].call)) return calls[i].words;
+    return -1;
+}
+
 static void answer(char *line) {
     char *w[MOST_WORDS] = {0};
     int n = 0;
     for (char *t = strtok(line, " \n"); t && n < MOST_WORDS; t = strtok(NULL, " \n")) w[n++] = t;
-    if (n < 2) printf("error no call");
-    else if (!strcmp(w[0], "write_command") && n == 6) write_command(w);
-    else if (!strcmp(w[0], "last_known") && n == 4) last_known(w, 0);
-    else if (!strcmp(w[0], "last_known_view") && n == 4) last_known(w, 1);
+    int words = n ? words_after(w[0]) : -1;
+    if (words < 0) printf("error unknown call");
+    else if (words != n - 1) printf("error wrong number of words");
+    else if (!strcmp(w[0], "write_command")) write_command(w);
+    else if (!strcmp(w[0], "last_known")) last_known(w, 0);
+    else if (!strcmp(w[0], "last_known_view")) last_known(w, 1);
     else {
         struct bytes p = bytes_of(w[1]);
-        if (!on_input(w[0], p, w) && !on_view(w[0], p, w) && !on_buffer(w[0], p, w)) printf("error unknown call");
+        if (!on_input(w[0], p, w) && !on_view(w[0], p, w)) on_buffer(w[0], p, w);
         free(p.at);
     }
     putchar('\n');

@@ -25,3 +25,7 @@ isDataCodec codec = pick (eqb codec 0x08) true (pick (eqb codec 0x8E) true (eqb 
 -- the kinds of a record's groups in order: values of 1, 2, 4 and 8 bytes, and 9 for values with a length of their own
 unfoldable pub kinds : Widths → List ℕ
 kinds w = 1 ∷ 2 ∷ 4 ∷ 8 ∷ pick (w .variable) (9 ∷ []) []
+
+-- all kinds, of which records without variable values have the first four
+abbrev pub allKinds : List ℕ
+allKinds = 1 ∷ 2 ∷ 4 ∷ 8 ∷ 9 ∷ []

@@ -22,14 +22,14 @@ ghost use Rattle.lookup.specs.Answers.{recordAs, valueAs, answerValue, answerKn
 
 #[repr(C)]
 pub struct WrittenC {
-    pub number: u8,
+    pub number: usize,
     pub index: usize,
     pub written: usize,
 }
 
 #[repr(C)]
 pub struct PacketC {
-    pub number: u8,
+    pub number: usize,
     pub index: usize,
     pub codec: u8,
     pub count: u8,
@@ -37,7 +37,7 @@ pub struct PacketC {
 
 #[repr(C)]
 pub struct DatagramC {
-    pub number: u8,
+    pub number: usize,
     pub index: usize,
     pub codec: u8,
     pub count: u8,
@@ -49,14 +49,14 @@ pub struct DatagramC {
 
 #[repr(C)]
 pub struct LoginC {
-    pub number: u8,
+    pub number: usize,
     pub index: usize,
     pub imei: u64,
 }
 
 #[repr(C)]
 pub struct CommandC {
-    pub number: u8,
+    pub number: usize,
     pub index: usize,
     pub codec: u8,
     pub kind: u8,
@@ -220,7 +220,7 @@ pub extern "C" fn brundilope_write_command(
 
 #[repr(C)]
 pub struct RecordC {
-    pub number: u8,
+    pub number: usize,
     pub index: usize,
     pub timestamp: u64,
     pub priority: u8,
@@ -237,7 +237,7 @@ pub struct RecordC {
 
 #[repr(C)]
 pub struct ValueC {
-    pub number: u8,
+    pub number: usize,
     pub index: usize,
     pub id: u16,
     pub kind: u8,
@@ -247,7 +247,7 @@ pub struct ValueC {
 
 #[repr(C)]
 pub struct KnownC {
-    pub number: u8,
+    pub number: usize,
     pub index: usize,
     pub older: bool,
     pub id: u16,

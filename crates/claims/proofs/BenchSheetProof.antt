@@ -16,12 +16,12 @@ use Rattle.command.specs.Commands.{commandField, commandBody, readField, readCo
 use Rattle.command.specs.Layouts.{types, layouts, findLayout, layoutOf, rowAs}
 use Rattle.command.specs.Walks.{bodyAs, answered, givenAs, planned}
 use Rattle.login.specs.Login.{readLogin, isAccepted, loginAnswer, loginAs}
-use Rattle.datagram.specs.Datagrams.{headerBytes, contentBytes, datagramBytes, readHeader, readDatagram, answerDatagram, acknowledgementBytes, udpAcknowledgement, datagramAs, datagramWalk}
+use Rattle.datagram.specs.Datagrams.{headerBytes, contentBytes, datagramBytes, readHeader, readDatagram, answerDatagram, acknowledgementBytes, udpAcknowledgement, datagramAs, judgeHeader}
 use Rattle.tlv.specs.Entries.{entryBytes, entriesFrom, entriesOf}
 use Rattle.tlv.specs.Form.{fixedEntry, elementEntry, groupEntries, groupsEntries, recordsEntries, formEntries, form}
 use Rattle.tlv.specs.PacketOf.{formOfPacket, formOfDatagram, or17, readForm, packetOfForm}
 use Rattle.claims.specs.BenchSheet.{commandFields, sheet, AsTheSheetSays}
 
 pub bench-sheet : AsTheSheetSays
-unfolding onAccepted told check enclosed codecOf firstCount lastCount inner imeiText textDigit readImei packed pairUpTo readPacked numberAt digits valueFrom littleAt le signed walked numbered andThen _>>=_ _>>_ pure here require span number bytes upTo repeat feedback shift shifts absorb crcFrom crc framed fieldLength fieldOf unframe lastFour framing widthsOf isDataCodec kinds dataBytes readData dataResult valueSize element group groups fixedFields avlRecord tagged inRecord avlRecords atEnd allRecords elementCount total lengthBytes elementBytes groupBytes groupsBytes fixedBytes recordBytes packetBytes readPacket answerPacket acknowledged tcpAcknowledgement packetAs commandField commandBody readField readCommand answerCommand textView commandAs types layouts findLayout layoutOf rowAs bodyAs answered givenAs planned readLogin isAccepted loginAnswer loginAs headerBytes contentBytes datagramBytes readHeader readDatagram answerDatagram acknowledgementBytes udpAcknowledgement datagramAs datagramWalk entryBytes entriesFrom entriesOf fixedEntry elementEntry groupEntries groupsEntries recordsEntries formEntries form formOfPacket formOfDatagram or17 readForm packetOfForm commandFields sheet
+unfolding onAccepted told check enclosed codecOf firstCount lastCount inner imeiText textDigit readImei packed pairUpTo readPacked numberAt digits valueFrom littleAt le signed walked numbered andThen _>>=_ _>>_ pure here require span number bytes upTo repeat feedback shift shifts absorb crcFrom crc framed fieldLength fieldOf unframe lastFour framing widthsOf isDataCodec kinds dataBytes readData dataResult valueSize element group groups fixedFields avlRecord tagged inRecord avlRecords atEnd allRecords elementCount total lengthBytes elementBytes groupBytes groupsBytes fixedBytes recordBytes packetBytes readPacket answerPacket acknowledged tcpAcknowledgement packetAs commandField commandBody readField readCommand answerCommand textView commandAs types layouts findLayout layoutOf rowAs bodyAs answered givenAs planned readLogin isAccepted loginAnswer loginAs headerBytes contentBytes datagramBytes readHeader readDatagram answerDatagram acknowledgementBytes udpAcknowledgement datagramAs judgeHeader entryBytes entriesFrom entriesOf fixedEntry elementEntry groupEntries groupsEntries recordsEntries formEntries form formOfPacket formOfDatagram or17 readForm packetOfForm commandFields sheet
 bench-sheet = (refl, (refl, (refl, (refl, (refl, (refl, (refl, (refl, (refl, (refl, (refl, (refl, (refl, (refl, tt))))))))))))))

@@ -99,7 +99,7 @@ pub enum BodyWalk {
     Stopped(Fault),
 }
 
-fn stopped(number: u8, place: usize) -> BodyWalk
+fn stopped(number: usize, place: usize) -> BodyWalk
     ensures { λ r. ⌜ r ≡ BodyWalk.Stopped (record { number = number; index = 0; place = place }) ⌝ }
 {
     BodyWalk::Stopped(Fault {
@@ -143,7 +143,7 @@ fn read_body(l: Layout, s: &[u8]) -> BodyWalk
     }
 }
 
-fn refused(number: u8) -> CommandAnswer
+fn refused(number: usize) -> CommandAnswer
     ensures { λ r. ⌜ r ≡ CommandAnswer.Refused (record { number = number; index = 0 }) ⌝ }
 {
     CommandAnswer::Refused(Refusal { number, index: 0 })
@@ -220,7 +220,7 @@ pub enum Given {
     Refused(Refusal),
 }
 
-fn not_given(number: u8) -> Given
+fn not_given(number: usize) -> Given
     ensures { λ r. ⌜ r ≡ Given.Refused (record { number = number; index = 0 }) ⌝ }
 {
     Given::Refused(Refusal { number, index: 0 })
@@ -325,7 +325,7 @@ fn put_field(out: &mut [u8], l: Layout, kind: u8, imei: u64, text: &[u8])
     wire::put_be(out, last, 1, 1);
 }
 
-fn not_written(number: u8) -> Written
+fn not_written(number: usize) -> Written
     ensures { λ r. ⌜ r ≡ Written.Refused (record { number = number; index = 0 }) ⌝ }
 {
     Written::Refused(Refusal { number, index: 0 })

@@ -21,7 +21,7 @@ use Rattle.wire.proofs.ImeiText.{imei-exact, length-imeiText}
 use Rattle.avl.specs.DataField.{AvlData, dataBytes, DataRules, readData}
 use Rattle.avl.proofs.DataLaws.{data-exact, data-complete}
 use Rattle.datagram.specs.declared.Header.{Header}
-use Rattle.datagram.specs.Datagrams.{Datagram, headerBytes, contentBytes, datagramBytes, HeaderRules, UdpPacket, readHeader, readDatagram}
+use Rattle.datagram.specs.Datagrams.{Datagram, headerBytes, contentBytes, datagramBytes, HeaderRules, UdpPacket, readHeader, judgeHeader, readDatagram}
 
 header-exact : Exact readHeader headerBytes HeaderRules
 unfolding readHeader headerBytes pure
@@ -59,13 +59,13 @@ unfolding dataBytes
 data-long a = simp length-enclosed (omega arith)
 
 datagram-sound : (largest longest : ℕ) (p : List ℕ) (g : Datagram) → Bytes p → readDatagram largest longest p ≡ accepted g → UdpPacket largest longest g p
-unfolding readDatagram contentBytes datagramBytes
+unfolding readDatagram judgeHeader contentBytes datagramBytes
 datagram-sound largest longest p g h e =
-    let c₁ = check-accepted (leb 26 (length p)) 1 _ e in
+    let c₄ = onAccepted-accepted (judgeHeader largest p) _ e in
+    let c₁ = check-accepted (leb 26 (length p)) 1 _ (c₄ .1) in
     let c₂ = check-accepted (leb (length p) largest) 3 _ (c₁ .1) in
     let c₃ = check-accepted (eqb (length p) (numberAt p 0 2 + 2)) 4 _ (c₂ .1) in
-    let c₄ = onAccepted-accepted _ _ (c₃ .1) in
-    let c₅ = told-accepted _ (c₄ .1) in
+    let c₅ = told-accepted _ (c₃ .1) in
     let c₆ = onAccepted-accepted _ _ (c₄ .2) in
     let long : 26 ≤ length p = leb-true _ _ (c₁ .0) in
     let counted : length p ≡ numberAt p 0 2 + 2 = eqb-true _ _ (c₃ .0) in
@@ -99,16 +99,17 @@ parts largest longest g p h =
     )
 
 datagram-complete : (largest longest : ℕ) (p : List ℕ) (g : Datagram) → UdpPacket largest longest g p → readDatagram largest longest p ≡ accepted g
-unfolding readDatagram datagramBytes
+unfolding readDatagram judgeHeader datagramBytes
 datagram-complete largest longest p g k =
     let a = parts largest longest g p k in
     let size : length p ≡ length (contentBytes g) + 2 = ap length (k .whole) ∙ length-datagram g in
     let number : numberAt p 0 2 ≡ length (contentBytes g) = number-be 2 (length (contentBytes g)) p 0 (contentBytes g) (k .counted) (k .whole) in
     let long : 3 ≤ length (drop 23 p) = subst (λ (l : List ℕ). 3 ≤ length l) (sym (a .1)) (data-long (g .payload)) in
-    check-passed _ 1 _ (le-leb 26 (length p) (omega (arith, length-drop 23 p)))
+    onAccepted-passed (judgeHeader largest p) _
+    (check-passed _ 1 _ (le-leb 26 (length p) (omega (arith, length-drop 23 p)))
     ∙ check-passed _ 3 _ (le-leb (length p) largest (omega (arith, k .most, length-datagram g)))
     ∙ check-passed _ 4 _ (eq-eqb (length p) (numberAt p 0 2 + 2) (omega arith))
-    ∙ onAccepted-passed _ _ (told-got _ (a .0))
+    ∙ told-got _ (a .0))
     ∙ onAccepted-passed _ _ (ap (readData longest) (a .1) ∙ data-complete longest (g .payload) (k .payload))
 
 -- the judge accepts exactly what keeps the rules

@@ -1,141 +1,153 @@
 -- Which way the judge of a datagram goes.
 use Prim.Native.Nat.{ℕ, _+_, _-_, _/_, _%_, _≤_, _<_}
 use native.Mathlib.Omega.{arith}
-use mathlib.Core.Path.{_≡_, refl, sym, ap, ap₂, _∙_}
+use mathlib.Core.Path.{_≡_, refl, sym, ap, ap₂, subst, _∙_}
 use mathlib.Core.List.{List, [], _∷_}
 use lib.ListN.{length, take, drop, length-drop}
 use lib.Seq.{take-all}
 use lib.Dec.{leb, eqb}
-use borrow.Author.Tests.{le-leb, lt-leb, eq-eqb, ne-eqb}
+use borrow.Author.Tests.{le-leb, lt-leb, leb-true, eq-eqb, ne-eqb}
 use Rattle.wire.specs.declared.Fault.{Fault}
 use Rattle.wire.specs.declared.Refusal.{Refusal}
 use Rattle.wire.specs.Numbers.{numberAt, digits}
 use Rattle.wire.specs.Reading.{got, bad, pure}
-use Rattle.wire.specs.Answers.{Answer, accepted, refused, onAccepted}
+use Rattle.wire.specs.Answers.{Answer, accepted, refused, told, onAccepted}
 use Rattle.wire.specs.Imei.{readImei}
 use Rattle.wire.proofs.Walking.{number-there, then-bad}
 use Rattle.wire.proofs.Exactness.{then-got}
-use Rattle.wire.proofs.Accepting.{check-passed, check-failed, onAccepted-passed, onAccepted-refused, told-got, told-bad}
+use Rattle.wire.proofs.Accepting.{check-accepted, check-passed, check-failed, onAccepted-passed, onAccepted-refused, told-got, told-bad}
 use Rattle.avl.specs.DataField.{AvlData, readData, dataResult}
 use Rattle.walk.specs.declared.Span.{Span}
 use Rattle.walk.specs.declared.DataWalk.{DataWalk}
-use Rattle.walk.specs.Walks.{spanOf, dataWalk}
-use Rattle.avl.specs.Codecs.{widthsOf}
-use Rattle.walk.proofs.TakenLaws.{TakenOf, taken, not-taken}
+use Rattle.walk.specs.Walks.{dataWalk}
+use Rattle.walk.proofs.TakenLaws.{taken, not-taken}
 use Rattle.datagram.specs.declared.Header.{Header}
-use Rattle.datagram.specs.declared.DatagramWalk.{DatagramWalk}
-use Rattle.datagram.specs.Datagrams.{Datagram, readHeader, acknowledgementBytes, udpAcknowledgement, readDatagram, answerDatagram, datagramWalk}
+use Rattle.datagram.specs.Datagrams.{Datagram, DatagramResult, readHeader, judgeHeader, acknowledgementBytes, udpAcknowledgement, readDatagram, payloadOf, answerDatagram}
 
 -- the header that stands at 2, with this IMEI
 abbrev pub headerAt : List ℕ → ℕ → Header
 headerAt p imei = record { packet = numberAt p 2 2; unused = numberAt p 4 1; avl = numberAt p 5 1; imei = imei }
 
-module _ (largest longest : ℕ) (p : List ℕ) where
-  pub refused-short : length p < 26 → readDatagram largest longest p ≡ refused 1 0
-  unfolding readDatagram
-  refused-short h = check-failed (leb 26 (length p)) 1 _ (lt-leb _ _ h)
+module _ (largest : ℕ) (p : List ℕ) where
+  pub header-short : length p < 26 → judgeHeader largest p ≡ refused 1 0
+  unfolding judgeHeader
+  header-short h = check-failed (leb 26 (length p)) 1 _ (lt-leb _ _ h)
 
   module _ (long : 26 ≤ length p) where
-    pub refused-large : largest < length p → readDatagram largest longest p ≡ refused 3 0
-    unfolding readDatagram
-    refused-large h = check-passed (leb 26 (length p)) 1 _ (le-leb _ _ long) ∙ check-failed (leb (length p) largest) 3 _ (lt-leb _ _ h)
+    pub header-large : largest < length p → judgeHeader largest p ≡ refused 3 0
+    unfolding judgeHeader
+    header-large h = check-passed (leb 26 (length p)) 1 _ (le-leb _ _ long) ∙ check-failed (leb (length p) largest) 3 _ (lt-leb _ _ h)
 
     module _ (fits : length p ≤ largest) where
-      pub refused-length : (length p ≡ numberAt p 0 2 + 2 → ⊥) → readDatagram largest longest p ≡ refused 4 0
-      unfolding readDatagram
-      refused-length h =
+      pub header-length : (length p ≡ numberAt p 0 2 + 2 → ⊥) → judgeHeader largest p ≡ refused 4 0
+      unfolding judgeHeader
+      header-length h =
           check-passed (leb 26 (length p)) 1 _ (le-leb _ _ long)
           ∙ check-passed (leb (length p) largest) 3 _ (le-leb _ _ fits)
           ∙ check-failed (eqb (length p) (numberAt p 0 2 + 2)) 4 _ (ne-eqb _ _ h)
 
       module _ (size : length p ≡ numberAt p 0 2 + 2) where
-        pub refused-imei : {x : Fault} → readImei p 6 ≡ bad x → readDatagram largest longest p ≡ refused (x .number) (x .index)
-        unfolding readDatagram readHeader
-        refused-imei e =
+        -- the sizes are right, so it is as the header says
+        sized : judgeHeader largest p ≡ told (readHeader p 2)
+        unfolding judgeHeader
+        sized =
             check-passed (leb 26 (length p)) 1 _ (le-leb _ _ long)
             ∙ check-passed (leb (length p) largest) 3 _ (le-leb _ _ fits)
             ∙ check-passed (eqb (length p) (numberAt p 0 2 + 2)) 4 _ (eq-eqb _ _ size)
-            ∙ onAccepted-refused _ _
-            (told-bad _
-            (number-there _ p 2 2 (omega arith) ∙ number-there _ p 4 1 (omega arith) ∙ number-there _ p 5 1 (omega arith) ∙ then-bad readImei _ p 6 e))
 
-        module _ {imei next : ℕ} (e : readImei p 6 ≡ got imei next) where
-          behind : readDatagram largest longest p ≡ onAccepted (readData longest (drop 23 p)) (λ a. accepted (record { header = headerAt p imei; payload = a }))
-          unfolding readDatagram readHeader pure
-          behind =
-              check-passed (leb 26 (length p)) 1 _ (le-leb _ _ long)
-              ∙ check-passed (leb (length p) largest) 3 _ (le-leb _ _ fits)
-              ∙ check-passed (eqb (length p) (numberAt p 0 2 + 2)) 4 _ (eq-eqb _ _ size)
-              ∙ onAccepted-passed _ _
-              (told-got _
-              (number-there _ p 2 2 (omega arith) ∙ number-there _ p 4 1 (omega arith) ∙ number-there _ p 5 1 (omega arith) ∙ then-got readImei _ p 6 e))
+        pub header-imei : {x : Fault} → readImei p 6 ≡ bad x → judgeHeader largest p ≡ refused (x .number) (x .index)
+        unfolding readHeader
+        header-imei e =
+            sized
+            ∙ told-bad _
+            (number-there _ p 2 2 (omega arith) ∙ number-there _ p 4 1 (omega arith) ∙ number-there _ p 5 1 (omega arith) ∙ then-bad readImei _ p 6 e)
 
-          pub walk-refused : (want : ℕ) {r : Refusal} → dataWalk want (readData longest (drop 23 p)) ≡ DataWalk.Refused r
-              → readDatagram largest longest p ≡ refused (r .number) (r .index)
-          walk-refused want k = behind ∙ onAccepted-refused _ _ (not-taken want _ k)
-
-          pub walk-taken : (want : ℕ) {codec count : ℕ} {span : Span} → dataWalk want (readData longest (drop 23 p)) ≡ DataWalk.Taken codec count span
-              → datagramWalk want (readDatagram largest longest p) ≡ DatagramWalk.Taken codec count span (headerAt p imei)
-          unfolding datagramWalk
-          walk-taken want k =
-              let t = taken want (readData longest (drop 23 p)) k in
-              ap (datagramWalk want) (behind ∙ onAccepted-passed _ _ (t .accepts))
-              ∙ ap₂ (λ (x : ℕ × ℕ) (y : Span). DatagramWalk.Taken (x .0) (x .1) y (headerAt p imei)) (λ i. (t .codecIs i, t .countIs i)) (t .spanIs)
+        pub header-is : {imei next : ℕ} → readImei p 6 ≡ got imei next → judgeHeader largest p ≡ accepted (headerAt p imei)
+        unfolding readHeader pure
+        header-is e =
+            sized
+            ∙ told-got _
+            (number-there _ p 2 2 (omega arith) ∙ number-there _ p 4 1 (omega arith) ∙ number-there _ p 5 1 (omega arith) ∙ then-got readImei _ p 6 e)
 
 -- the part behind the header
 pub payload-part : (p : List ℕ) → take (length p - 23) (drop 23 p) ≡ drop 23 p
 payload-part p = take-all (length p - 23) (drop 23 p) (simp length-drop (omega arith))
 
--- ---- what the walk tells of the judge
+pub payload-long : (largest : ℕ) (p : List ℕ) {h : Header} → judgeHeader largest p ≡ accepted h → (26 ≤ length p) × (3 ≤ length (take (length p - 23) (drop 23 p)))
+unfolding judgeHeader
+payload-long largest p e =
+    let long : 26 ≤ length p = leb-true 26 (length p) (check-accepted (leb 26 (length p)) 1 _ e .0) in
+    (long, subst (λ (l : List ℕ). 3 ≤ length l) (sym (payload-part p)) (simp length-drop (omega arith)))
 
-pub record TakenFrom (want : ℕ) (r : Answer Datagram) (codec count : ℕ) (span : Span) (header : Header) : Type 0 where
-  pub content : Datagram
-  pub accepts : r ≡ accepted content
-  pub codecIs : content .payload .codec ≡ codec
-  pub countIs : length (content .payload .records) ≡ count
-  pub spanIs : spanOf (widthsOf (content .payload .codec)) want 0 (content .payload .records) ≡ span
-  pub headerIs : content .header ≡ header
-
-pub taken-from : (want : ℕ) (r : Answer Datagram) {codec count : ℕ} {span : Span} {header : Header}
-    → datagramWalk want r ≡ DatagramWalk.Taken codec count span header → TakenFrom want r codec count span header
-unfolding datagramWalk
-taken-from want (accepted g) e = record { content = g; accepts = refl; codecIs = cc; countIs = cc; spanIs = cc; headerIs = cc }
-taken-from want (refused n i) e = absurd (let z : _≡_ {A = ℕ} 0 1 = cc in omega arith)
-
-pub refused-from : (want : ℕ) (r : Answer Datagram) {x : Refusal} → datagramWalk want r ≡ DatagramWalk.Refused x → r ≡ refused (x .number) (x .index)
-unfolding datagramWalk
-refused-from want (accepted g) e = absurd (let z : _≡_ {A = ℕ} 0 1 = cc in omega arith)
-refused-from want (refused n i) {x} e =
-    let same : _≡_ {A = Refusal} (record { number = n; index = i }) x = cc in
-    ap₂ refused (ap (λ (y : Refusal). y .number) same) (ap (λ (y : Refusal). y .index) same)
-
-pub walk-of : (want : ℕ) (r : Answer Datagram) {n i : ℕ} → r ≡ refused n i → datagramWalk want r ≡ DatagramWalk.Refused (record { number = n; index = i })
-unfolding datagramWalk
-walk-of want r e = ap (datagramWalk want) e
-
--- ---- and of the answers
+-- ---- of a header that is accepted, and of one that is refused
 
 module _ (largest longest : ℕ) (p : List ℕ) where
-  pub answer-taken : {want codec count : ℕ} {span : Span} {header : Header} → TakenFrom want (readDatagram largest longest p) codec count span header
-      → answerDatagram largest longest p ≡ accepted (record { payload = record { codec = codec; count = count }; header = header })
-  unfolding answerDatagram dataResult
-  answer-taken k =
-      onAccepted-passed (readDatagram largest longest p) _ (k .accepts)
-      ∙ (λ i. accepted (record { payload = record { codec = k .codecIs i; count = k .countIs i }; header = k .headerIs i }))
+  module _ {n i : ℕ} (e : judgeHeader largest p ≡ refused n i) where
+    judged : readDatagram largest longest p ≡ refused n i
+    unfolding readDatagram
+    judged = onAccepted-refused (judgeHeader largest p) _ e
 
-  pub answer-refused : {n i : ℕ} → readDatagram largest longest p ≡ refused n i → answerDatagram largest longest p ≡ refused n i
-  unfolding answerDatagram
-  answer-refused e = onAccepted-refused (readDatagram largest longest p) _ e
+    pub walk-refused : (want : ℕ) → dataWalk want (payloadOf (readDatagram largest longest p)) ≡ DataWalk.Refused (record { number = n; index = i })
+    unfolding dataWalk payloadOf
+    walk-refused want = ap (dataWalk want) (onAccepted-refused (readDatagram largest longest p) _ judged)
 
-  pub acknowledged-taken : {want codec count : ℕ} {span : Span} {header : Header} → TakenFrom want (readDatagram largest longest p) codec count span header
-      → udpAcknowledgement largest longest p ≡ accepted (acknowledgementBytes header count)
-  unfolding udpAcknowledgement
-  acknowledged-taken k =
-      onAccepted-passed (readDatagram largest longest p) _ (k .accepts) ∙ (λ i. accepted (acknowledgementBytes (k .headerIs i) (k .countIs i)))
+    pub answer-refused : answerDatagram largest longest p ≡ refused n i
+    unfolding answerDatagram
+    answer-refused = onAccepted-refused (readDatagram largest longest p) _ judged
 
-  pub acknowledged-refused : {n i : ℕ} → readDatagram largest longest p ≡ refused n i → udpAcknowledgement largest longest p ≡ refused n i
-  unfolding udpAcknowledgement
-  acknowledged-refused e = onAccepted-refused (readDatagram largest longest p) _ e
+  module _ {h : Header} (e : judgeHeader largest p ≡ accepted h) where
+    behind : readDatagram largest longest p ≡ onAccepted (readData longest (drop 23 p)) (λ a. accepted (record { header = h; payload = a }))
+    unfolding readDatagram
+    behind = onAccepted-passed (judgeHeader largest p) _ e
+
+    pub walk-on : (want : ℕ) → dataWalk want (readData longest (drop 23 p)) ≡ dataWalk want (payloadOf (readDatagram largest longest p))
+    unfolding payloadOf onAccepted
+    walk-on want = ap (dataWalk want) (sym (ap payloadOf behind ∙ same (readData longest (drop 23 p))))
+      where
+        same : (r : Answer AvlData) → payloadOf (onAccepted r (λ a. accepted (record { header = h; payload = a }))) ≡ r
+        same (accepted a) = refl
+        same (refused n i) = refl
+
+    pub answer-taken : {codec count : ℕ} {span : Span} → dataWalk 0 (readData longest (drop 23 p)) ≡ DataWalk.Taken codec count span
+        → answerDatagram largest longest p ≡ accepted (record { payload = record { codec = codec; count = count }; header = h })
+    unfolding answerDatagram dataResult
+    answer-taken k =
+        let t = taken 0 (readData longest (drop 23 p)) k in
+        onAccepted-passed (readDatagram largest longest p) _ (behind ∙ onAccepted-passed _ _ (t .accepts))
+        ∙ (λ i. accepted (record { payload = record { codec = t .codecIs i; count = t .countIs i }; header = h }))
+
+    pub answer-stopped : {r : Refusal} → dataWalk 0 (readData longest (drop 23 p)) ≡ DataWalk.Refused r → answerDatagram largest longest p ≡ refused (r .number) (r .index)
+    unfolding answerDatagram
+    answer-stopped k = onAccepted-refused (readDatagram largest longest p) _ (behind ∙ onAccepted-refused _ _ (not-taken 0 _ k))
+
+  -- ---- and of the acknowledgement
+
+  acknowledged : udpAcknowledgement largest longest p ≡ onAccepted (answerDatagram largest longest p) (λ r. accepted (acknowledgementBytes (r .header) (r .payload .count)))
+  unfolding udpAcknowledgement answerDatagram dataResult onAccepted
+  acknowledged = go (readDatagram largest longest p)
+    where
+      go : (r : Answer Datagram) → onAccepted r (λ g. accepted (acknowledgementBytes (g .header) (length (g .payload .records))))
+          ≡ onAccepted (onAccepted r (λ g. accepted (record { payload = dataResult (g .payload); header = g .header }))) (λ (r : DatagramResult). accepted (acknowledgementBytes (r .header) (r .payload .count)))
+      go (accepted g) = refl
+      go (refused n i) = refl
+
+  pub acknowledged-taken : {x : DatagramResult} → accepted x ≡ answerDatagram largest longest p → udpAcknowledgement largest longest p ≡ accepted (acknowledgementBytes (x .header) (x .payload .count))
+  acknowledged-taken e = acknowledged ∙ onAccepted-passed _ _ (sym e)
+
+  pub acknowledged-refused : {n i : ℕ} → refused n i ≡ answerDatagram largest longest p → udpAcknowledgement largest longest p ≡ refused n i
+  acknowledged-refused e = acknowledged ∙ onAccepted-refused _ _ (sym e)
+
+-- ---- what the walk tells of the judge
+
+pub carried : (want : ℕ) (r : Answer Datagram) {codec count : ℕ} {span : Span} → dataWalk want (payloadOf r) ≡ DataWalk.Taken codec count span → (g : Datagram) × (r ≡ accepted g)
+unfolding dataWalk payloadOf onAccepted
+carried want (accepted g) e = (g, refl)
+carried want (refused n i) e = absurd (let z : _≡_ {A = ℕ} 0 1 = cc in omega arith)
+
+pub not-carried : (want : ℕ) (r : Answer Datagram) {x : Refusal} → dataWalk want (payloadOf r) ≡ DataWalk.Refused x → r ≡ refused (x .number) (x .index)
+unfolding payloadOf onAccepted
+not-carried want (accepted g) {x} e = absurd (let k = not-taken want (accepted (g .payload)) {x = x} e in let z : _≡_ {A = ℕ} 0 1 = cc in omega arith)
+not-carried want (refused n i) e = let k = not-taken want (refused n i) e in ap₂ refused (cc) (cc)
 
 pub length-acknowledgement : (h : Header) (count : ℕ) → length (acknowledgementBytes h count) ≡ 7
 unfolding acknowledgementBytes digits

@@ -9,14 +9,10 @@ use Rattle.wire.specs.Sequences.{fields}
 use Rattle.wire.specs.Reading.{Reader, _>>=_, pure, number}
 use Rattle.wire.specs.Answers.{Answer, accepted, refused, check, told, onAccepted}
 use Rattle.wire.specs.Imei.{imeiText, readImei}
-use Rattle.walk.specs.declared.Span.{Span}
-use Rattle.avl.specs.Codecs.{widthsOf}
-use Rattle.walk.specs.Walks.{spanOf}
 use Rattle.datagram.specs.declared.Header.{Header}
 use Rattle.datagram.specs.declared.DatagramAnswer.{DatagramAnswer}
 use Rattle.datagram.specs.declared.DatagramAnswer.the-variants.{Accepted, Refused}
-use Rattle.datagram.specs.declared.DatagramWalk.{DatagramWalk}
-use Rattle.datagram.specs.declared.DatagramWalk
+use Rattle.datagram.specs.declared.HeaderAnswer.{HeaderAnswer}
 use Rattle.avl.specs.DataField.{AvlData, dataBytes, DataRules, readData, DataResult, dataResult}
 
 pub record Datagram : Type 0 where
@@ -59,14 +55,21 @@ readHeader = do
   imei ← readImei
   pure (record { packet = packetId; unused = unused; avl = avlId; imei = imei })
 
-unfoldable pub readDatagram : ℕ → ℕ → List ℕ → Answer Datagram
-readDatagram largest longest p =
+unfoldable pub judgeHeader : ℕ → List ℕ → Answer Header
+judgeHeader largest p =
     check (leb 26 (length p)) 1
     (check (leb (length p) largest) 3
     (check (eqb (length p) (numberAt p 0 2 + 2)) 4
-    (onAccepted (told (readHeader p 2))
+    (told (readHeader p 2))))
+
+unfoldable pub readDatagram : ℕ → ℕ → List ℕ → Answer Datagram
+readDatagram largest longest p =
+    onAccepted (judgeHeader largest p)
     (λ h. onAccepted (readData longest (drop 23 p))
-    (λ a. accepted (record { header = h; payload = a }))))))
+    (λ a. accepted (record { header = h; payload = a })))
+
+unfoldable pub payloadOf : Answer Datagram → Answer AvlData
+payloadOf datagram = onAccepted datagram (λ g. accepted (g .payload))
 
 pub record DatagramResult : Type 0 where
   pub payload : DataResult
@@ -91,9 +94,6 @@ unfoldable pub datagramAs : DatagramAnswer → Answer DatagramResult
 datagramAs (Accepted codec count header) = accepted (record { payload = record { codec = codec; count = count }; header = header })
 datagramAs (Refused r) = refused (r .number) (r .index)
 
--- and where the wanted record lies in the space between the counts
-unfoldable pub datagramWalk : ℕ → Answer Datagram → DatagramWalk
-datagramWalk want (accepted g) =
-    DatagramWalk.Taken (g .payload .codec) (length (g .payload .records))
-    (spanOf (widthsOf (g .payload .codec)) want 0 (g .payload .records)) (g .header)
-datagramWalk want (refused number index) = DatagramWalk.Refused (record { number = number; index = index })
+unfoldable pub headerAs : HeaderAnswer → Answer Header
+headerAs (HeaderAnswer.Of h) = accepted h
+headerAs (HeaderAnswer.Refused r) = refused (r .number) (r .index)

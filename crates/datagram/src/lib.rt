@@ -1,6 +1,5 @@
 // UDP datagrams: judged, and acknowledged.
 use walk::DataWalk;
-use walk::Span;
 use wire::Decimal;
 use wire::Refusal;
 use wire::Written;
@@ -9,7 +8,8 @@ ghost use Prim.Native.Nat.{_+_, _≤_};
 ghost use mathlib.Core.List.{_++_};
 ghost use lib.ListN.{length, drop};
 ghost use Rattle.wire.specs.Buffers.{writing, leaving, writtenAs};
-ghost use Rattle.datagram.specs.Datagrams.{readDatagram, answerDatagram, datagramWalk, datagramAs, acknowledgementBytes, udpAcknowledgement};
+ghost use Rattle.datagram.specs.Datagrams.{judgeHeader, readDatagram, answerDatagram, payloadOf, headerAs, datagramAs, acknowledgementBytes, udpAcknowledgement};
+ghost use Rattle.walk.specs.Walks.{dataWalk};
 
 // The most bytes of a datagram, and of a record.
 pub const LARGEST: usize = 1280;
@@ -34,26 +34,20 @@ pub enum DatagramAnswer {
     Refused(Refusal),
 }
 
-// The same, and where the wanted record lies behind the first 25 bytes.
-pub enum DatagramWalk {
-    Taken {
-        codec: u8,
-        count: u8,
-        span: Span,
-        header: Header,
-    },
+// The header of a datagram, or the refusal.
+enum HeaderAnswer {
+    Of(Header),
     Refused(Refusal),
 }
 
-fn refused(number: u8) -> DatagramWalk
-    ensures { λ r. ⌜ r ≡ DatagramWalk.Refused (record { number = number; index = 0 }) ⌝ }
+fn refused(number: usize) -> HeaderAnswer
+    ensures { λ r. ⌜ r ≡ HeaderAnswer.Refused (record { number = number; index = 0 }) ⌝ }
 {
-    DatagramWalk::Refused(Refusal { number, index: 0 })
+    HeaderAnswer::Refused(Refusal { number, index: 0 })
 }
 
-pub fn judge_datagram(largest: usize, longest: usize, p: &[u8], want: usize) -> DatagramWalk
-    requires { ⌜ longest ≤ 65535 ⌝ }
-    ensures { λ r. ⌜ r ≡ datagramWalk want (readDatagram largest longest (now (p .entry))) ⌝ }
+fn read_header(largest: usize, p: &[u8]) -> HeaderAnswer
+    ensures { λ r. ⌜ headerAs r ≡ judgeHeader largest (now (p .entry)) ⌝ }
 {
     if p.len() < 26 {
         return refused(1);
@@ -65,47 +59,49 @@ pub fn judge_datagram(largest: usize, longest: usize, p: &[u8], want: usize) -> 
     if p.len() != size + 2 {
         return refused(4);
     }
-    let imei = match wire::read_imei(p, 6) {
-        Decimal::Of(n, _) => n,
-        Decimal::Unread(x) => {
-            return DatagramWalk::Refused(Refusal {
-                number: x.number,
-                index: x.index,
-            });
-        }
-    };
-    let header = Header {
-        packet: wire::be16(p, 2),
-        unused: p[4],
-        avl: p[5],
-        imei,
-    };
-    match walk::read_data(longest, &p[23..], want) {
-        DataWalk::Taken { codec, count, span } => DatagramWalk::Taken {
-            codec,
-            count,
-            span,
-            header,
-        },
-        DataWalk::Refused(r) => DatagramWalk::Refused(r),
+    match wire::read_imei(p, 6) {
+        Decimal::Of(imei, _) => HeaderAnswer::Of(Header {
+            packet: wire::be16(p, 2),
+            unused: p[4],
+            avl: p[5],
+            imei,
+        }),
+        Decimal::Unread(x) => HeaderAnswer::Refused(Refusal {
+            number: x.number,
+            index: x.index,
+        }),
     }
+}
+
+// The datagram's codec and count, and where the record with number `want` lies behind its first 25 bytes.
+pub fn judge_datagram(largest: usize, longest: usize, p: &[u8], want: usize) -> DataWalk
+    requires { ⌜ longest ≤ 65535 ⌝ }
+    ensures { λ r. ⌜ r ≡ dataWalk want (payloadOf (readDatagram largest longest (now (p .entry)))) ⌝ }
+{
+    if let HeaderAnswer::Refused(r) = read_header(largest, p) {
+        return DataWalk::Refused(r);
+    }
+    walk::read_data(longest, &p[23..], want)
 }
 
 pub fn read_datagram(p: &[u8]) -> DatagramAnswer
     ensures { λ r. ⌜ datagramAs r ≡ answerDatagram 1280 255 (now (p .entry)) ⌝ }
 {
-    match judge_datagram(LARGEST, LONGEST, p, 0) {
-        DatagramWalk::Taken {
+    let header = match read_header(LARGEST, p) {
+        HeaderAnswer::Of(h) => h,
+        HeaderAnswer::Refused(r) => return DatagramAnswer::Refused(r),
+    };
+    match walk::read_data(LONGEST, &p[23..], 0) {
+        DataWalk::Taken {
             codec,
             count,
             span: _,
-            header,
         } => DatagramAnswer::Accepted {
             codec,
             count,
             header,
         },
-        DatagramWalk::Refused(r) => DatagramAnswer::Refused(r),
+        DataWalk::Refused(r) => DatagramAnswer::Refused(r),
     }
 }
 
@@ -128,12 +124,11 @@ pub fn acknowledge_datagram(p: &[u8], out: &mut [u8]) -> Written
     ensures answer { λ r. ⌜ writtenAs r ≡ writing (udpAcknowledgement 1280 255 (now (p .entry))) (now (out .entry)) ⌝ }
     ensures buffer { λ r. ⌜ now (out .exit) ≡ leaving (udpAcknowledgement 1280 255 (now (p .entry))) (now (out .entry)) ⌝ }
 {
-    match judge_datagram(LARGEST, LONGEST, p, 0) {
-        DatagramWalk::Refused(r) => Written::Refused(r),
-        DatagramWalk::Taken {
+    match read_datagram(p) {
+        DatagramAnswer::Refused(r) => Written::Refused(r),
+        DatagramAnswer::Accepted {
             codec: _,
             count,
-            span: _,
             header,
         } => {
             if out.len() < 7 {

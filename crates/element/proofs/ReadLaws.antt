@@ -19,11 +19,8 @@ use Rattle.wire.proofs.Exactness.{Meets, meets-then, meets-next, meets-pure, me
 use Rattle.wire.proofs.Walking.{number-got, number-bad, number-there, number-missing, upTo-there, upTo-missing, upTo-over, bytes-got, bytes-bad}
 use Rattle.avl.specs.declared.Widths.{Widths}
 use Rattle.avl.specs.Codecs.{kinds}
-use Rattle.avl.specs.Records.{Element, Fixed, AvlRecord, total, elementCount}
+use Rattle.avl.specs.Records.{Element, Fixed, AvlRecord, elementCount}
 use Rattle.avl.specs.RecordReader.{valueSize, element, group, groups, fixedFields, avlRecord}
-use Rattle.walk.specs.declared.Tally.{Tally}
-use Rattle.walk.specs.declared.Tally.the-variants.{Sums}
-use Rattle.walk.specs.Walks.{tallied}
 use Rattle.element.specs.declared.RecordFields.{RecordFields}
 use Rattle.element.specs.declared.Value.{Value}
 use Rattle.element.specs.Results.{recordResult}
@@ -220,10 +217,6 @@ module _ {w : Widths} {s : List ℕ} {x : AvlRecord} {next : ℕ} (h : RecordRea
   pub fields-within : 24 + w .event + w .generation ≤ length s
   unfolding fixedSize
   fields-within = omega (arith, h .inside)
-
-  pub record-tally : {at : ℕ} {r : Tally} → at ≡ fixedSize w → r ≡ tallied (groups w (kinds w) s at) → r ≡ Sums (total (x .groups)) (elementCount (x .groups)) next
-  unfolding tallied
-  record-tally e f = f ∙ ap (λ (n : ℕ). tallied (groups w (kinds w) s n)) e ∙ ap tallied (h .groupsRead)
 
   pub record-fields : {timestamp priority angle satellites speed event generation elements : ℕ} {longitude latitude altitude : ℤ}
       → timestamp ≡ numberAt s 0 8

@@ -6,7 +6,7 @@ use native.Mathlib.Omega.{arith}
 use mathlib.Core.Path.{_≡_, refl, sym, ap, ap₂, _∙_, subst}
 use mathlib.Core.Bool.{Bool, true, false}
 use mathlib.Core.List.{List, [], _∷_, _++_}
-use lib.ListN.{length}
+use lib.ListN.{length, drop, getD, drop-of-length-le}
 use lib.Dec.{eqb}
 use borrow.Author.Tests.{eq-eqb, ne-eqb}
 use Rattle.wire.specs.Numbers.{Bytes, numberAt, pick}
@@ -15,11 +15,12 @@ use Rattle.wire.specs.Answers.{Answer, accepted, refused}
 use Rattle.wire.proofs.Accepting.{pick-true, pick-false, pick-either}
 use Rattle.wire.proofs.Widths.{byte-pos}
 use Rattle.avl.specs.declared.Widths.{Widths}
-use Rattle.avl.specs.Codecs.{kinds}
+use Rattle.avl.specs.Codecs.{kinds, allKinds}
 use Rattle.avl.specs.Records.{Element, AvlRecord, elementBytes, groupBytes}
 use Rattle.avl.specs.RecordReader.{element, group, groups, avlRecord}
 use Rattle.avl.proofs.RecordLaws.{group-exact}
 use Rattle.walk.specs.Walks.{Narrow}
+use Rattle.walk.proofs.KindLaws.{kinds-few, kind-known, next-kind}
 use Rattle.element.specs.declared.Value.{Value}
 use Rattle.element.specs.declared.Wanted.{Wanted}
 use Rattle.element.specs.declared.Search.{Search}
@@ -226,29 +227,29 @@ module _ {w : Widths} {k : ℕ} {ks : List ℕ} {s : List ℕ} {at passed : ℕ}
               ∙ ahead;
         }
 
--- the kinds behind the first four
-abbrev pub lastKinds : Widths → List ℕ
-lastKinds w = pick (w .variable) (9 ∷ []) []
+-- before the group with number `k`, whatever record is read
+abbrev pub Ahead : Widths → List ℕ → Wanted → ℕ → ℕ → ℕ → Type 0
+Ahead w s wanted k at passed =
+    (x : AvlRecord) (n : ℕ) → avlRecord 255 w s 0 ≡ got x n → Onward w (drop k (kinds w)) s at passed wanted (elementAs (pickFrom wanted 0 (elements w x)))
 
-pub onward-start : {w : Widths} {s : List ℕ} {at : ℕ} {x : AvlRecord} {next : ℕ} (wanted : Wanted) → at ≡ fixedSize w → avlRecord 255 w s 0 ≡ got x next
-    → Onward w (1 ∷ 2 ∷ 4 ∷ 8 ∷ lastKinds w) s at 0 wanted (elementAs (pickFrom wanted 0 (elements w x)))
-unfolding elements kinds
-onward-start {w} {s} {at} {x} {next} wanted e h =
+pub ahead-start : (w : Widths) (s : List ℕ) {at : ℕ} (wanted : Wanted) → at ≡ fixedSize w → Ahead w s wanted 0 at 0
+unfolding elements
+ahead-start w s wanted e x next h =
     record {
       rest = x .groups;
       end = next;
       reads = ap (groups w (kinds w) s) e ∙ record-read 255 w s .if-got _ _ h .groupsRead;
-      few = omega (arith, pick-either (λ (l : List ℕ). length l ≤ 1) (w .variable) (9 ∷ []) [] (omega arith) (omega arith));
+      few = omega (arith, kinds-few w);
       same = ap (λ (n : ℕ). elementAs (pickFrom wanted 0 (locateGroups w (kinds w) n (x .groups)))) e;
     }
 
-module _ {w : Widths} {s : List ℕ} {at passed : ℕ} {wanted : Wanted} {answer : ElementAnswer} where
-  pub onward-none : Onward w [] s at passed wanted answer → ElementAnswer.Nothing ≡ answer
-  unfolding locateGroups pickFrom elementAs
-  onward-none h = h .same
+pub ahead-next : {w : Widths} {s : List ℕ} {wanted : Wanted} {k at passed kind : ℕ} → k < length (kinds w) → kind ≡ getD allKinds k 0 → Ahead w s wanted k at passed
+    → (x : AvlRecord) (n : ℕ) → avlRecord 255 w s 0 ≡ got x n → Onward w (kind ∷ drop (k + 1) (kinds w)) s at passed wanted (elementAs (pickFrom wanted 0 (elements w x)))
+ahead-next {w} {s} {wanted} {k} {at} {passed} h e a x n r =
+    subst (λ (ks : List ℕ). Onward w ks s at passed wanted (elementAs (pickFrom wanted 0 (elements w x)))) (next-kind w k h (e ∙ kind-known w k h)) (a x n r)
 
-  pub onward-fixed : w .variable ≡ false → Onward w (lastKinds w) s at passed wanted answer → Onward w [] s at passed wanted answer
-  onward-fixed e h = subst (λ (l : List ℕ). Onward w l s at passed wanted answer) (pick-false (w .variable) (9 ∷ []) [] e) h
-
-  pub onward-variable : w .variable ≡ true → Onward w (lastKinds w) s at passed wanted answer → Onward w (9 ∷ []) s at passed wanted answer
-  onward-variable e h = subst (λ (l : List ℕ). Onward w l s at passed wanted answer) (pick-true (w .variable) (9 ∷ []) [] e) h
+pub ahead-none : {w : Widths} {s : List ℕ} {wanted : Wanted} {k at passed : ℕ} → length (kinds w) ≤ k → Ahead w s wanted k at passed
+    → (x : AvlRecord) (n : ℕ) → avlRecord 255 w s 0 ≡ got x n → ElementAnswer.Nothing ≡ elementAs (pickFrom wanted 0 (elements w x))
+unfolding locateGroups pickFrom elementAs
+ahead-none {w} {s} {wanted} {k} {at} {passed} h a x n r =
+    subst (λ (ks : List ℕ). Onward w ks s at passed wanted (elementAs (pickFrom wanted 0 (elements w x)))) (drop-of-length-le (kinds w) h) (a x n r) .same

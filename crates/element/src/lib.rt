@@ -1,11 +1,10 @@
 // Reading within a record: its fields, and its elements by number and by ID.
 use avl::Widths;
-use walk::Tally;
 ghost use mathlib.Core.Path.{_≡_};
 ghost use Prim.Native.Nat.{ℕ, _+_, _≤_};
 ghost use mathlib.Core.List.{List};
 ghost use Rattle.wire.specs.Reading.{got};
-ghost use Rattle.avl.specs.Records.{Element, AvlRecord};
+ghost use Rattle.avl.specs.Records.{Element, AvlRecord, elementCount};
 ghost use Rattle.avl.specs.RecordReader.{element, group, avlRecord};
 ghost use Rattle.walk.specs.Walks.{Narrow};
 ghost use Rattle.element.specs.Elements.{elements, fixedSize, locateGroup};
@@ -61,7 +60,31 @@ fn fixed_size(w: Widths) -> usize
     24 + w.event + w.generation + w.count
 }
 
-// The fixed fields and the number of elements of the record that `part` is.
+// The number of elements of the record that `part` is: the counts of its groups. A group of fixed values is stepped over by its size.
+fn element_count(w: Widths, part: &[u8]) -> usize
+    requires { ⌜ Narrow w ⌝ }
+    requires { ⌜ Readable 255 w (now part) ⌝ }
+    ensures { λ r. ⌜ ((x : AvlRecord) (n : ℕ) → avlRecord 255 w (now (part .entry)) 0 ≡ got x n → r ≡ elementCount (x .groups)) ⌝ }
+{
+    let count = w.count;
+    let id = w.id;
+    let mut sum: usize = 0;
+    let mut next = fixed_size(w);
+    let mut k: usize = 0;
+    while k < 4 {
+        let n = wire::short_number(part, next, count) as usize;
+        sum += n;
+        next += count + n * (id + walk::kind_at(k));
+        k += 1;
+    }
+    let variable = w.variable;
+    if variable {
+        return sum + (wire::short_number(part, next, count) as usize);
+    }
+    sum
+}
+
+// The fixed fields and the number of elements of the record that `part` is. The fields that are always there are read last, in one run.
 pub fn fields_of(w: Widths, part: &[u8]) -> RecordFields
     requires { ⌜ Narrow w ⌝ }
     requires { ⌜ Readable 255 w (now part) ⌝ }
@@ -70,10 +93,9 @@ pub fn fields_of(w: Widths, part: &[u8]) -> RecordFields
     let event = w.event;
     let generation = w.generation;
     let behind = 24 + event;
-    let elements = match walk::groups_at(w, part, fixed_size(w)) {
-        Tally::Sums(_, n, _) => n,
-        Tally::Unsummed(_) => 0,
-    };
+    let elements = element_count(w, part);
+    let event_id = wire::short_number(part, 24, event) as u16;
+    let reason = wire::short_number(part, behind, generation) as u8;
     RecordFields {
         timestamp: wire::be64(part, 0),
         priority: part[8],
@@ -83,8 +105,8 @@ pub fn fields_of(w: Widths, part: &[u8]) -> RecordFields
         angle: wire::be16(part, 19),
         satellites: part[21],
         speed: wire::be16(part, 22),
-        event: wire::number(part, 24, event) as u16,
-        generation: wire::number(part, behind, generation) as u8,
+        event: event_id,
+        generation: reason,
         elements,
     }
 }
@@ -106,7 +128,7 @@ fn element_value(w: Widths, kind: usize, part: &[u8], at: usize) -> Value
     ensures { λ r. ⌜ ((e : Element) (n : ℕ) → element w kind (now (part .entry)) at ≡ got e n → r ≡ valueAt w kind at e) ⌝ }
 {
     let width = w.id;
-    let id = wire::number(part, at, width) as u16;
+    let id = wire::short_number(part, at, width) as u16;
     let behind = at + width;
     if kind == 9 {
         let size = wire::be16(part, behind) as usize;
@@ -141,7 +163,7 @@ fn find_in_group(
     ensures { λ r. ⌜ ((g : List Element) (n : ℕ) → group w kind (now (part .entry)) at ≡ got g n → r ≡ searched wanted passed n (locateGroup w kind (at + w .count) g)) ⌝ }
 {
     let width = w.count;
-    let count = wire::number(part, at, width) as usize;
+    let count = wire::short_number(part, at, width) as usize;
     let mut next = at + width;
     let mut i: usize = 0;
     while i < count {
@@ -158,40 +180,28 @@ fn find_in_group(
     }
 }
 
-// Where a group ends and how many elements are passed.
-struct Passed {
-    next: usize,
-    passed: usize,
-}
-
 // The wanted element of the record that `part` is.
 pub fn find_element(w: Widths, part: &[u8], wanted: Wanted) -> ElementAnswer
     requires { ⌜ Narrow w ⌝ }
     requires { ⌜ Readable 255 w (now part) ⌝ }
     ensures { λ r. ⌜ ((x : AvlRecord) (n : ℕ) → avlRecord 255 w (now (part .entry)) 0 ≡ got x n → r ≡ elementAs (pickFrom wanted 0 (elements w x))) ⌝ }
 {
-    let g1 = match find_in_group(w, 1, part, fixed_size(w), 0, wanted) {
-        Search::Hit(v) => return ElementAnswer::At(v),
-        Search::Miss { next, passed } => Passed { next, passed },
-    };
-    let g2 = match find_in_group(w, 2, part, g1.next, g1.passed, wanted) {
-        Search::Hit(v) => return ElementAnswer::At(v),
-        Search::Miss { next, passed } => Passed { next, passed },
-    };
-    let g4 = match find_in_group(w, 4, part, g2.next, g2.passed, wanted) {
-        Search::Hit(v) => return ElementAnswer::At(v),
-        Search::Miss { next, passed } => Passed { next, passed },
-    };
-    let g8 = match find_in_group(w, 8, part, g4.next, g4.passed, wanted) {
-        Search::Hit(v) => return ElementAnswer::At(v),
-        Search::Miss { next, passed } => Passed { next, passed },
-    };
-    let variable = w.variable;
-    if !variable {
-        return ElementAnswer::Nothing;
+    let kinds = walk::kind_count(w);
+    let mut next = fixed_size(w);
+    let mut passed: usize = 0;
+    let mut k: usize = 0;
+    while k < kinds {
+        match find_in_group(w, walk::kind_at(k), part, next, passed, wanted) {
+            Search::Hit(v) => return ElementAnswer::At(v),
+            Search::Miss {
+                next: end,
+                passed: more,
+            } => {
+                next = end;
+                passed = more;
+            }
+        }
+        k += 1;
     }
-    match find_in_group(w, 9, part, g8.next, g8.passed, wanted) {
-        Search::Hit(v) => ElementAnswer::At(v),
-        Search::Miss { next: _, passed: _ } => ElementAnswer::Nothing,
-    }
+    ElementAnswer::Nothing
 }

@@ -4,12 +4,12 @@ use native.Mathlib.Omega.{arith}
 use mathlib.Core.Path.{_≡_, refl, sym, ap, _∙_, subst}
 use mathlib.Core.List.{List}
 use lib.ListN.{length, take, drop, length-drop, length-take}
-use lib.Dec.{leb, eqb}
+use lib.Dec.{leb}
 use borrow.Author.Tests.{leb-true}
 use Rattle.wire.specs.declared.Written.{Written}
 use Rattle.wire.specs.declared.Refusal.{Refusal}
-use Rattle.wire.specs.Numbers.{Bytes, numberAt}
-use Rattle.wire.specs.Answers.{Answer, accepted, refused, check, told, onAccepted}
+use Rattle.wire.specs.Numbers.{Bytes}
+use Rattle.wire.specs.Answers.{Answer, accepted, refused, check, onAccepted}
 use Rattle.wire.specs.Buffers.{writing, leaving, writtenAs}
 use Rattle.wire.proofs.Accepting.{check-accepted, onAccepted-accepted, onAccepted-passed, onAccepted-refused}
 use Rattle.frame.specs.Frame.{unframe, framing}
@@ -17,7 +17,7 @@ use Rattle.frame.proofs.FrameLaws.{frame-exact}
 use Rattle.frame.proofs.FramingLaws.{framing-field}
 use Rattle.avl.specs.DataField.{AvlData, readData}
 use Rattle.packet.specs.DataPackets.{readPacket}
-use Rattle.datagram.specs.Datagrams.{Datagram, readHeader, readDatagram}
+use Rattle.datagram.specs.Datagrams.{Datagram, judgeHeader, readDatagram}
 use Rattle.datagram.proofs.WalkLaws.{payload-part}
 use Rattle.tlv.specs.Form.{form}
 use Rattle.tlv.specs.PacketOf.{formOfPacket, formOfDatagram}
@@ -80,12 +80,11 @@ module _ (p : List ℕ) where
   module _ {g : Datagram} (e : readDatagram 1280 255 p ≡ accepted g) where
     -- the part behind the header
     pub datagram-field : FieldOf (take (length p - 23) (drop 23 p)) (g .payload)
-    unfolding readDatagram
+    unfolding readDatagram judgeHeader
     datagram-field =
-        let c₁ = check-accepted (leb 26 (length p)) 1 _ e in
+        let c₄ = onAccepted-accepted (judgeHeader 1280 p) _ e in
+        let c₁ = check-accepted (leb 26 (length p)) 1 _ (c₄ .1) in
         let c₂ = check-accepted (leb (length p) 1280) 3 _ (c₁ .1) in
-        let c₃ = check-accepted (eqb (length p) (numberAt p 0 2 + 2)) 4 _ (c₂ .1) in
-        let c₄ = onAccepted-accepted (told (readHeader p 2)) _ (c₃ .1) in
         let c₅ = onAccepted-accepted (readData 255 (drop 23 p)) _ (c₄ .2) in
         let whole : _≡_ {A = Datagram} (record { header = c₄ .0; payload = c₅ .0 }) g = cc in
         let least = leb-true 26 (length p) (c₁ .0) in

@@ -1,6 +1,5 @@
 // The TLV form of packets and datagrams (the paper's house form), written into a lent buffer.
 use avl::Widths;
-use datagram::DatagramWalk;
 use walk::DataWalk;
 use wire::Refusal;
 use wire::Written;
@@ -284,12 +283,11 @@ pub fn form_of_datagram(p: &[u8], out: &mut [u8]) -> Written
     ensures buffer { λ r. ⌜ now (out .exit) ≡ leaving (formOfDatagram 1280 255 (now (p .entry))) (now (out .entry)) ⌝ }
 {
     match datagram::judge_datagram(datagram::LARGEST, datagram::LONGEST, p, 0) {
-        DatagramWalk::Refused(r) => Written::Refused(r),
-        DatagramWalk::Taken {
+        DataWalk::Refused(r) => Written::Refused(r),
+        DataWalk::Taken {
             codec: _,
             count: _,
             span: _,
-            header: _,
         } => write_field(&p[23..], out),
     }
 }

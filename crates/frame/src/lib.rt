@@ -8,7 +8,7 @@ ghost use Rattle.frame.specs.Frame.{framed, unframe, framing};
 // The length of the data field, which starts at 8; or the number of the refusal.
 pub enum Framed {
     Field(usize),
-    Unframed(u8),
+    Unframed(usize),
 }
 
 pub fn unframed(largest: usize, p: &[u8]) -> Framed

@@ -24,10 +24,7 @@ use Rattle.walk.specs.declared.DataWalk.{DataWalk}
 use Rattle.walk.specs.Walks.{spanOf, dataWalk}
 use Rattle.walk.proofs.TakenLaws.{taken, not-taken}
 use Rattle.packet.specs.DataPackets.{readPacket}
-use Rattle.datagram.specs.declared.Header.{Header}
-use Rattle.datagram.specs.declared.DatagramWalk.{DatagramWalk}
-use Rattle.datagram.specs.Datagrams.{readDatagram, datagramWalk}
-use Rattle.datagram.proofs.WalkLaws.{taken-from, refused-from}
+use Rattle.datagram.specs.Datagrams.{Datagram, readDatagram, payloadOf}
 use Rattle.element.specs.declared.Value.{Value}
 use Rattle.element.specs.declared.Wanted.{Wanted}
 use Rattle.element.specs.declared.ElementAnswer.{ElementAnswer}
@@ -311,26 +308,36 @@ source-refused : {source : Answer Source} {r : Refusal} (n : ℕ) → source ≡
 unfolding partAs partOf
 source-refused {source} n e = sym (onAccepted-refused source _ e)
 
+-- the source whose first record stands at `base`
+abbrev sourceAt : ℕ → Answer AvlData → Answer Source
+sourceAt base r = onAccepted r (λ a. accepted (record { content = a; base = base }))
+
+source-walked : (base n : ℕ) (r : Answer AvlData) {codec count : ℕ} {span : Span} → dataWalk n r ≡ DataWalk.Taken codec count span → Walked (sourceAt base r) base n codec count span
+source-walked base n r e =
+    let t = taken n r e in
+    record { content = t .content; accepts = onAccepted-passed r _ (t .accepts); codecIs = t .codecIs; countIs = t .countIs; spanIs = t .spanIs }
+
 module _ (largest longest : ℕ) (p : List ℕ) (n : ℕ) where
   pub tcp-walked : {codec count : ℕ} {span : Span} → dataWalk n (readPacket largest longest p) ≡ DataWalk.Taken codec count span
       → Walked (tcpSource largest longest p) 10 n codec count span
   unfolding tcpSource
-  tcp-walked e =
-      let t = taken n (readPacket largest longest p) e in
-      record { content = t .content; accepts = onAccepted-passed (readPacket largest longest p) _ (t .accepts); codecIs = t .codecIs; countIs = t .countIs; spanIs = t .spanIs }
+  tcp-walked e = source-walked 10 n (readPacket largest longest p) e
 
   pub tcp-refused : {r : Refusal} → dataWalk n (readPacket largest longest p) ≡ DataWalk.Refused r → partAs (Part.Refused r) ≡ partOf (tcpSource largest longest p) n
   unfolding tcpSource
   tcp-refused e = source-refused n (onAccepted-refused (readPacket largest longest p) _ (not-taken n _ e))
 
-  pub udp-walked : {codec count : ℕ} {span : Span} {header : Header} → datagramWalk n (readDatagram largest longest p) ≡ DatagramWalk.Taken codec count span header
-      → Walked (udpSource largest longest p) 25 n codec count span
-  unfolding udpSource
-  udp-walked e =
-      let t = taken-from n (readDatagram largest longest p) e in
-      record { content = t .content .payload; accepts = onAccepted-passed (readDatagram largest longest p) _ (t .accepts); codecIs = t .codecIs; countIs = t .countIs; spanIs = t .spanIs }
+  udp-source : udpSource largest longest p ≡ sourceAt 25 (payloadOf (readDatagram largest longest p))
+  unfolding udpSource payloadOf onAccepted
+  udp-source = go (readDatagram largest longest p)
+    where
+      go : (r : Answer Datagram) → onAccepted r (λ g. accepted (record { content = g .payload; base = 25 })) ≡ sourceAt 25 (payloadOf r)
+      go (accepted g) = refl
+      go (refused m i) = refl
 
-  pub udp-refused : {r : Refusal} → datagramWalk n (readDatagram largest longest p) ≡ DatagramWalk.Refused r
-      → partAs (Part.Refused r) ≡ partOf (udpSource largest longest p) n
-  unfolding udpSource
-  udp-refused e = source-refused n (onAccepted-refused (readDatagram largest longest p) _ (refused-from n _ e))
+  pub udp-walked : {codec count : ℕ} {span : Span} → dataWalk n (payloadOf (readDatagram largest longest p)) ≡ DataWalk.Taken codec count span
+      → Walked (udpSource largest longest p) 25 n codec count span
+  udp-walked {codec} {count} {span} e = subst (λ (s : Answer Source). Walked s 25 n codec count span) (sym udp-source) (source-walked 25 n (payloadOf (readDatagram largest longest p)) e)
+
+  pub udp-refused : {r : Refusal} → dataWalk n (payloadOf (readDatagram largest longest p)) ≡ DataWalk.Refused r → partAs (Part.Refused r) ≡ partOf (udpSource largest longest p) n
+  udp-refused e = source-refused n (udp-source ∙ onAccepted-refused _ _ (not-taken n _ e))

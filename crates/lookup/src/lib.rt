@@ -1,6 +1,5 @@
 // Records and values by number and by ID, in TCP packets and datagrams.
 use avl::Widths;
-use datagram::DatagramWalk;
 use element::ElementAnswer;
 use element::RecordFields;
 use element::Value;
@@ -60,13 +59,8 @@ fn datagram_part(p: &[u8], n: usize) -> Part
     ensures { λ r. ⌜ partAs r ≡ partOf (udpSource 1280 255 (now (p .entry))) n ⌝ }
 {
     match datagram::judge_datagram(datagram::LARGEST, datagram::LONGEST, p, n) {
-        DatagramWalk::Refused(r) => Part::Refused(r),
-        DatagramWalk::Taken {
-            codec,
-            count,
-            span,
-            header: _,
-        } => {
+        DataWalk::Refused(r) => Part::Refused(r),
+        DataWalk::Taken { codec, count, span } => {
             if n < (count as usize) {
                 return Part::Of {
                     codec,

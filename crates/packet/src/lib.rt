@@ -26,13 +26,12 @@ pub fn judge_packet(largest: usize, longest: usize, p: &[u8], want: usize) -> Da
     requires { ⌜ longest ≤ 65535 ⌝ }
     ensures { λ r. ⌜ r ≡ dataWalk want (readPacket largest longest (now (p .entry))) ⌝ }
 {
-    match frame::unframed(largest, p) {
-        Framed::Unframed(number) => DataWalk::Refused(Refusal { number, index: 0 }),
-        Framed::Field(n) => {
-            let end = 8 + n;
-            walk::read_data(longest, &p[8..end], want)
-        }
-    }
+    let n = match frame::unframed(largest, p) {
+        Framed::Unframed(number) => return DataWalk::Refused(Refusal { number, index: 0 }),
+        Framed::Field(n) => n,
+    };
+    let end = 8 + n;
+    walk::read_data(longest, &p[8..end], want)
 }
 
 pub fn read_packet(p: &[u8]) -> PacketAnswer

@@ -354,7 +354,7 @@ fn has_form(p: &[u8], f: &[u8]) -> bool
     }
 }
 
-fn refused(number: u8) -> Written
+fn refused(number: usize) -> Written
     ensures { λ r. ⌜ r ≡ Written.Refused (record { number = number; index = 0 }) ⌝ }
 {
     Written::Refused(Refusal { number, index: 0 })

@@ -1,14 +1,15 @@
 -- How the walk's functions go from one definition to the next: what each step reads, and what an answer tells of it.
 use Prim.Native.Nat.{ℕ, zero, suc, _+_, _-_, _*_, _^_, _≤_, _<_}
-use native.Mathlib.Nat.{mul-le-mul, pow-le-pow-right}
+use native.Mathlib.Nat.{mul-le-mul, pow-le-pow-right, zero-add, add-zero}
 use native.Mathlib.Numerals.{add-one}
 use native.Mathlib.Omega.{arith}
-use mathlib.Core.Path.{_≡_, refl, sym, ap, ap₂, _∙_}
+use mathlib.Core.Path.{_≡_, refl, sym, ap, ap₂, subst, _∙_}
 use mathlib.Core.Bool.{Bool, true, false}
 use mathlib.Core.List.{List, [], _∷_}
-use lib.ListN.{length}
+use lib.ListN.{length, take, drop, getD, drop-of-length-le}
 use lib.Dec.{eqb, leb}
-use borrow.Author.Tests.{eq-eqb, ne-eqb, le-leb, lt-leb}
+use lib.Seq.{take-nil}
+use borrow.Author.Tests.{eq-eqb, ne-eqb, le-leb, lt-leb, leb-true, leb-false}
 use Rattle.wire.specs.declared.Fault.{Fault}
 use Rattle.wire.specs.declared.Walk.{Walk}
 use Rattle.wire.specs.declared.Walk.the-variants.{On, Stopped}
@@ -24,16 +25,18 @@ use Rattle.wire.proofs.Walking.{short, then-bad, require-bad, bytes-got, bytes-
 use Rattle.avl.specs.declared.Widths.{Widths}
 use Rattle.walk.specs.declared.Counted.{Counted}
 use Rattle.walk.specs.declared.Counted.the-variants.{Of}
+use Rattle.walk.specs.declared.Tally.{Tally}
 use Rattle.walk.specs.declared.Tally.the-variants.{Sums, Unsummed}
 use Rattle.walk.specs.declared.Span.{Span}
 use Rattle.walk.specs.declared.Records.{Records}
 use Rattle.walk.specs.declared.Records.the-variants.{All, Broken}
 use Rattle.walk.specs.declared.DataWalk.the-variants.{Taken, Refused}
-use Rattle.avl.specs.Codecs.{codec8, codec8E, codec16, widthsOf, isDataCodec, kinds}
+use Rattle.avl.specs.Codecs.{codec8, codec8E, codec16, widthsOf, isDataCodec, kinds, allKinds}
 use Rattle.avl.specs.Records.{Element, Fixed, AvlRecord, total, elementCount, recordBytes}
 use Rattle.avl.specs.RecordReader.{valueSize, element, group, groups, fixedFields, avlRecord, tagged, inRecord, avlRecords, atEnd, allRecords}
 use Rattle.avl.specs.DataField.{AvlData, readData}
 use Rattle.walk.specs.Walks.{Narrow, counted, tallied, spanOf, spanned, dataWalk}
+use Rattle.walk.proofs.KindLaws.{kind-known, next-kind}
 use Rattle.avl.proofs.RecordLaws.{element-exact, group-exact, record-exact, all-sound}
 
 -- what was read lies inside
@@ -229,56 +232,89 @@ module _ (w : Widths) (k : ℕ) (ks : List ℕ) (s : List ℕ) (at : ℕ) where
   unfolding groups
   groups-stop e = then-bad (group w k) _ s at (counted-stopped _ e)
 
-  pub groups-later : {n mid : ℕ} {x : Fault} → GroupRead w k s at n mid → groups w ks s mid ≡ bad x → groups w (k ∷ ks) s at ≡ bad x
-  unfolding consed
-  groups-later g e = groups-on g ∙ ap (consed (g .elements)) e
+-- ---- the tally, group by group
 
-pub tallied-bad : (r : Read (List (List Element))) {x : Fault} → r ≡ bad x → tallied r ≡ Unsummed x
-unfolding tallied
-tallied-bad r e = ap tallied e
+-- of the groups from number `k` on, where those before them add up to `sum`
+unfoldable pub tallyFrom : ℕ → ℕ → Read (List (List Element)) → Tally
+tallyFrom k sum (got gs next) = Sums (sum + elementCount (take (4 - k) gs)) next
+tallyFrom k sum (bad x) = Unsummed x
 
--- four groups, and a fifth where there are variable values
-module _ {w : Widths} {s : List ℕ} {at n₁ a₁ n₂ a₂ n₃ a₃ n₄ a₄ : ℕ} (g₁ : GroupRead w 1 s at n₁ a₁) (g₂ : GroupRead w 2 s a₁ n₂ a₂) (g₃ : GroupRead w 4 s a₂ n₃ a₃)
-    (g₄ : GroupRead w 8 s a₃ n₄ a₄) where
-  abbrev four : Read (List (List Element)) → Read (List (List Element))
-  four r = consed (g₁ .elements) (consed (g₂ .elements) (consed (g₃ .elements) (consed (g₄ .elements) r)))
+pub tally-whole : (r : Read (List (List Element))) → tallied r ≡ tallyFrom 0 0 r
+unfolding tallied tallyFrom total
+tally-whole (got gs next) = ap (λ (n : ℕ). Sums n next) (sym (zero-add (elementCount (take 4 gs))))
+tally-whole (bad x) = refl
 
-  four-groups : groups w (kinds w) s at ≡ four (groups w (pick (w .variable) (9 ∷ []) []) s a₄)
-  unfolding kinds
-  four-groups =
-      groups-on w 1 _ s at g₁
-      ∙ ap (consed (g₁ .elements)) (groups-on w 2 _ s a₁ g₂ ∙ ap (consed (g₂ .elements)) (groups-on w 4 _ s a₂ g₃ ∙ ap (consed (g₃ .elements)) (groups-on w 8 _ s a₃ g₄)))
+tally-consed : (k sum : ℕ) (g : List Element) (r : Read (List (List Element))) → tallyFrom k sum (consed g r) ≡ tallyFrom (k + 1) (sum + pick (leb (suc k) 4) (length g) 0) r
+unfolding tallyFrom consed elementCount
+tally-consed k sum g (bad x) = refl
+tally-consed k sum g (got gs next) = ap (λ (n : ℕ). Sums n next) (go (leb (suc k) 4) refl)
+  where
+    go : (b : Bool) → leb (suc k) 4 ≡ b → sum + elementCount (take (4 - k) (g ∷ gs)) ≡ sum + pick b (length g) 0 + elementCount (take (4 - (k + 1)) gs)
+    go true e =
+        let more : 4 - k ≡ suc (4 - (k + 1)) = omega (arith, leb-true (suc k) 4 e) in
+        ap (λ (n : ℕ). sum + elementCount (take n (g ∷ gs))) more ∙ omega arith
+    go false e =
+        let none : 4 - k ≡ 0 = omega (arith, leb-false (suc k) 4 e) in
+        let less : 4 - (k + 1) ≡ 0 = omega (arith, leb-false (suc k) 4 e) in
+        ap (λ (n : ℕ). sum + elementCount (take n (g ∷ gs))) none ∙ omega arith ∙ ap (λ (n : ℕ). sum + 0 + elementCount (take n gs)) (sym less)
 
-  -- with what the groups behind them are
-  behind : {gs : List (List Element)} {next : ℕ} → groups w (pick (w .variable) (9 ∷ []) []) s a₄ ≡ got gs next
-      → tallied (groups w (kinds w) s at) ≡ Sums (n₁ + n₂ + n₃ + n₄) (n₁ + n₂ + n₃ + n₄ + elementCount gs) next
-  unfolding consed tallied total elementCount
-  behind {gs} {next} e =
-      ap tallied (four-groups ∙ ap four e)
-      ∙ ap₂ (λ (t n : ℕ). Sums t n next) (omega (arith, g₁ .size, g₂ .size, g₃ .size, g₄ .size)) (omega (arith, g₁ .size, g₂ .size, g₃ .size, g₄ .size))
+-- of all groups from number `k` on
+module _ (w : Widths) (s : List ℕ) (k sum at : ℕ) where
+  unfoldable pub tallyOf : Tally
+  tallyOf = tallyFrom k sum (groups w (drop k (kinds w)) s at)
 
-  pub tally-fixed : w .variable ≡ false → tallied (groups w (kinds w) s at) ≡ Sums (n₁ + n₂ + n₃ + n₄) (n₁ + n₂ + n₃ + n₄) a₄
-  unfolding groups pure elementCount
-  tally-fixed e =
-      behind (ap (λ (ks : List ℕ). groups w ks s a₄) (pick-false (w .variable) (9 ∷ []) [] e)) ∙ ap (λ (n : ℕ). Sums (n₁ + n₂ + n₃ + n₄) n a₄) (omega arith)
+  module _ {kind : ℕ} (h : k < length (kinds w)) (e : kind ≡ getD (kinds w) k 0) where
+    pub tally-stop : {x : Fault} → counted (group w kind s at) ≡ Counted.Stopped x → tallyOf ≡ Unsummed x
+    unfolding tallyOf tallyFrom
+    tally-stop z = ap (λ (ks : List ℕ). tallyFrom k sum (groups w ks s at)) (next-kind w k h e) ∙ ap (tallyFrom k sum) (groups-stop w kind _ s at z)
 
-  nine : w .variable ≡ true → groups w (pick (w .variable) (9 ∷ []) []) s a₄ ≡ groups w (9 ∷ []) s a₄
-  nine e = ap (λ (ks : List ℕ). groups w ks s a₄) (pick-true (w .variable) (9 ∷ []) [] e)
+  pub tally-done : length (kinds w) ≤ k → tallyOf ≡ Sums sum at
+  unfolding tallyOf tallyFrom groups pure elementCount
+  tally-done h =
+      ap (λ (ks : List ℕ). tallyFrom k sum (groups w ks s at)) (drop-of-length-le (kinds w) h)
+      ∙ ap (λ (n : ℕ). Sums n at) (ap (λ (gs : List (List Element)). sum + elementCount gs) (take-nil (4 - k)) ∙ add-zero sum)
 
-  pub tally-variable : {n₅ a₅ : ℕ} → w .variable ≡ true → GroupRead w 9 s a₄ n₅ a₅
-      → tallied (groups w (kinds w) s at) ≡ Sums (n₁ + n₂ + n₃ + n₄) (n₁ + n₂ + n₃ + n₄ + n₅) a₅
-  unfolding groups pure consed elementCount
-  tally-variable {n₅} {a₅} e g₅ =
-      behind (nine e ∙ groups-on w 9 [] s a₄ g₅) ∙ ap (λ (n : ℕ). Sums (n₁ + n₂ + n₃ + n₄) n a₅) (omega (arith, g₅ .size))
+pub tally-on : (w : Widths) (s : List ℕ) (k sum at : ℕ) {kind n mid : ℕ} → k < length (kinds w) → kind ≡ getD (kinds w) k 0 → GroupRead w kind s at n mid
+    → tallyOf w s (k + 1) (sum + pick (leb (suc k) 4) n 0) mid ≡ tallyOf w s k sum at
+unfolding tallyOf
+tally-on w s k sum at {mid = mid} h e g =
+    sym (ap (λ (ks : List ℕ). tallyFrom k sum (groups w ks s at)) (next-kind w k h e)
+    ∙ ap (tallyFrom k sum) (groups-on w _ _ s at g)
+    ∙ tally-consed k sum (g .elements) _
+    ∙ ap (λ (m : ℕ). tallyFrom (k + 1) (sum + pick (leb (suc k) 4) m 0) (groups w (drop (k + 1) (kinds w)) s mid)) (g .size))
 
-  pub tally-unread : {x : Fault} → w .variable ≡ true → counted (group w 9 s a₄) ≡ Counted.Stopped x
-      → tallied (groups w (kinds w) s at) ≡ Unsummed x
-  unfolding consed tallied
-  tally-unread e z = ap tallied (four-groups ∙ ap four (nine e ∙ groups-stop w 9 [] s a₄ z))
+-- what the groups before number `k` leave to do
+pub record Tallying (w : Widths) (s : List ℕ) (at total next k : ℕ) : Type 0 where
+  pub few : total ≤ k * 65535
+  pub inside : next ≤ length s
+  pub rest : tallyOf w s k total next ≡ tallied (groups w (kinds w) s at)
+
+pub tallying-start : (w : Widths) (s : List ℕ) (at : ℕ) → at ≤ length s → Tallying w s at 0 at 0
+unfolding tallyOf
+tallying-start w s at h = record { few = omega arith; inside = h; rest = sym (tally-whole (groups w (kinds w) s at)) }
+
+module _ (w : Widths) {s : List ℕ} {at total next k : ℕ} (t : Tallying w s at total next k) {kind : ℕ} (h : k < length (kinds w)) (e : kind ≡ getD allKinds k 0) where
+  known : kind ≡ getD (kinds w) k 0
+  known = e ∙ kind-known w k h
+
+  pub tallying-stops : {x : Fault} → counted (group w kind s next) ≡ Counted.Stopped x → Unsummed x ≡ tallied (groups w (kinds w) s at)
+  tallying-stops z = sym (tally-stop w s k total next h known z) ∙ t .rest
+
+  pub tallying-on : {n mid part : ℕ} → GroupRead w kind s next n mid → part ≡ pick (leb (suc k) 4) n 0 → (total + part ≤ (k + 1) * 65535) × Tallying w s at (total + part) mid (k + 1)
+  tallying-on {n} {mid} {part} g is =
+      let small : part ≤ n = subst (λ (x : ℕ). x ≤ n) (sym is) (pick-either (λ (x : ℕ). x ≤ n) (leb (suc k) 4) n 0 (omega arith) (omega arith)) in
+      let few : total + part ≤ (k + 1) * 65535 = omega (arith, t .few, g .few) in (
+        few,
+        record {
+          few = few;
+          inside = g .inside;
+          rest = ap (λ (x : ℕ). tallyOf w s (k + 1) (total + x) mid) is ∙ tally-on w s k total next h known g ∙ t .rest;
+        },
+      )
 
 -- ---- a record
 
-tallied-sums : (r : Read (List (List Element))) {t n next : ℕ} → tallied r ≡ Sums t n next → (gs : List (List Element)) × (r ≡ got gs next) × (total gs ≡ t)
+tallied-sums : (r : Read (List (List Element))) {t next : ℕ} → tallied r ≡ Sums t next → (gs : List (List Element)) × (r ≡ got gs next) × (total gs ≡ t)
 unfolding tallied
 tallied-sums (got gs m) e = (gs, ap (got gs) (cc), cc)
 tallied-sums (bad x) e = absurd (let z : _≡_ {A = ℕ} 0 1 = cc in omega arith)
@@ -309,8 +345,8 @@ module _ (longest : ℕ) (w : Widths) (s : List ℕ) (at : ℕ) where
         ∙ number-there _ s a₁ (w .count) h
         ∙ then-bad (groups w (kinds w)) _ s (a₁ + w .count) (tallied-unsummed _ e))
 
-    module _ {sum t n end : ℕ} (h : a₁ + w .count ≤ length s) (is : sum ≡ numberAt s a₁ (w .count))
-        (sums : tallied (groups w (kinds w) s (a₁ + w .count)) ≡ Sums t n end) where
+    module _ {sum t end : ℕ} (h : a₁ + w .count ≤ length s) (is : sum ≡ numberAt s a₁ (w .count))
+        (sums : tallied (groups w (kinds w) s (a₁ + w .count)) ≡ Sums t end) where
       -- the two rules at the end of a record
       record-rules : (r : AvlRecord) × (avlRecord longest w s at ≡ (require (eqb sum t) 9 at >> (require (leb end (at + longest)) 12 at >> pure r)) s end)
       unfolding avlRecord

@@ -15,7 +15,7 @@ use Rattle.walk.specs.declared.Records.the-variants.{All, Broken}
 use Rattle.walk.specs.declared.DataWalk.{DataWalk}
 use Rattle.walk.specs.declared.DataWalk.the-variants.{Taken, Refused}
 use Rattle.avl.specs.Codecs.{widthsOf}
-use Rattle.avl.specs.Records.{Element, AvlRecord, total, elementCount, recordBytes}
+use Rattle.avl.specs.Records.{Element, AvlRecord, total, recordBytes}
 use Rattle.avl.specs.DataField.{AvlData}
 
 -- every width set is this narrow
@@ -30,9 +30,9 @@ unfoldable pub counted : Read (List Element) → Counted
 counted (got g next) = Of (length g) next
 counted (bad x) = Stopped x
 
--- the total that the groups ask for, and how many elements they have
+-- the total that the groups ask for
 unfoldable pub tallied : Read (List (List Element)) → Tally
-tallied (got gs next) = Sums (total gs) (elementCount gs) next
+tallied (got gs next) = Sums (total gs) next
 tallied (bad x) = Unsummed x
 
 -- where the record with number `n` lies, of records that begin at `at`; 0 and 0 where there is none

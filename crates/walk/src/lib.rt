@@ -4,10 +4,12 @@ use wire::Fault;
 use wire::Refusal;
 use wire::Walk;
 ghost use mathlib.Core.Path.{_≡_};
-ghost use Prim.Native.Nat.{_+_, _≤_, _<_};
-ghost use lib.ListN.{length};
+ghost use Prim.Native.Nat.{suc, _+_, _≤_, _<_};
+ghost use lib.ListN.{length, getD};
+ghost use lib.Dec.{leb};
+ghost use Rattle.wire.specs.Numbers.{pick};
 ghost use Rattle.wire.specs.Reading.{walked, repeat};
-ghost use Rattle.avl.specs.Codecs.{codec8, codec8E, codec16, widthsOf, isDataCodec, kinds};
+ghost use Rattle.avl.specs.Codecs.{codec8, codec8E, codec16, widthsOf, isDataCodec, kinds, allKinds};
 ghost use Rattle.avl.specs.RecordReader.{fixedFields, element, group, groups, avlRecord, allRecords};
 ghost use Rattle.avl.specs.DataField.{readData};
 ghost use Rattle.walk.specs.Walks.{Narrow, counted, tallied, spanned, dataWalk};
@@ -132,14 +134,14 @@ fn missing(at: usize) -> Walk
 }
 
 // How many elements a group has and where it ends, or why it is broken.
-pub enum Counted {
+enum Counted {
     Of(usize, usize),
     Stopped(Fault),
 }
 
-// The total that the groups of a record ask for, the number of their elements and where they end; or why they are broken.
-pub enum Tally {
-    Sums(usize, usize, usize),
+// The total that the groups of a record ask for and where they end, or why they are broken.
+enum Tally {
+    Sums(usize, usize),
     Unsummed(Fault),
 }
 
@@ -184,7 +186,7 @@ fn fixed_fields(w: Widths, s: &[u8], at: usize) -> Walk
             place: a1,
         });
     }
-    if 7 < wire::number(s, a9, generation) {
+    if 7 < wire::short_number(s, a9, generation) {
         return Walk::Stopped(Fault {
             number: 11,
             index: 0,
@@ -314,7 +316,7 @@ fn group_at(w: Widths, kind: usize, s: &[u8], at: usize) -> Counted
             place: at,
         });
     }
-    let n = wire::number(s, at, count) as usize;
+    let n = wire::short_number(s, at, count) as usize;
     if kind < 9 {
         let end = start + n * (id + kind);
         if end <= s.len() {
@@ -327,43 +329,62 @@ fn group_at(w: Widths, kind: usize, s: &[u8], at: usize) -> Counted
     }
 }
 
-// A group's count and end.
-struct Group {
-    count: usize,
-    end: usize,
+// How many groups a record has.
+pub fn kind_count(w: Widths) -> usize
+    ensures { λ r. ⌜ r ≡ length (kinds w) ⌝ }
+{
+    let variable = w.variable;
+    if variable {
+        return 5;
+    }
+    4
 }
 
-// The groups of a record, in the order of their kinds.
-pub fn groups_at(w: Widths, s: &[u8], at: usize) -> Tally
+// The kind of the group with number `k`.
+pub fn kind_at(k: usize) -> usize
+    requires { ⌜ k < 5 ⌝ }
+    ensures { λ r. ⌜ r ≡ getD allKinds k 0 ⌝ }
+{
+    match k {
+        0 => 1,
+        1 => 2,
+        2 => 4,
+        3 => 8,
+        _ => 9,
+    }
+}
+
+// What the group with number `k` adds to the total: the first four count.
+fn share(k: usize, count: usize) -> usize
+    ensures { λ r. ⌜ r ≡ pick (leb (suc k) 4) count 0 ⌝ }
+{
+    if k < 4 {
+        return count;
+    }
+    0
+}
+
+// The groups of a record, in the order of their kinds. One loop with one call, so that the compiler lays out the groups one behind another.
+fn groups_at(w: Widths, s: &[u8], at: usize) -> Tally
     requires { ⌜ Narrow w ⌝ }
     requires { ⌜ at ≤ length (now s) ⌝ }
     ensures { λ r. ⌜ r ≡ tallied (groups w (kinds w) (now (s .entry)) at) ⌝ }
 {
-    let g1 = match group_at(w, 1, s, at) {
-        Counted::Of(n, to) => Group { count: n, end: to },
-        Counted::Stopped(x) => return Tally::Unsummed(x),
-    };
-    let g2 = match group_at(w, 2, s, g1.end) {
-        Counted::Of(n, to) => Group { count: n, end: to },
-        Counted::Stopped(x) => return Tally::Unsummed(x),
-    };
-    let g4 = match group_at(w, 4, s, g2.end) {
-        Counted::Of(n, to) => Group { count: n, end: to },
-        Counted::Stopped(x) => return Tally::Unsummed(x),
-    };
-    let g8 = match group_at(w, 8, s, g4.end) {
-        Counted::Of(n, to) => Group { count: n, end: to },
-        Counted::Stopped(x) => return Tally::Unsummed(x),
-    };
-    let fixed = g1.count + g2.count + g4.count + g8.count;
-    let variable = w.variable;
-    if !variable {
-        return Tally::Sums(fixed, fixed, g8.end);
+    let n = kind_count(w);
+    let mut total: usize = 0;
+    let mut next = at;
+    let mut k: usize = 0;
+    while k < n {
+        match group_at(w, kind_at(k), s, next) {
+            Counted::Of(count, to) => {
+                total += share(k, count);
+                next = to;
+            }
+            Counted::Stopped(x) => return Tally::Unsummed(x),
+        }
+        k += 1;
     }
-    match group_at(w, 9, s, g8.end) {
-        Counted::Of(n, to) => Tally::Sums(fixed, fixed + n, to),
-        Counted::Stopped(x) => Tally::Unsummed(x),
-    }
+    Tally::Sums(total, next)
 }
 
 // A record: its fixed fields, its total, its groups; then the total's rule and the record's length.
@@ -382,10 +403,10 @@ fn record_at(longest: usize, w: Widths, s: &[u8], at: usize) -> Walk
     if s.len() < a2 {
         return missing(a1);
     }
-    let sum = wire::number(s, a1, count) as usize;
+    let sum = wire::short_number(s, a1, count) as usize;
     match groups_at(w, s, a2) {
         Tally::Unsummed(x) => Walk::Stopped(x),
-        Tally::Sums(total, _, end) => {
+        Tally::Sums(total, end) => {
             if sum != total {
                 return Walk::Stopped(Fault {
                     number: 9,

@@ -9,7 +9,7 @@ ghost use Rattle.wire.specs.Imei.{textDigit, readImei, pairUpTo, readPac
 
 // Why a walk stopped: the refusal's number, the record's index, and the offset at which the offending field starts.
 pub struct Fault {
-    pub number: u8,
+    pub number: usize,
     pub index: usize,
     pub place: usize,
 }
@@ -28,7 +28,7 @@ pub enum Decimal {
 
 // Why an input is refused: the number of document 01 and the record's index.
 pub struct Refusal {
-    pub number: u8,
+    pub number: usize,
     pub index: usize,
 }
 
@@ -65,6 +65,20 @@ pub fn be32(s: &[u8], at: usize) -> u32
     number(s, at, 4) as u32
 }
 
+// A width that is 2 at most: tested, where a loop over the bytes costs more than reading them.
+pub fn short_number(s: &[u8], at: usize, w: usize) -> u64
+    requires { ⌜ (at + w ≤ length (now s)) × (w ≤ 2) ⌝ }
+    ensures { λ r. ⌜ r ≡ numberAt (now (s .entry)) at w ⌝ }
+{
+    if w == 2 {
+        return be16(s, at) as u64;
+    }
+    if w == 1 {
+        return s[at] as u64;
+    }
+    0
+}
+
 // By two halves it compiles to one load; by a run of eight bytes it does not.
 pub fn be64(s: &[u8], at: usize) -> u64
     requires { ⌜ at + 8 ≤ length (now s) ⌝ }
@@ -92,7 +106,7 @@ pub fn signed32(x: u32) -> i32
     -1 - ((0xFFFF_FFFF - x) as i32)
 }
 
-fn unread(number: u8, place: usize) -> Decimal
+fn unread(number: usize, place: usize) -> Decimal
     ensures { λ r. ⌜ r ≡ Decimal.Unread (record { number = number; index = 0; place = place }) ⌝ }
 {
     Decimal::Unread(Fault {

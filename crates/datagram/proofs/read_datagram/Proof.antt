@@ -1,35 +1,68 @@
-use Rattle.datagram.proofs.WalkLaws.{taken-from, refused-from, answer-taken, answer-refused}
-use Rattle.datagram.specs.Datagrams.{readDatagram, datagramAs}
-use mathlib.Core.Path.{_≡_, sym, ap, _∙_}
+use native.Mathlib.Omega.{arith}
+use mathlib.Core.Path.{sym, ap, _∙_}
 use borrow.Author.Needs.{needs}
+use Rattle.datagram.specs.Datagrams.{headerAs, datagramAs}
+use Rattle.walk.specs.Walks.{dataWalk}
+use Rattle.avl.specs.DataField.{readData}
+use Rattle.datagram.proofs.WalkLaws.{payload-part, payload-long, answer-refused, answer-taken, answer-stopped}
 use Rattle.datagram.proofs.read_datagram.Statement.{statement}
 use Rattle.datagram.proofs.read_datagram.Tie as tie
-use Rattle.datagram.proofs.read_datagram.Reads as reads
-use Rattle.datagram.proofs.read_datagram.Lts as lts
-use Rattle.datagram.proofs.judge_datagram.Reads as judge-datagram-reads
 
--- src/lib.rt:91:11
-judge-datagram-requires : tie.Need-judge-datagram-requires
-judge-datagram-requires c κs = search needs
+read-header-requires : tie.Need-read-header-requires
+read-header-requires c κs = search needs
 
--- src/lib.rt:93:13
-enum-known-codec : tie.Need-enum-known-codec
-enum-known-codec c = search needs
+enum-known-h : tie.Need-enum-known-h
+enum-known-h c = search needs
 
--- src/lib.rt:102:31
 enum-known-r : tie.Need-enum-known-r
 enum-known-r c = search needs
 
--- src/lib.rt:88:1
 returns : tie.Need-returns
-unfolding datagramAs
-returns c = sym (answer-taken 1280 255 (c .before .before .before .before .before .args .p .now) (taken-from 0 (readDatagram 1280 255 (c .before .before .before .before .before .args .p .now)) (sym (c .before .before .before .judge-datagram .ensures) ∙ c .before .codec .given .1)))
+unfolding headerAs datagramAs
+returns c = sym (answer-refused 1280 255 (c .before .before .before .before .before .args .p .now) (sym (c .before .before .before .read-header .ensures) ∙ ap headerAs (c .before .r .given .1)))
 
--- src/lib.rt:88:1
+sub-read-data : tie.Need-sub-read-data
+unfolding headerAs
+sub-read-data c = omega (arith, payload-long 1280 (c .before .before .before .before .before .args .p .now) (sym (c .before .before .before .read-header .ensures) ∙ ap headerAs (c .before .h .given .1)) .0)
+
+part-read-data-start : tie.Need-part-read-data-start
+unfolding headerAs
+part-read-data-start c = let long = payload-long 1280 (c .before .before .before .before .before .args .p .now) (sym (c .before .before .before .read-header .ensures) ∙ ap headerAs (c .before .h .given .1)) .0 in search needs
+
+part-read-data-end : tie.Need-part-read-data-end
+part-read-data-end c = search needs
+
+read-data-requires : tie.Need-read-data-requires
+unfolding headerAs
+read-data-requires c κs = (omega arith, payload-long 1280 (c .before .before .before .before .before .before .args .p .now) (sym (c .before .before .before .before .read-header .ensures) ∙ ap headerAs (c .before .before .h .given .1)) .1)
+
+enum-known-codec : tie.Need-enum-known-codec
+enum-known-codec c = search needs
+
+enum-known-r-2 : tie.Need-enum-known-r-2
+enum-known-r-2 c = search needs
+
 returns-2 : tie.Need-returns-2
-unfolding datagramAs
-returns-2 c = sym (answer-refused 1280 255 (c .before .before .before .before .before .args .p .now) (refused-from 0 (readDatagram 1280 255 (c .before .before .before .before .before .args .p .now)) (sym (c .before .before .before .judge-datagram .ensures) ∙ c .before .r .given .1)))
+unfolding headerAs datagramAs
+returns-2 c = sym (answer-taken 1280 255 (c .before .before .before .before .before .before .before .before .before .before .args .p .now) (sym (c .before .before .before .before .before .before .before .before .read-header .ensures) ∙ ap headerAs (c .before .before .before .before .before .before .h .given .1)) (ap (λ l. dataWalk 0 (readData 255 l)) (sym (payload-part (c .before .before .before .before .before .before .before .before .before .before .args .p .now))) ∙ sym (c .before .before .before .read-data .ensures) ∙ c .before .codec .given .1))
+
+returns-3 : tie.Need-returns-3
+unfolding headerAs datagramAs
+returns-3 c = sym (answer-stopped 1280 255 (c .before .before .before .before .before .before .before .before .before .before .args .p .now) (sym (c .before .before .before .before .before .before .before .before .read-header .ensures) ∙ ap headerAs (c .before .before .before .before .before .before .h .given .1)) (ap (λ l. dataWalk 0 (readData 255 l)) (sym (payload-part (c .before .before .before .before .before .before .before .before .before .before .args .p .now))) ∙ sym (c .before .before .before .read-data .ensures) ∙ c .before .r2 .given .1))
 
 pub read-datagram-spec : {M : Type 1} → statement M
 read-datagram-spec =
-    tie.close (tie.spec judge-datagram-requires enum-known-codec enum-known-r returns returns-2)
+    tie.close
+    (tie.spec
+    read-header-requires
+    enum-known-h
+    enum-known-r
+    returns
+    sub-read-data
+    part-read-data-start
+    part-read-data-end
+    read-data-requires
+    enum-known-codec
+    enum-known-r-2
+    returns-2
+    returns-3)

@@ -1,7 +1,7 @@
 use mathlib.Core.Path.{_≡_, sym, _∙_}
 use native.Mathlib.Omega.{arith}
 use Rattle.datagram.specs.Datagrams.{readDatagram}
-use Rattle.datagram.proofs.WalkLaws.{TakenFrom, taken-from, refused-from}
+use Rattle.datagram.proofs.WalkLaws.{carried, not-carried}
 use Rattle.form.proofs.WholeLaws.{field-of, datagram-field, datagram-long, datagram-written, datagram-refused}
 use borrow.Author.Needs.{needs}
 use Rattle.form.proofs.form_of_datagram.Statement.{statement}
@@ -25,11 +25,11 @@ enum-told c = search needs
 
 -- src/lib.rt:293:26
 sub-write-field : tie.Need-sub-write-field
-sub-write-field c = datagram-long (c .before .before .before .before .before .args .p .now) (taken-from 0 (readDatagram 1280 255 (c .before .before .before .before .before .args .p .now)) (sym (c .before .before .judge-datagram .ensures) ∙ c .enum-told .given .1) .accepts)
+sub-write-field c = datagram-long (c .before .before .before .before .before .args .p .now) (carried 0 (readDatagram 1280 255 (c .before .before .before .before .before .args .p .now)) (sym (c .before .before .judge-datagram .ensures) ∙ c .enum-told .given .1) .1)
 
 -- src/lib.rt:293:26
 part-write-field-start : tie.Need-part-write-field-start
-part-write-field-start c = datagram-long (c .before .before .before .before .before .args .p .now) (taken-from 0 (readDatagram 1280 255 (c .before .before .before .before .before .args .p .now)) (sym (c .before .before .judge-datagram .ensures) ∙ c .enum-told .given .1) .accepts)
+part-write-field-start c = datagram-long (c .before .before .before .before .before .args .p .now) (carried 0 (readDatagram 1280 255 (c .before .before .before .before .before .args .p .now)) (sym (c .before .before .judge-datagram .ensures) ∙ c .enum-told .given .1) .1)
 
 -- src/lib.rt:293:26
 part-write-field-end : tie.Need-part-write-field-end
@@ -37,11 +37,11 @@ part-write-field-end c = search needs
 
 -- src/lib.rt:293:14
 write-field-requires : tie.Need-write-field-requires
-write-field-requires c κs = field-of (datagram-field (c .before .before .before .before .before .before .before .args .p .now) (taken-from 0 (readDatagram 1280 255 (c .before .before .before .before .before .before .before .args .p .now)) (sym (c .before .before .before .before .judge-datagram .ensures) ∙ c .before .before .enum-told .given .1) .accepts))
+write-field-requires c κs = field-of (datagram-field (c .before .before .before .before .before .before .before .args .p .now) (carried 0 (readDatagram 1280 255 (c .before .before .before .before .before .before .before .args .p .now)) (sym (c .before .before .before .before .judge-datagram .ensures) ∙ c .before .before .enum-told .given .1) .1))
 
 -- src/lib.rt:282:1
 returns : tie.Need-returns
-returns c = datagram-refused (c .before .before .before .before .before .before .args .p .now) (refused-from 0 (readDatagram 1280 255 (c .before .before .before .before .before .before .args .p .now)) (sym (c .before .before .before .judge-datagram .ensures) ∙ c .before .r .given .1))
+returns c = datagram-refused (c .before .before .before .before .before .before .args .p .now) (not-carried 0 (readDatagram 1280 255 (c .before .before .before .before .before .before .args .p .now)) (sym (c .before .before .before .judge-datagram .ensures) ∙ c .before .r .given .1))
 
 -- src/lib.rt:282:1
 same-length : tie.Need-same-length
@@ -49,7 +49,7 @@ same-length c = search needs
 
 -- src/lib.rt:282:1
 returns-2 : tie.Need-returns-2
-returns-2 c = datagram-written (c .before .before .before .before .before .before .before .before .before .before .args .p .now) (taken-from 0 (readDatagram 1280 255 (c .before .before .before .before .before .before .before .before .before .before .args .p .now)) (sym (c .before .before .before .before .before .before .before .judge-datagram .ensures) ∙ c .before .before .before .before .before .enum-told .given .1) .accepts) (c .before .before .write-field .ensures)
+returns-2 c = datagram-written (c .before .before .before .before .before .before .before .before .before .before .args .p .now) (carried 0 (readDatagram 1280 255 (c .before .before .before .before .before .before .before .before .before .before .args .p .now)) (sym (c .before .before .before .before .before .before .before .judge-datagram .ensures) ∙ c .before .before .before .before .before .enum-told .given .1) .1) (c .before .before .write-field .ensures)
 
 pub form-of-datagram-spec : {M : Type 1} → statement M
 form-of-datagram-spec =

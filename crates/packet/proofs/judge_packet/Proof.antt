@@ -1,55 +1,40 @@
-use Rattle.packet.proofs.WalkLaws.{unframed-refused, field-inside, field-long, field-read}
+use native.Mathlib.Omega.{arith}
+use mathlib.Core.Path.{sym, ap, _∙_}
+use borrow.Author.Needs.{needs}
 use Rattle.walk.specs.Walks.{dataWalk}
 use Rattle.wire.proofs.Widths.{getD-bytes}
-use lib.ListN.{take, drop}
-use native.Mathlib.Omega.{arith}
-use mathlib.Core.Path.{_≡_, sym, ap, _∙_}
-use borrow.Author.Needs.{needs}
+use Rattle.packet.proofs.WalkLaws.{unframed-refused, field-inside, field-long, field-read}
 use Rattle.packet.proofs.judge_packet.Statement.{statement}
 use Rattle.packet.proofs.judge_packet.Tie as tie
-use Rattle.packet.proofs.judge_packet.Reads as reads
-use Rattle.packet.proofs.judge_packet.Lts as lts
-use Rattle.frame.proofs.unframed.Reads as unframed-reads
-use Rattle.walk.proofs.read_data.Reads as read-data-reads
 
--- src/lib.rt:29:11
 unframed-requires : tie.Need-unframed-requires
 unframed-requires c κs = search needs
 
--- src/lib.rt:30:26
 enum-known-number : tie.Need-enum-known-number
 enum-known-number c = search needs
 
--- src/lib.rt:31:23
-enum-known-n : tie.Need-enum-known-n
-enum-known-n c = search needs
-
--- src/lib.rt:32:23
-add-end : tie.Need-add-end
-add-end c = omega (arith, field-inside (c .before .before .before .before .before .args .largest) (c .before .before .before .before .before .args .p .now) (c .before .n .given .0 .0) (sym (c .before .before .before .unframed .ensures) ∙ c .before .n .given .1) (getD-bytes (c .before .before .before .before .before .args .p .now) (λ k. c .before .before .before .before .shared-slice-known .given k .fits)))
-
--- src/lib.rt:33:38
-sub-read-data : tie.Need-sub-read-data
-sub-read-data c = search needs
-
--- src/lib.rt:33:38
-part-read-data-start : tie.Need-part-read-data-start
-part-read-data-start c = search needs
-
--- src/lib.rt:33:38
-part-read-data-end : tie.Need-part-read-data-end
-part-read-data-end c = omega (arith, field-inside (c .before .before .before .before .before .args .largest) (c .before .before .before .before .before .args .p .now) (c .before .n .given .0 .0) (sym (c .before .before .before .unframed .ensures) ∙ c .before .n .given .1) (getD-bytes (c .before .before .before .before .before .args .p .now) (λ k. c .before .before .before .before .shared-slice-known .given k .fits)))
-
--- src/lib.rt:33:13
-read-data-requires : tie.Need-read-data-requires
-read-data-requires c κs = (c .before .before .before .before .before .before .pre, field-long (c .before .before .before .before .before .before .args .largest) (c .before .before .before .before .before .before .args .p .now) (c .before .before .n .given .0 .0) (sym (c .before .before .before .before .unframed .ensures) ∙ c .before .before .n .given .1) (getD-bytes (c .before .before .before .before .before .before .args .p .now) (λ k. c .before .before .before .before .before .shared-slice-known .given k .fits)))
-
--- src/lib.rt:25:1
 returns : tie.Need-returns
 unfolding dataWalk
 returns c = sym (ap (dataWalk (c .before .before .before .before .before .args .want)) (unframed-refused (c .before .before .before .before .before .args .largest) (c .before .before .before .before .before .args .longest) (c .before .before .before .before .before .args .p .now) _ (sym (c .before .before .before .unframed .ensures) ∙ c .before .number .given .1)))
 
--- src/lib.rt:25:1
+enum-known-n : tie.Need-enum-known-n
+enum-known-n c = search needs
+
+add-end : tie.Need-add-end
+add-end c = omega (arith, field-inside (c .before .before .before .before .before .args .largest) (c .before .before .before .before .before .args .p .now) (c .before .n .given .0 .0) (sym (c .before .before .before .unframed .ensures) ∙ c .before .n .given .1) (getD-bytes (c .before .before .before .before .before .args .p .now) (λ k. c .before .before .before .before .shared-slice-known .given k .fits)))
+
+sub-read-data : tie.Need-sub-read-data
+sub-read-data c = search needs
+
+part-read-data-start : tie.Need-part-read-data-start
+part-read-data-start c = search needs
+
+part-read-data-end : tie.Need-part-read-data-end
+part-read-data-end c = omega (arith, field-inside (c .before .before .before .before .before .args .largest) (c .before .before .before .before .before .args .p .now) (c .before .n .given .0 .0) (sym (c .before .before .before .unframed .ensures) ∙ c .before .n .given .1) (getD-bytes (c .before .before .before .before .before .args .p .now) (λ k. c .before .before .before .before .shared-slice-known .given k .fits)))
+
+read-data-requires : tie.Need-read-data-requires
+read-data-requires c κs = (c .before .before .before .before .before .before .pre, field-long (c .before .before .before .before .before .before .args .largest) (c .before .before .before .before .before .before .args .p .now) (c .before .before .n .given .0 .0) (sym (c .before .before .before .before .unframed .ensures) ∙ c .before .before .n .given .1) (getD-bytes (c .before .before .before .before .before .before .args .p .now) (λ k. c .before .before .before .before .before .shared-slice-known .given k .fits)))
+
 returns-2 : tie.Need-returns-2
 returns-2 c = c .read-data .ensures ∙ ap (dataWalk (c .before .before .before .before .before .before .before .args .want)) (field-read (c .before .before .before .before .before .before .before .args .largest) (c .before .before .before .before .before .before .before .args .p .now) (c .before .before .before .n .given .0 .0) (sym (c .before .before .before .before .before .unframed .ensures) ∙ c .before .before .before .n .given .1) (getD-bytes (c .before .before .before .before .before .before .before .args .p .now) (λ k. c .before .before .before .before .before .before .shared-slice-known .given k .fits)) (c .before .before .before .before .before .before .before .args .longest))
 
@@ -59,11 +44,11 @@ judge-packet-spec =
     (tie.spec
     unframed-requires
     enum-known-number
+    returns
     enum-known-n
     add-end
     sub-read-data
     part-read-data-start
     part-read-data-end
     read-data-requires
-    returns
     returns-2)

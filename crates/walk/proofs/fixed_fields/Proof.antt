@@ -59,8 +59,8 @@ returns-2 c =
     (number-there _ s at 8 (omega arith)
     ∙ upTo-over _ s (at + 8) 1 2 10 (omega arith) (subst (λ (n : ℕ). 2 < n) (sym (number-one s (at + 8))) (c .if2 .taken))))
 
-number-requires : tie.Need-number-requires
-number-requires c κs = search needs
+short-number-requires : tie.Need-short-number-requires
+short-number-requires c κs = search needs
 
 returns-3 : tie.Need-returns-3
 returns-3 c =
@@ -68,7 +68,7 @@ returns-3 c =
     let s = args .s .now in
     let at = args .at in
     let begun = fixed-start (args .w) s at (omega arith) (subst (λ (n : ℕ). n ≤ 2) (sym (number-one s (at + 8))) (c .before .before .if2 .left)) in
-    sym (walked-bad _ (begun .1 ∙ upTo-over _ s _ (args .w .generation) 7 11 (c .before .before .before .before .if1 .left) (subst (λ (n : ℕ). 7 < n) (c .before .number .ensures) (c .if3 .taken))))
+    sym (walked-bad _ (begun .1 ∙ upTo-over _ s _ (args .w .generation) 7 11 (c .before .before .before .before .if1 .left) (subst (λ (n : ℕ). 7 < n) (c .before .short-number .ensures) (c .if3 .taken))))
 
 returns-4 : tie.Need-returns-4
 unfolding pure
@@ -77,7 +77,7 @@ returns-4 c =
     let s = args .s .now in
     let at = args .at in
     let begun = fixed-start (args .w) s at (omega arith) (subst (λ (n : ℕ). n ≤ 2) (sym (number-one s (at + 8))) (c .before .before .if2 .left)) in
-    sym (walked-got _ (begun .1 ∙ upTo-there _ s _ (args .w .generation) 7 11 (c .before .before .before .before .if1 .left) (subst (λ (n : ℕ). n ≤ 7) (c .before .number .ensures) (c .if3 .left))))
+    sym (walked-got _ (begun .1 ∙ upTo-there _ s _ (args .w .generation) 7 11 (c .before .before .before .before .if1 .left) (subst (λ (n : ℕ). n ≤ 7) (c .before .short-number .ensures) (c .if3 .left))))
 
 pub fixed-fields-spec : {M : Type 1} → statement M
 fixed-fields-spec =
@@ -97,6 +97,6 @@ fixed-fields-spec =
     returns
     shared-slice-read-if2
     returns-2
-    number-requires
+    short-number-requires
     returns-3
     returns-4)

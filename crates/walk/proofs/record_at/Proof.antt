@@ -35,8 +35,8 @@ returns-2 c =
     let args = c .before .before .before .before .before .before .before .args in
     c .missing .ensures ∙ sym (record-missing (args .longest) (args .w) (args .s .now) (args .at) (sym (c .before .before .before .before .before .fixed-fields .ensures) ∙ c .before .before .before .to .given .1) (c .before .if1 .taken))
 
-number-requires : tie.Need-number-requires
-number-requires c κs = search needs
+short-number-requires : tie.Need-short-number-requires
+short-number-requires c κs = search needs
 
 groups-at-requires : tie.Need-groups-at-requires
 groups-at-requires c κs = search needs
@@ -50,7 +50,7 @@ enum-known-total c = search needs
 returns-3 : tie.Need-returns-3
 returns-3 c =
     let args = c .before .before .before .before .before .before .before .before .before .before .before .before .args in
-    sym (record-uneven (args .longest) (args .w) (args .s .now) (args .at) (sym (c .before .before .before .before .before .before .before .before .before .before .fixed-fields .ensures) ∙ c .before .before .before .before .before .before .before .before .to .given .1) (c .before .before .before .before .before .before .if1 .left) (c .before .before .before .before .before .number .ensures)
+    sym (record-uneven (args .longest) (args .w) (args .s .now) (args .at) (sym (c .before .before .before .before .before .before .before .before .before .before .fixed-fields .ensures) ∙ c .before .before .before .before .before .before .before .before .to .given .1) (c .before .before .before .before .before .before .if1 .left) (c .before .before .before .before .before .short-number .ensures)
     (sym (c .before .before .before .before .groups-at .ensures) ∙ c .before .before .total .given .1) (c .if2 .taken))
 
 add-if3 : tie.Need-add-if3
@@ -59,7 +59,7 @@ add-if3 c = search needs
 returns-4 : tie.Need-returns-4
 returns-4 c =
     let args = c .before .before .before .before .before .before .before .before .before .before .before .before .before .args in
-    sym (record-long (args .longest) (args .w) (args .s .now) (args .at) (sym (c .before .before .before .before .before .before .before .before .before .before .before .fixed-fields .ensures) ∙ c .before .before .before .before .before .before .before .before .before .to .given .1) (c .before .before .before .before .before .before .before .if1 .left) (c .before .before .before .before .before .before .number .ensures)
+    sym (record-long (args .longest) (args .w) (args .s .now) (args .at) (sym (c .before .before .before .before .before .before .before .before .before .before .before .fixed-fields .ensures) ∙ c .before .before .before .before .before .before .before .before .before .to .given .1) (c .before .before .before .before .before .before .before .if1 .left) (c .before .before .before .before .before .before .short-number .ensures)
     (sym (c .before .before .before .before .before .groups-at .ensures) ∙ c .before .before .before .total .given .1) (c .before .if2 .left) (c .if3 .taken))
 
 returns-5 : tie.Need-returns-5
@@ -70,7 +70,7 @@ returns-5 c =
 returns-6 : tie.Need-returns-6
 returns-6 c =
     let args = c .before .before .before .before .before .before .before .before .before .before .before .before .before .args in
-    sym (record-on (args .longest) (args .w) (args .s .now) (args .at) (sym (c .before .before .before .before .before .before .before .before .before .before .before .fixed-fields .ensures) ∙ c .before .before .before .before .before .before .before .before .before .to .given .1) (c .before .before .before .before .before .before .before .if1 .left) (c .before .before .before .before .before .before .number .ensures)
+    sym (record-on (args .longest) (args .w) (args .s .now) (args .at) (sym (c .before .before .before .before .before .before .before .before .before .before .before .fixed-fields .ensures) ∙ c .before .before .before .before .before .before .before .before .before .to .given .1) (c .before .before .before .before .before .before .before .if1 .left) (c .before .before .before .before .before .before .short-number .ensures)
     (sym (c .before .before .before .before .before .groups-at .ensures) ∙ c .before .before .before .total .given .1) (c .before .if2 .left) (c .if3 .left))
 
 pub record-at-spec : {M : Type 1} → statement M
@@ -84,7 +84,7 @@ record-at-spec =
     add-a2
     missing-requires
     returns-2
-    number-requires
+    short-number-requires
     groups-at-requires
     enum-known-x-2
     enum-known-total

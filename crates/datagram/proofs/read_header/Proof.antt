@@ -1,0 +1,90 @@
+use Prim.Native.Nat.{ℕ, _+_}
+use mathlib.Core.Path.{sym, ap, _∙_}
+use borrow.Author.Needs.{needs}
+use Rattle.datagram.specs.Datagrams.{headerAs}
+use Rattle.wire.proofs.DigitLaws.{numbered-of, numbered-unread}
+use Rattle.wire.proofs.Shifts.{number-one}
+use Rattle.wire.specs.Answers.{accepted}
+use Rattle.datagram.proofs.WalkLaws.{header-short, header-large, header-length, header-imei, header-is}
+use Rattle.datagram.proofs.read_header.Statement.{statement}
+use Rattle.datagram.proofs.read_header.Tie as tie
+
+refused-requires : tie.Need-refused-requires
+refused-requires c κs = search needs
+
+returns : tie.Need-returns
+unfolding headerAs
+returns c = ap headerAs (c .refused .ensures) ∙ sym (header-short (c .before .before .before .args .largest) (c .before .before .before .args .p .now) (c .before .if1 .taken))
+
+refused-requires-2 : tie.Need-refused-requires-2
+refused-requires-2 c κs = search needs
+
+returns-2 : tie.Need-returns-2
+unfolding headerAs
+returns-2 c = ap headerAs (c .refused2 .ensures) ∙ sym (header-large (c .before .before .before .before .args .largest) (c .before .before .before .before .args .p .now) (c .before .before .if1 .left) (c .before .if2 .taken))
+
+be16-requires : tie.Need-be16-requires
+be16-requires c κs = search needs
+
+cast-size : tie.Need-cast-size
+cast-size c = search needs
+
+add-if3 : tie.Need-add-if3
+add-if3 c = search needs
+
+refused-requires-3 : tie.Need-refused-requires-3
+refused-requires-3 c κs = search needs
+
+returns-3 : tie.Need-returns-3
+unfolding headerAs
+returns-3 c = ap headerAs (c .refused3 .ensures) ∙ sym (header-length (c .before .before .before .before .before .before .args .largest) (c .before .before .before .before .before .before .args .p .now) (c .before .before .before .before .if1 .left) (c .before .before .before .if2 .left) (λ e. c .before .if3 .taken (e ∙ ap (λ (n : ℕ). n + 2) (sym (c .before .before .be16 .ensures)))))
+
+read-imei-requires : tie.Need-read-imei-requires
+read-imei-requires c κs = search needs
+
+enum-known-imei : tie.Need-enum-known-imei
+enum-known-imei c = search needs
+
+be16-requires-2 : tie.Need-be16-requires-2
+be16-requires-2 c κs = search needs
+
+shared-slice-read-t14 : tie.Need-shared-slice-read-t14
+shared-slice-read-t14 c = search needs
+
+shared-slice-read-t16 : tie.Need-shared-slice-read-t16
+shared-slice-read-t16 c = search needs
+
+enum-known-x : tie.Need-enum-known-x
+enum-known-x c = search needs
+
+returns-4 : tie.Need-returns-4
+unfolding headerAs
+returns-4 c = let s = c .before .before .before .before .before .before .before .before .before .before .before .before .args .p .now in
+    (λ i. accepted (record { packet = c .before .before .be162 .ensures i; unused = sym (number-one s 4) i; avl = sym (number-one s 5) i; imei = c .before .before .before .before .imei .given .0 .0 }))
+    ∙ sym (header-is (c .before .before .before .before .before .before .before .before .before .before .before .before .args .largest) s (c .before .before .before .before .before .before .before .before .before .before .if1 .left) (c .before .before .before .before .before .before .before .before .before .if2 .left) (c .before .before .before .before .before .before .before .if3 .left ∙ ap (λ (n : ℕ). n + 2) (c .before .before .before .before .before .before .before .before .be16 .ensures)) (numbered-of _ (sym (c .before .before .before .before .before .before .read-imei .ensures) ∙ c .before .before .before .before .imei .given .1)))
+
+returns-5 : tie.Need-returns-5
+unfolding headerAs
+returns-5 c = sym (header-imei (c .before .before .before .before .before .before .before .before .before .args .largest) (c .before .before .before .before .before .before .before .before .before .args .p .now) (c .before .before .before .before .before .before .before .if1 .left) (c .before .before .before .before .before .before .if2 .left) (c .before .before .before .before .if3 .left ∙ ap (λ (n : ℕ). n + 2) (c .before .before .before .before .before .be16 .ensures)) (numbered-unread _ (sym (c .before .before .before .read-imei .ensures) ∙ c .before .x .given .1)))
+
+pub read-header-spec : {M : Type 1} → statement M
+read-header-spec =
+    tie.close
+    (tie.spec
+    refused-requires
+    returns
+    refused-requires-2
+    returns-2
+    be16-requires
+    cast-size
+    add-if3
+    refused-requires-3
+    returns-3
+    read-imei-requires
+    enum-known-imei
+    be16-requires-2
+    shared-slice-read-t14
+    shared-slice-read-t16
+    enum-known-x
+    returns-4
+    returns-5)

@@ -1,0 +1,243 @@
+//! Records and values, by number and by ID.
+use crate::raw;
+use crate::reading::{read_datagram, read_packet, view};
+use crate::refusal::{data_judged, Refusal};
+
+/// A record's fixed fields, and the number of its elements.
+#[derive(Clone, Copy, Debug, PartialEq, Eq, Hash)]
+pub struct Record {
+    /// Milliseconds since 1970, UTC.
+    pub timestamp: u64,
+    /// 0 to 2.
+    pub priority: u8,
+    /// Degrees times 10^7.
+    pub longitude: i32,
+    /// Degrees times 10^7.
+    pub latitude: i32,
+    /// Metres above sea level.
+    pub altitude: i16,
+    /// Degrees from north.
+    pub angle: u16,
+    /// Satellites in use.
+    pub satellites: u8,
+    /// The speed, from satellites.
+    pub speed: u16,
+    /// The event ID.
+    pub event: u16,
+    /// The generation type: 0 to 7 in codec 0x10, else 0.
+    pub generation: u8,
+    /// The number of elements, variable ones among them.
+    pub elements: usize,
+}
+
+/// An element and its value.
+#[derive(Clone, Copy, Debug, PartialEq, Eq, Hash)]
+pub struct Value<'a> {
+    /// The IO ID.
+    pub id: u16,
+    /// 1, 2, 4 or 8 for a value of so many bytes; 9 for one of variable length, which may be 0.
+    pub kind: u8,
+    /// Where the value starts in the input.
+    pub offset: usize,
+    /// The value's bytes, which lie within its record.
+    pub bytes: &'a [u8],
+}
+
+/// Which of two packets holds the last known value.
+#[derive(Clone, Copy, Debug, PartialEq, Eq, Hash)]
+pub enum Source {
+    /// The newer one.
+    Newer,
+    /// The older one.
+    Older,
+}
+
+/// The last known value of an ID.
+#[derive(Clone, Copy, Debug, PartialEq, Eq, Hash)]
+pub struct LastKnown<'a> {
+    /// The packet that holds it.
+    pub source: Source,
+    /// The value; its offset is in that packet.
+    pub value: Value<'a>,
+}
+
+fn record(a: raw::Record) -> Result<Record, Refusal> {
+    data_judged(a.number, a.index)?;
+    Ok(Record {
+        timestamp: a.timestamp,
+        priority: a.priority,
+        longitude: a.longitude,
+        latitude: a.latitude,
+        altitude: a.altitude,
+        angle: a.angle,
+        satellites: a.satellites,
+        speed: a.speed,
+        event: a.event,
+        generation: a.generation,
+        elements: a.elements,
+    })
+}
+
+fn value(a: raw::Value, input: &[u8]) -> Result<Value<'_>, Refusal> {
+    data_judged(a.number, a.index)?;
+    Ok(Value { id: a.id, kind: a.kind, offset: a.offset, bytes: view(input, a.offset, a.size) })
+}
+
+/// All answers of a look-up by number.
+fn all<T>(count: usize, look_up: impl Fn(usize) -> Result<T, Refusal>) -> impl ExactSizeIterator<Item = T> {
+    (0..count).map(move |n| look_up(n).expect("an accepted packet has what it counts"))
+}
+
+/// A record of a TCP data packet by its number, from 0. Refusals 1 to 12, then 16.
+///
+/// ```
+/// use brundilope::{record_in_packet, samples};
+///
+/// let record = record_in_packet(samples::CODEC16, 1)?;
+/// assert_eq!(record.timestamp, 1_562_760_415_000);
+/// assert_eq!((record.event, record.generation, record.elements), (11, 5, 4));
+///
+/// assert_eq!(record_in_packet(samples::CODEC16, 2).unwrap_err().number, 16);
+/// # Ok::<(), brundilope::Refusal>(())
+/// ```
+pub fn record_in_packet(packet: &[u8], number: usize) -> Result<Record, Refusal> {
+    record(raw::record_in_packet(packet, number))
+}
+
+/// A record of a datagram by its number, from 0. Refusals 1, 3, 4, 15, 6 to 12, then 16.
+///
+/// ```
+/// let record = brundilope::record_in_datagram(brundilope::samples::UDP_CODEC8, 0)?;
+/// assert_eq!(record.timestamp, 1_560_407_006_000);
+/// assert_eq!((record.priority, record.event, record.elements), (1, 1, 3));
+/// # Ok::<(), brundilope::Refusal>(())
+/// ```
+pub fn record_in_datagram(datagram: &[u8], number: usize) -> Result<Record, Refusal> {
+    record(raw::record_in_datagram(datagram, number))
+}
+
+/// A value of a TCP data packet by the numbers of its record and element, both from 0. Refusals 1 to 12, then 16.
+///
+/// ```
+/// let value = brundilope::value_in_packet(brundilope::samples::CODEC8, 0, 2)?;
+/// assert_eq!((value.id, value.kind, value.offset), (66, 2, 43));
+/// assert_eq!(value.bytes, [0x5E, 0x0F]);
+/// # Ok::<(), brundilope::Refusal>(())
+/// ```
+pub fn value_in_packet(packet: &[u8], record: usize, element: usize) -> Result<Value<'_>, Refusal> {
+    value(raw::value_in_packet(packet, record, element), packet)
+}
+
+/// A value of a datagram by the numbers of its record and element, both from 0. Refusals 1, 3, 4, 15, 6 to 12, then 16.
+///
+/// ```
+/// let value = brundilope::value_in_datagram(brundilope::samples::UDP_CODEC8, 0, 0)?;
+/// assert_eq!((value.id, value.kind, value.offset), (21, 1, 53));
+/// assert_eq!(value.bytes, [3]);
+/// # Ok::<(), brundilope::Refusal>(())
+/// ```
+pub fn value_in_datagram(datagram: &[u8], record: usize, element: usize) -> Result<Value<'_>, Refusal> {
+    value(raw::value_in_datagram(datagram, record, element), datagram)
+}
+
+/// The first value with this ID in a record of a TCP data packet. Refusals 1 to 12, then 16.
+///
+/// ```
+/// let operator = brundilope::id_in_packet(brundilope::samples::CODEC8, 0, 241)?;
+/// assert_eq!((operator.kind, operator.bytes), (4, &[0x00, 0x00, 0x60, 0x1A][..]));
+/// # Ok::<(), brundilope::Refusal>(())
+/// ```
+pub fn id_in_packet(packet: &[u8], record: usize, id: u16) -> Result<Value<'_>, Refusal> {
+    value(raw::id_in_packet(packet, record, id), packet)
+}
+
+/// The first value with this ID in a record of a datagram. Refusals 1, 3, 4, 15, 6 to 12, then 16.
+///
+/// ```
+/// use brundilope::{id_in_datagram, samples};
+///
+/// let voltage = id_in_datagram(samples::UDP_CODEC8, 0, 66)?;
+/// assert_eq!((voltage.kind, voltage.bytes), (2, &[0x5D, 0xBC][..]));
+///
+/// let refusal = id_in_datagram(samples::UDP_CODEC8, 0, 67).unwrap_err();
+/// assert_eq!(refusal.to_string(), "refusal 16: no such record, element or ID");
+/// # Ok::<(), brundilope::Refusal>(())
+/// ```
+pub fn id_in_datagram(datagram: &[u8], record: usize, id: u16) -> Result<Value<'_>, Refusal> {
+    value(raw::id_in_datagram(datagram, record, id), datagram)
+}
+
+/// The first value with this ID in the last record of the newer TCP data packet; if there is none, in the last record
+/// of the older.
+///
+/// Refusals 1 to 12 of the newer; 1 to 12 of the older, which is judged only if the newer lacks the ID; then 16.
+///
+/// ```
+/// use brundilope::{last_known, samples, Source};
+///
+/// let known = last_known(samples::CODEC8E, samples::CODEC8, 241)?;
+/// assert_eq!(known.source, Source::Older);
+/// assert_eq!(known.value.bytes, [0x00, 0x00, 0x60, 0x1A]);
+/// # Ok::<(), brundilope::Refusal>(())
+/// ```
+pub fn last_known<'a>(newer: &'a [u8], older: &'a [u8], id: u16) -> Result<LastKnown<'a>, Refusal> {
+    let a = raw::last_known(newer, older, id);
+    data_judged(a.number, a.index)?;
+    let (source, input) = if a.older { (Source::Older, older) } else { (Source::Newer, newer) };
+    let bytes = view(input, a.offset, a.size);
+    Ok(LastKnown { source, value: Value { id: a.id, kind: a.kind, offset: a.offset, bytes } })
+}
+
+/// All records of a TCP data packet in order. Refusals 1 to 12. Each step judges the whole packet anew.
+///
+/// ```
+/// let records = brundilope::records_in_packet(brundilope::samples::CODEC16)?;
+/// let times: Vec<u64> = records.map(|record| record.timestamp).collect();
+/// assert_eq!(times, [1_562_760_414_000, 1_562_760_415_000]);
+/// # Ok::<(), brundilope::Refusal>(())
+/// ```
+pub fn records_in_packet(packet: &[u8]) -> Result<impl ExactSizeIterator<Item = Record> + '_, Refusal> {
+    let count = usize::from(read_packet(packet)?.count);
+    Ok(all(count, move |n| record_in_packet(packet, n)))
+}
+
+/// All records of a datagram in order. Refusals 1, 3, 4, 15, 6 to 12. Each step judges the whole datagram anew.
+///
+/// ```
+/// let mut records = brundilope::records_in_datagram(brundilope::samples::UDP_CODEC8E)?;
+/// assert_eq!(records.next().map(|record| record.elements), Some(5));
+/// assert_eq!(records.next(), None);
+/// # Ok::<(), brundilope::Refusal>(())
+/// ```
+pub fn records_in_datagram(datagram: &[u8]) -> Result<impl ExactSizeIterator<Item = Record> + '_, Refusal> {
+    let count = usize::from(read_datagram(datagram)?.count);
+    Ok(all(count, move |n| record_in_datagram(datagram, n)))
+}
+
+/// All values of a record of a TCP data packet in order. Refusals 1 to 12, then 16. Each step judges the whole packet
+/// anew.
+///
+/// ```
+/// let values = brundilope::values_in_packet(brundilope::samples::CODEC8, 0)?;
+/// let ids: Vec<u16> = values.map(|value| value.id).collect();
+/// assert_eq!(ids, [21, 1, 66, 241, 78]);
+/// # Ok::<(), brundilope::Refusal>(())
+/// ```
+pub fn values_in_packet(packet: &[u8], record: usize) -> Result<impl ExactSizeIterator<Item = Value<'_>>, Refusal> {
+    let count = record_in_packet(packet, record)?.elements;
+    Ok(all(count, move |k| value_in_packet(packet, record, k)))
+}
+
+/// All values of a record of a datagram in order. Refusals 1, 3, 4, 15, 6 to 12, then 16. Each step judges the whole
+/// datagram anew.
+///
+/// ```
+/// let values = brundilope::values_in_datagram(brundilope::samples::UDP_CODEC8, 0)?;
+/// let sizes: Vec<usize> = values.map(|value| value.bytes.len()).collect();
+/// assert_eq!(sizes, [1, 1, 2]);
+/// # Ok::<(), brundilope::Refusal>(())
+/// ```
+pub fn values_in_datagram(datagram: &[u8], record: usize) -> Result<impl ExactSizeIterator<Item = Value<'_>>, Refusal> {
+    let count = record_in_datagram(datagram, record)?.elements;
+    Ok(all(count, move |k| value_in_datagram(datagram, record, k)))
+}

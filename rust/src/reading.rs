@@ -1,0 +1,130 @@
+//! Whole packets, datagrams, logins and commands.
+use crate::raw;
+use crate::refusal::{data_judged, judged, Refusal};
+
+/// A TCP data packet.
+#[derive(Clone, Copy, Debug, PartialEq, Eq, Hash)]
+pub struct Packet {
+    /// The codec: 0x08, 0x8E or 0x10.
+    pub codec: u8,
+    /// The number of records, 1 to 255.
+    pub count: u8,
+}
+
+/// A UDP datagram.
+#[derive(Clone, Copy, Debug, PartialEq, Eq, Hash)]
+pub struct Datagram {
+    /// The codec: 0x08, 0x8E or 0x10.
+    pub codec: u8,
+    /// The number of records, 1 to 255.
+    pub count: u8,
+    /// The unit's IMEI, below 10^15.
+    pub imei: u64,
+    /// The packet ID.
+    pub packet_id: u16,
+    /// The unused byte, as received.
+    pub unused: u8,
+    /// The AVL packet ID.
+    pub avl_packet_id: u8,
+}
+
+/// A TCP login.
+#[derive(Clone, Copy, Debug, PartialEq, Eq, Hash)]
+pub struct Login {
+    /// The unit's IMEI, below 10^15.
+    pub imei: u64,
+}
+
+/// A command packet.
+#[derive(Clone, Copy, Debug, PartialEq, Eq, Hash)]
+pub struct Command<'a> {
+    /// The codec: 0x0C or 0x0E.
+    pub codec: u8,
+    /// 0x05 command, 0x06 response, 0x11 IMEI doesn't match (0x0E only).
+    pub message_type: u8,
+    /// The IMEI, below 10^15; 0 in codec 0x0C.
+    pub imei: u64,
+    /// Where the text starts in the input.
+    pub offset: usize,
+    /// The text: any bytes, or none.
+    pub text: &'a [u8],
+}
+
+/// The `size` bytes of an input from `offset` on.
+pub(crate) fn view(input: &[u8], offset: usize, size: usize) -> &[u8] {
+    let place = input.get(offset..).and_then(|rest| rest.get(..size));
+    place.expect("the library's views lie within their input")
+}
+
+/// Reads a TCP data packet. Refusals 1 to 12.
+///
+/// ```
+/// use brundilope::{read_packet, samples, Packet, Refusal};
+///
+/// assert_eq!(read_packet(samples::CODEC8), Ok(Packet { codec: 0x08, count: 1 }));
+///
+/// let mut damaged = samples::CODEC8.to_vec();
+/// damaged[20] ^= 1;
+/// assert_eq!(read_packet(&damaged), Err(Refusal { number: 5, record: None }));
+/// ```
+pub fn read_packet(packet: &[u8]) -> Result<Packet, Refusal> {
+    let a = raw::read_packet(packet);
+    data_judged(a.number, a.index)?;
+    Ok(Packet { codec: a.codec, count: a.count })
+}
+
+/// Reads a UDP datagram. Refusals 1, 3, 4, 15, 6 to 12.
+///
+/// ```
+/// let datagram = brundilope::read_datagram(brundilope::samples::UDP_CODEC8E)?;
+/// assert_eq!((datagram.codec, datagram.count), (0x8E, 1));
+/// assert_eq!(datagram.imei, 352093086403655);
+/// assert_eq!((datagram.packet_id, datagram.unused, datagram.avl_packet_id), (0xCAFE, 1, 7));
+/// # Ok::<(), brundilope::Refusal>(())
+/// ```
+pub fn read_datagram(datagram: &[u8]) -> Result<Datagram, Refusal> {
+    let a = raw::read_datagram(datagram);
+    data_judged(a.number, a.index)?;
+    Ok(Datagram {
+        codec: a.codec,
+        count: a.count,
+        imei: a.imei,
+        packet_id: a.packet_id,
+        unused: a.unused,
+        avl_packet_id: a.avl_packet_id,
+    })
+}
+
+/// Reads a TCP login. Refusals 1, 4, 15.
+///
+/// ```
+/// let login = brundilope::read_login(b"\x00\x0f356307042441013")?;
+/// assert_eq!(login.imei, 356307042441013);
+/// # Ok::<(), brundilope::Refusal>(())
+/// ```
+pub fn read_login(login: &[u8]) -> Result<Login, Refusal> {
+    let a = raw::read_login(login);
+    judged(a.number)?;
+    Ok(Login { imei: a.imei })
+}
+
+/// Reads a command packet. Refusals 1 to 8, 13, 14, 15.
+///
+/// ```
+/// let command = brundilope::read_command(brundilope::samples::CODEC14_COMMAND)?;
+/// assert_eq!((command.codec, command.message_type), (0x0E, 0x05));
+/// assert_eq!(command.imei, 352093081452251);
+/// assert_eq!((command.offset, command.text), (23, &b"getver"[..]));
+/// # Ok::<(), brundilope::Refusal>(())
+/// ```
+pub fn read_command(packet: &[u8]) -> Result<Command<'_>, Refusal> {
+    let a = raw::read_command(packet);
+    judged(a.number)?;
+    Ok(Command {
+        codec: a.codec,
+        message_type: a.message_type,
+        imei: a.imei,
+        offset: a.offset,
+        text: view(packet, a.offset, a.size),
+    })
+}

@@ -1,0 +1,118 @@
+//! Answers to units, commands and TLV forms, written into a lent buffer.
+use crate::raw;
+use crate::refusal::{data_judged, judged, Refusal};
+
+fn written(a: raw::Written) -> Result<usize, Refusal> {
+    judged(a.number)?;
+    Ok(a.written)
+}
+
+/// What a writer gives whose input is a data packet or datagram.
+fn data_written(a: raw::Written) -> Result<usize, Refusal> {
+    data_judged(a.number, a.index)?;
+    Ok(a.written)
+}
+
+/// Writes the answer to a login, one byte: 01 if the login is well formed and `known` says that the caller knows the
+/// unit, else 00. Refusal 18 only.
+///
+/// ```
+/// let mut answer = [0xEE];
+/// brundilope::answer_login(brundilope::samples::LOGIN, true, &mut answer)?;
+/// assert_eq!(answer, [1]);
+/// brundilope::answer_login(b"no login", true, &mut answer)?;
+/// assert_eq!(answer, [0]);
+/// # Ok::<(), brundilope::Refusal>(())
+/// ```
+pub fn answer_login(login: &[u8], known: bool, out: &mut [u8]) -> Result<usize, Refusal> {
+    written(raw::answer_login(login, known, out))
+}
+
+/// Writes the acknowledgement of a TCP data packet, four bytes: the number of records, or zeros for a refused packet.
+/// Refusal 18 only.
+///
+/// ```
+/// let mut answer = [0xEE; 4];
+/// brundilope::acknowledge_packet(brundilope::samples::CODEC16, &mut answer)?;
+/// assert_eq!(answer, [0, 0, 0, 2]);
+/// brundilope::acknowledge_packet(b"no packet", &mut answer)?;
+/// assert_eq!(answer, [0, 0, 0, 0]);
+/// # Ok::<(), brundilope::Refusal>(())
+/// ```
+pub fn acknowledge_packet(packet: &[u8], out: &mut [u8]) -> Result<usize, Refusal> {
+    written(raw::acknowledge_packet(packet, out))
+}
+
+/// Writes the acknowledgement of a datagram, seven bytes. Refusals 1, 3, 4, 15, 6 to 12, then 18: a refused datagram
+/// gets no acknowledgement.
+///
+/// ```
+/// let mut answer = [0xEE; 7];
+/// brundilope::acknowledge_datagram(brundilope::samples::UDP_CODEC8, &mut answer)?;
+/// assert_eq!(answer, [0x00, 0x05, 0xCA, 0xFE, 0x01, 0x05, 0x01]);
+/// # Ok::<(), brundilope::Refusal>(())
+/// ```
+pub fn acknowledge_datagram(datagram: &[u8], out: &mut [u8]) -> Result<usize, Refusal> {
+    data_written(raw::acknowledge_datagram(datagram, out))
+}
+
+/// Writes a command packet.
+///
+/// `imei` is empty for codec 0x0C and 15 ASCII digits for 0x0E; `text` is any bytes, none with type 0x11. Refusals, in
+/// this order: 6, 13, 15, 14 (also if the packet would be over 1,280 bytes), 18.
+///
+/// ```
+/// use brundilope::{samples, write_command};
+///
+/// let mut out = [0; 1280];
+/// let size = write_command(0x0C, 0x05, b"", b"getio", &mut out)?;
+/// assert_eq!(&out[..size], samples::CODEC12_COMMAND);
+/// let size = write_command(0x0E, 0x05, b"352093081452251", b"getver", &mut out)?;
+/// assert_eq!(&out[..size], samples::CODEC14_COMMAND);
+/// # Ok::<(), brundilope::Refusal>(())
+/// ```
+pub fn write_command(codec: u8, message_type: u8, imei: &[u8], text: &[u8], out: &mut [u8]) -> Result<usize, Refusal> {
+    written(raw::write_command(codec, message_type, imei, text, out))
+}
+
+/// Writes the TLV form of a TCP data packet. Refusals 1 to 12, then 18.
+///
+/// ```
+/// let mut form = [0; 4096];
+/// let size = brundilope::form_of_packet(brundilope::samples::CODEC8, &mut form)?;
+/// assert_eq!(size, 82);
+/// assert_eq!(form[..9], [1, 0, 100, 0, 0x08, 27, 0, 101, 0]);
+/// # Ok::<(), brundilope::Refusal>(())
+/// ```
+pub fn form_of_packet(packet: &[u8], out: &mut [u8]) -> Result<usize, Refusal> {
+    data_written(raw::form_of_packet(packet, out))
+}
+
+/// Writes the TLV form of a datagram. Refusals 1, 3, 4, 15, 6 to 12, then 18.
+///
+/// ```
+/// let mut form = [0; 4096];
+/// let size = brundilope::form_of_datagram(brundilope::samples::UDP_CODEC8, &mut form)?;
+/// assert_eq!(size, 58);
+/// assert_eq!(form[size - 8..size], [4, 0, 2, 0, 66, 0, 0x5D, 0xBC]);
+/// # Ok::<(), brundilope::Refusal>(())
+/// ```
+pub fn form_of_datagram(datagram: &[u8], out: &mut [u8]) -> Result<usize, Refusal> {
+    data_written(raw::form_of_datagram(datagram, out))
+}
+
+/// Writes the TCP data packet of a TLV form. Refusals 17, 18.
+///
+/// ```
+/// use brundilope::{form_of_packet, packet_of_form, samples};
+///
+/// let mut form = [0; 4096];
+/// let size = form_of_packet(samples::CODEC8E, &mut form)?;
+/// let mut packet = [0; 1280];
+/// let again = packet_of_form(&form[..size], &mut packet)?;
+/// assert_eq!(&packet[..again], samples::CODEC8E);
+/// # Ok::<(), brundilope::Refusal>(())
+/// ```
+pub fn packet_of_form(form: &[u8], out: &mut [u8]) -> Result<usize, Refusal> {
+    written(raw::packet_of_form(form, out))
+}

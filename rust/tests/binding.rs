@@ -1,0 +1,267 @@
+//! What a wrong binding would get wrong: fields in another's place, offsets, records of refusals, lent buffers.
+use brundilope::*;
+
+/// Codec 8 Extended, two records; in the second no two fields are alike.
+const DATA: [u8; 113] = [
+    0x8E, 2, // codec, count
+    0, 0, 0, 0, 0, 0, 0x03, 0xE8, 0, 0, 0, 0, 0, 0, 0, 0, 0, 0, 0, 0, 0, 0, 0, 0, // record 0
+    0, 0, 0, 0, 0, 0, 0, 0, 0, 0, 0, 0, 0, 0, // no elements
+    0x01, 0x02, 0x03, 0x04, 0x05, 0x06, 0x07, 0x08, 2, // record 1: timestamp, priority
+    0xFF, 0xFF, 0xFF, 0xFF, 0x20, 0x9C, 0xCA, 0x80, 0xFE, 0xD4, // longitude, latitude, altitude
+    0x01, 0x67, 7, 0x00, 0x5A, 0x01, 0xFF, 0, 4, // angle, satellites, speed, event ID, total
+    0, 1, 0x00, 0x15, 0x03, // a value of one byte
+    0, 1, 0x01, 0x02, 0x11, 0x12, // of two
+    0, 1, 0x02, 0x03, 0x21, 0x22, 0x23, 0x24, // of four
+    0, 1, 0x03, 0x04, 0x31, 0x32, 0x33, 0x34, 0x35, 0x36, 0x37, 0x38, // of eight
+    0, 2, 0x04, 0x05, 0, 3, b't', b'a', b'g', 0x05, 0x06, 0, 0, // two of variable length
+    2, // count again
+];
+
+const PRIORITY: usize = 48;
+const TOTAL: usize = 67;
+const VARIABLE_COUNT: usize = 100;
+const TAG: usize = 103;
+
+const RECORD: Record = Record {
+    timestamp: 0x0102_0304_0506_0708,
+    priority: 2,
+    longitude: -1,
+    latitude: 547_146_368,
+    altitude: -300,
+    angle: 359,
+    satellites: 7,
+    speed: 90,
+    event: 511,
+    generation: 0,
+    elements: 6,
+};
+
+/// The elements of record 1, with offsets in the data field.
+const VALUES: [Value; 6] = [
+    Value { id: 0x0015, kind: 1, offset: 72, bytes: &[0x03] },
+    Value { id: 0x0102, kind: 2, offset: 77, bytes: &[0x11, 0x12] },
+    Value { id: 0x0203, kind: 4, offset: 83, bytes: &[0x21, 0x22, 0x23, 0x24] },
+    Value { id: 0x0304, kind: 8, offset: 91, bytes: &[0x31, 0x32, 0x33, 0x34, 0x35, 0x36, 0x37, 0x38] },
+    Value { id: 0x0405, kind: 9, offset: 105, bytes: b"tag" },
+    Value { id: 0x0506, kind: 9, offset: 112, bytes: b"" },
+];
+
+fn crc(data: &[u8]) -> u16 {
+    data.iter().fold(0, |crc, byte| {
+        (0..8).fold(crc ^ u16::from(*byte), |c, _| if c & 1 == 1 { c >> 1 ^ 0xA001 } else { c >> 1 })
+    })
+}
+
+/// The TCP packet around a data field. Its block has its exact size, so that a tool sees a read past it.
+fn packet(data: &[u8]) -> Vec<u8> {
+    let length = u32::try_from(data.len()).unwrap();
+    [&[0; 4], &length.to_be_bytes()[..], data, &[0; 2], &crc(data).to_be_bytes()].concat()
+}
+
+/// The datagram around a data field: packet ID 0x1234, unused byte 0x56, AVL packet ID 0x78.
+fn datagram(data: &[u8]) -> Vec<u8> {
+    let length = u16::try_from(data.len() + 21).unwrap();
+    [&length.to_be_bytes()[..], b"\x12\x34\x56\x78\x00\x0F001020304050607", data].concat()
+}
+
+fn with(data: &[u8], place: usize, byte: u8) -> Vec<u8> {
+    let mut changed = data.to_vec();
+    changed[place] = byte;
+    changed
+}
+
+#[test]
+fn fields_stand_in_their_places() {
+    assert_eq!(read_packet(&packet(&DATA)), Ok(Packet { codec: 0x8E, count: 2 }));
+    let read = Datagram {
+        codec: 0x8E,
+        count: 2,
+        imei: 1_020_304_050_607,
+        packet_id: 0x1234,
+        unused: 0x56,
+        avl_packet_id: 0x78,
+    };
+    assert_eq!(read_datagram(&datagram(&DATA)), Ok(read));
+    assert_eq!(record_in_packet(&packet(&DATA), 1), Ok(RECORD));
+    assert_eq!(record_in_datagram(&datagram(&DATA), 1), Ok(RECORD));
+    assert_eq!(records_in_packet(&packet(&DATA)).unwrap().last(), Some(RECORD));
+    assert_eq!(records_in_datagram(&datagram(&DATA)).unwrap().last(), Some(RECORD));
+    assert_eq!(record_in_packet(samples::CODEC16, 0).map(|r| (r.event, r.generation)), Ok((11, 5)));
+}
+
+#[test]
+fn values_are_views_of_the_input() {
+    let (packet, datagram) = (packet(&DATA), datagram(&DATA));
+    let moved = |by| VALUES.map(|v| Value { offset: v.offset + by, ..v });
+    assert_eq!(values_in_packet(&packet, 1).unwrap().collect::<Vec<_>>(), moved(8));
+    assert_eq!(values_in_datagram(&datagram, 1).unwrap().collect::<Vec<_>>(), moved(23));
+    assert_eq!(values_in_packet(&packet, 0).unwrap().len(), 0);
+    for value in moved(8) {
+        assert_eq!(packet[value.offset..][..value.bytes.len()], *value.bytes);
+        assert_eq!(id_in_packet(&packet, 1, value.id), Ok(value));
+    }
+    for value in moved(23) {
+        assert_eq!(id_in_datagram(&datagram, 1, value.id), Ok(value));
+    }
+}
+
+#[test]
+fn the_last_known_value_says_its_packet() {
+    let newer = packet(&DATA);
+    let found = |source, id| last_known(&newer, samples::CODEC8, id).map(|k| (k.source == source, k.value));
+    let tag = Value { offset: 113, ..VALUES[4] };
+    assert_eq!(found(Source::Newer, 0x0405), Ok((true, tag)));
+    let voltage = Value { id: 66, kind: 2, offset: 43, bytes: &[0x5E, 0x0F] };
+    assert_eq!(found(Source::Older, 66), Ok((true, voltage)));
+    assert_eq!(found(Source::Older, 67), Err(Refusal { number: 16, record: None }));
+}
+
+#[test]
+fn a_refusal_says_its_record() {
+    let priority = with(&DATA, PRIORITY, 3);
+    let (p, d) = (&packet(&priority)[..], &datagram(&priority)[..]);
+    let refusal = Refusal { number: 10, record: Some(1) };
+    let out = &mut [0; 512][..];
+    assert_eq!(read_packet(p).err(), Some(refusal));
+    assert_eq!(read_datagram(d).err(), Some(refusal));
+    assert_eq!(record_in_packet(p, 0).err(), Some(refusal));
+    assert_eq!(record_in_datagram(d, 0).err(), Some(refusal));
+    assert_eq!(value_in_packet(p, 1, 0).err(), Some(refusal));
+    assert_eq!(value_in_datagram(d, 1, 0).err(), Some(refusal));
+    assert_eq!(id_in_packet(p, 1, 21).err(), Some(refusal));
+    assert_eq!(id_in_datagram(d, 1, 21).err(), Some(refusal));
+    assert_eq!(records_in_packet(p).err(), Some(refusal));
+    assert_eq!(records_in_datagram(d).err(), Some(refusal));
+    assert_eq!(values_in_packet(p, 0).err(), Some(refusal));
+    assert_eq!(values_in_datagram(d, 0).err(), Some(refusal));
+    assert_eq!(last_known(p, samples::CODEC8, 21).err(), Some(refusal));
+    assert_eq!(last_known(samples::CODEC8, p, 67).err(), Some(refusal));
+    assert_eq!(form_of_packet(p, out), Err(refusal));
+    assert_eq!(form_of_datagram(d, out), Err(refusal));
+    assert_eq!(acknowledge_datagram(d, out), Err(refusal));
+    assert_eq!(out, [0; 512]);
+}
+
+#[test]
+fn refusals_8_to_12_go_with_a_record() {
+    let codec16 = &samples::CODEC16[8..103];
+    let over_255_bytes = [&DATA[..TAG], &[0, 203], &[0; 203], &DATA[TAG + 5..]].concat();
+    let refused = [
+        (8, with(&DATA, VARIABLE_COUNT, 3)),
+        (9, with(&DATA, TOTAL, 5)),
+        (10, with(&DATA, PRIORITY, 3)),
+        (11, with(codec16, 74, 8)),
+        (12, over_255_bytes),
+    ];
+    for (number, data) in refused {
+        assert_eq!(read_packet(&packet(&data)), Err(Refusal { number, record: Some(1) }));
+        assert_eq!(read_datagram(&datagram(&data)), Err(Refusal { number, record: Some(1) }));
+    }
+}
+
+#[test]
+fn a_command_has_no_records() {
+    let type_missing = packet(&[0x0C, 0x01, 0x01]);
+    assert_eq!(read_command(&type_missing), Err(Refusal { number: 8, record: None }));
+}
+
+#[test]
+fn commands_are_read_as_they_were_written() {
+    let out = &mut vec![0; 28][..];
+    assert_eq!(write_command(0x0E, 0x11, b"352093081452251", b"", out), Ok(28));
+    let read = Command { codec: 0x0E, message_type: 0x11, imei: 352_093_081_452_251, offset: 23, text: b"" };
+    assert_eq!(read_command(out), Ok(read));
+}
+
+/// A writer on a fixed input, and the result that it writes.
+type Writer<'a> = (&'a dyn Fn(&mut [u8]) -> Result<usize, Refusal>, &'a [u8]);
+
+#[test]
+fn writers_keep_to_their_result() {
+    let (packet, datagram) = (packet(&DATA), datagram(&DATA));
+    let mut form = [0; 4096];
+    let size = form_of_packet(&packet, &mut form).unwrap();
+    let form = &form[..size];
+    let writers: [Writer; 8] = [
+        (&|out| answer_login(samples::LOGIN, true, out), &[1]),
+        (&|out| answer_login(samples::LOGIN, false, out), &[0]),
+        (&|out| acknowledge_packet(&packet, out), &[0, 0, 0, 2]),
+        (&|out| acknowledge_datagram(&datagram, out), &[0x00, 0x05, 0x12, 0x34, 0x56, 0x78, 2]),
+        (&|out| write_command(0x0C, 0x05, b"", b"getio", out), samples::CODEC12_COMMAND),
+        (&|out| form_of_packet(&packet, out), form),
+        (&|out| form_of_datagram(&datagram, out), form),
+        (&|out| packet_of_form(form, out), &packet),
+    ];
+    for (n, (write, result)) in writers.iter().enumerate() {
+        let mut short = vec![0xEE; result.len() - 1];
+        assert_eq!(write(&mut short), Err(Refusal { number: 18, record: None }), "writer {n}");
+        assert_eq!(short, vec![0xEE; result.len() - 1], "writer {n}, buffer too short");
+        for more in [0, 3] {
+            let mut out = vec![0xEE; result.len() + more];
+            assert_eq!(write(&mut out), Ok(result.len()), "writer {n}");
+            assert_eq!(out, [result, &[0xEE; 3][..more]].concat(), "writer {n}, {more} bytes more");
+        }
+    }
+}
+
+/// The TLV form of codec 8 with five records: the last with so many values of one byte and one of two bytes, the others
+/// with as many of one byte as a record has room for.
+fn long_form(last: usize) -> Vec<u8> {
+    let mut form = vec![1, 0, 100, 0, 0x08];
+    for count in [112, 112, 112, 112, last] {
+        form.extend([27, 0, 101, 0]);
+        form.extend([0; 27]);
+        form.extend([3, 0, 1, 0, 9, 0, 5].repeat(count));
+    }
+    form.extend([4, 0, 2, 0, 9, 0, 5, 6]);
+    form
+}
+
+#[test]
+fn the_longest_form_fits_its_buffer() {
+    // Values of one byte in codec 8 grow most; this packet has no room for a byte more.
+    let form = long_form(108);
+    assert_eq!(form.len(), 4060);
+    let mut packet = vec![0; 1280];
+    assert_eq!(packet_of_form(&form, &mut packet), Ok(1280));
+    let mut again = vec![0; 4060];
+    assert_eq!(form_of_packet(&packet, &mut again), Ok(4060));
+    assert_eq!(again, form);
+    assert_eq!(packet_of_form(&long_form(109), &mut packet), Err(Refusal { number: 17, record: None }));
+}
+
+#[test]
+fn empty_inputs_get_their_refusals() {
+    let number = |refusal: Refusal| refusal.number;
+    assert_eq!(read_datagram(&[]).map_err(number), Err(1));
+    assert_eq!(read_login(&[]).map_err(number), Err(1));
+    assert_eq!(packet_of_form(&[], &mut []).map_err(number), Err(17));
+    assert_eq!(acknowledge_packet(&[], &mut []).map_err(number), Err(18));
+    assert_eq!(answer_login(&[], true, &mut []).map_err(number), Err(18));
+}
+
+#[test]
+fn all_samples_are_accepted() {
+    use samples::*;
+    for packet in [CODEC8, CODEC8E, CODEC16] {
+        assert!(read_packet(packet).is_ok());
+    }
+    for command in [CODEC12_COMMAND, CODEC12_RESPONSE, CODEC14_COMMAND, CODEC14_RESPONSE] {
+        assert!(read_command(command).is_ok());
+    }
+    for datagram in [UDP_CODEC8, UDP_CODEC8E] {
+        assert!(read_datagram(datagram).is_ok());
+    }
+    assert!(read_login(LOGIN).is_ok());
+}
+
+#[test]
+fn meanings_are_those_of_the_header() {
+    let header = include_str!("../../include/brundilope.h");
+    for number in 1..=18 {
+        let meaning = Refusal { number, record: None }.meaning();
+        let line = format!("\n *   {number:2}  {meaning}\n");
+        assert!(header.contains(&line), "not in the header: {line}");
+    }
+    assert_eq!(Refusal { number: 0, record: None }.meaning(), Refusal { number: 19, record: None }.meaning());
+}
