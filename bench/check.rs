@@ -11,8 +11,8 @@ pub struct Check {
 }
 
 impl Check {
-    fn note(&mut self, number: u8) {
-        self.refusals[usize::from(number).min(18)] += 1;
+    fn note(&mut self, number: usize) {
+        self.refusals[number.min(18)] += 1;
     }
 
     /// Stops if an answer differs from the library's.

@@ -7,7 +7,7 @@ macro_rules! answer {
         #[repr(C)]
         #[derive(Clone, Copy, Debug, Default, PartialEq, Eq)]
         pub struct $name {
-            pub number: u8,
+            pub number: usize,
             pub index: usize,
             $(pub $field: $type),*
         }
@@ -90,7 +90,7 @@ macro_rules! shape {
             fn from(a: Answer<$from>) -> Self {
                 match a {
                     Ok($value) => $answer { number: 0, index: 0, $($field: $e),* },
-                    Err(r) => $answer { number: r.number, index: r.index, ..Default::default() },
+                    Err(r) => $answer { number: usize::from(r.number), index: r.index, ..Default::default() },
                 }
             }
         }
