@@ -593,7 +593,7 @@ def command_texts():
                  tcp(command_field(0x0E, 4)), tcp(command_field(0x0E, size=1)),
                  tcp(command_field(0x0E, imei=bytes([16] * 8)))):
         yield "text", f"command_text {shown(data)}", "bytes -"
-    for data, _ in ((b"", 1), (LOGIN[:-1], 1), (LOGIN + b"0", 4), (changed(LOGIN, 9, 65), 15)):
+    for data in (b"", LOGIN[:-1], LOGIN + b"0", changed(LOGIN, 9, 65)):
         yield "answer", f"answer_login {shown(data)} 1 eeee", "written 1 00ee"
         yield "answer", f"answer_login {shown(data)} 1 -", "refused 18 0 -"
 
