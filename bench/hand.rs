@@ -8,7 +8,7 @@ pub struct Refusal {
 
 pub type Answer<T> = Result<T, Refusal>;
 
-const fn no(number: u8) -> Refusal {
+pub const fn no(number: u8) -> Refusal {
     Refusal { number, index: 0 }
 }
 
@@ -59,7 +59,7 @@ pub struct Value {
 // ---- codecs
 
 /// The widths of one codec.
-trait Codec {
+pub trait Codec {
     const EVENT: usize;
     const GENERATION: usize;
     const COUNT: usize;
@@ -71,9 +71,9 @@ trait Codec {
     const LEAST: usize = Self::GROUPS + Self::COUNT * (4 + Self::VARIABLE as usize);
 }
 
-struct Codec8;
-struct Codec8E;
-struct Codec16;
+pub struct Codec8;
+pub struct Codec8E;
+pub struct Codec16;
 
 impl Codec for Codec8 {
     const EVENT: usize = 1;
@@ -111,7 +111,7 @@ fn number(b: &[u8], at: usize, width: usize) -> Option<usize> {
 
 // ---- frame
 
-fn crc(data: &[u8]) -> u16 {
+pub fn crc(data: &[u8]) -> u16 {
     let mut c = 0u16;
     for &b in data {
         c ^= u16::from(b);
@@ -327,6 +327,34 @@ pub fn acknowledge_datagram(p: &[u8], out: &mut [u8]) -> Answer<usize> {
 
 // ---- commands
 
+/// The number of sixteen digits, two a byte, the first of them 0.
+fn imei_of_packed(digits: &[u8; 8]) -> Option<u64> {
+    if digits[0] > 9 {
+        return None;
+    }
+    let mut imei = 0;
+    for d in digits {
+        let (high, low) = (d >> 4, d & 15);
+        if high > 9 || low > 9 {
+            return None;
+        }
+        imei = imei * 100 + u64::from(high * 10 + low);
+    }
+    Some(imei)
+}
+
+/// Fifteen ASCII digits as sixteen, two a byte.
+fn packed_of_digits(imei: &[u8]) -> Option<[u8; 8]> {
+    if imei.len() != 15 || !imei.iter().all(u8::is_ascii_digit) {
+        return None;
+    }
+    let mut packed = [imei[0] & 15; 8];
+    for (b, pair) in packed[1..].iter_mut().zip(imei[1..].chunks_exact(2)) {
+        *b = (pair[0] & 15) << 4 | pair[1] & 15;
+    }
+    Some(packed)
+}
+
 #[inline(never)]
 pub fn read_command(p: &[u8]) -> Answer<Command> {
     let data = frame(p)?;
@@ -356,17 +384,9 @@ pub fn read_command(p: &[u8]) -> Answer<Command> {
     let Some((digits, text)) = rest.split_first_chunk::<8>() else {
         return Err(no(14));
     };
-    if digits[0] > 9 {
+    let Some(imei) = imei_of_packed(digits) else {
         return Err(no(15));
-    }
-    let mut imei = 0;
-    for d in digits {
-        let (high, low) = (d >> 4, d & 15);
-        if high > 9 || low > 9 {
-            return Err(no(15));
-        }
-        imei = imei * 100 + u64::from(high * 10 + low);
-    }
+    };
     if kind == 0x11 && !text.is_empty() {
         return Err(no(14));
     }
@@ -381,22 +401,11 @@ pub fn write_command(codec: u8, kind: u8, imei: &[u8], text: &[u8], out: &mut [u
     if !(kind == 5 || kind == 6 || kind == 0x11 && codec == 0x0E) {
         return Err(no(13));
     }
-    let mut packed = [0; 8];
-    let imei_bytes = if codec == 0x0C {
-        if !imei.is_empty() {
-            return Err(no(15));
-        }
-        &packed[..0]
-    } else {
-        if imei.len() != 15 || !imei.iter().all(u8::is_ascii_digit) {
-            return Err(no(15));
-        }
-        packed[0] = imei[0] & 15;
-        for (b, pair) in packed[1..].iter_mut().zip(imei[1..].chunks_exact(2)) {
-            *b = (pair[0] & 15) << 4 | pair[1] & 15;
-        }
-        &packed[..]
+    let packed = if codec == 0x0E { packed_of_digits(imei) } else { imei.is_empty().then_some([0; 8]) };
+    let Some(packed) = packed else {
+        return Err(no(15));
     };
+    let imei_bytes = if codec == 0x0E { &packed[..] } else { &[] };
     if text.len() > 1260 - imei_bytes.len() || kind == 0x11 && !text.is_empty() {
         return Err(no(14));
     }
@@ -612,10 +621,9 @@ fn entries<const SIZE: usize>(pairs: &[u8], id: usize, out: &mut [u8]) {
     }
 }
 
-/// The form of the judged record at the start of `r`; gives the lengths of the record and of its form.
-fn form_of_record<C: Codec>(r: &[u8], out: &mut [u8]) -> Option<(usize, usize)> {
-    let f = fields::<C>(r, 0)?;
-    let e = out.first_chunk_mut::<31>()?;
+/// The entry of a record's fixed fields.
+#[inline]
+pub fn record_entry(f: &Record, e: &mut [u8; 31]) {
     e[..4].copy_from_slice(&[27, 0, 101, 0]);
     e[4..12].copy_from_slice(&f.timestamp.to_le_bytes());
     e[12] = f.priority;
@@ -627,6 +635,48 @@ fn form_of_record<C: Codec>(r: &[u8], out: &mut [u8]) -> Option<(usize, usize)> 
     e[26..28].copy_from_slice(&f.speed.to_le_bytes());
     e[28..30].copy_from_slice(&f.event.to_le_bytes());
     e[30] = f.generation;
+}
+
+/// The entry of a variable value.
+#[inline]
+pub fn variable_entry(id: u16, value: &[u8], e: &mut [u8]) {
+    e[..2].copy_from_slice(&(2 + value.len() as u16).to_le_bytes());
+    e[2..4].copy_from_slice(&[9, 0]);
+    e[4..6].copy_from_slice(&id.to_le_bytes());
+    e[6..].copy_from_slice(value);
+}
+
+/// The entries of the variable group at `at`; gives where it ends, and the length of its entries.
+#[inline]
+fn variable_entries<C: Codec>(r: &[u8], mut at: usize, out: &mut [u8]) -> Option<(usize, usize)> {
+    let mut to = 0;
+    let count = number(r, at, C::COUNT)?;
+    at += C::COUNT;
+    for _ in 0..count {
+        let id = number(r, at, C::ID)? as u16;
+        let size = number(r, at + C::ID, 2)?;
+        at += C::ID + 2;
+        variable_entry(id, r.get(at..at + size)?, out.get_mut(to..to + 6 + size)?);
+        at += size;
+        to += 6 + size;
+    }
+    Some((at, to))
+}
+
+/// The entries of the fixed group with values of this size.
+#[inline]
+pub fn fixed_entries(size: usize, pairs: &[u8], id: usize, out: &mut [u8]) {
+    match size {
+        1 => entries::<1>(pairs, id, out),
+        2 => entries::<2>(pairs, id, out),
+        4 => entries::<4>(pairs, id, out),
+        _ => entries::<8>(pairs, id, out),
+    }
+}
+
+/// The form of the judged record at the start of `r`; gives the lengths of the record and of its form.
+fn form_of_record<C: Codec>(r: &[u8], out: &mut [u8]) -> Option<(usize, usize)> {
+    record_entry(&fields::<C>(r, 0)?, out.first_chunk_mut::<31>()?);
     let (mut at, mut to) = (C::GROUPS, 31);
     for size in [1, 2, 4, 8] {
         let count = number(r, at, C::COUNT)?;
@@ -635,28 +685,11 @@ fn form_of_record<C: Codec>(r: &[u8], out: &mut [u8]) -> Option<(usize, usize)> 
         let here = out.get_mut(to..to + count * (6 + size))?;
         at += pairs.len();
         to += here.len();
-        match size {
-            1 => entries::<1>(pairs, C::ID, here),
-            2 => entries::<2>(pairs, C::ID, here),
-            4 => entries::<4>(pairs, C::ID, here),
-            _ => entries::<8>(pairs, C::ID, here),
-        }
+        fixed_entries(size, pairs, C::ID, here);
     }
     if C::VARIABLE {
-        let count = number(r, at, C::COUNT)?;
-        at += C::COUNT;
-        for _ in 0..count {
-            let id = number(r, at, C::ID)? as u16;
-            let size = number(r, at + C::ID, 2)?;
-            at += C::ID + 2;
-            let e = out.get_mut(to..to + 6 + size)?;
-            e[..2].copy_from_slice(&(2 + size as u16).to_le_bytes());
-            e[2..4].copy_from_slice(&[9, 0]);
-            e[4..6].copy_from_slice(&id.to_le_bytes());
-            e[6..].copy_from_slice(r.get(at..at + size)?);
-            at += size;
-            to += 6 + size;
-        }
+        let (end, more) = variable_entries::<C>(r, at, &mut out[to..])?;
+        return Some((end, to + more));
     }
     Some((at, to))
 }
@@ -707,52 +740,63 @@ fn le16(b: &[u8], at: usize) -> Option<usize> {
     Some(usize::from(u16::from_le_bytes([b[0], b[1]])))
 }
 
-/// The entry at `at`: its kind and body.
-fn entry(form: &[u8], at: usize) -> Option<(usize, &[u8])> {
-    let len = le16(form, at)?;
-    let kind = le16(form, at + 2)?;
-    Some((kind, form.get(at + 4..at + 4 + len)?))
+/// The first entry of a form, its kind and body, and what is behind it.
+fn entry(form: &[u8]) -> Option<(usize, &[u8], &[u8])> {
+    let (&[a, b, c, d], rest) = form.split_first_chunk::<4>()?;
+    let (body, rest) = rest.split_at_checked(usize::from(u16::from_le_bytes([a, b])))?;
+    Some((usize::from(u16::from_le_bytes([c, d])), body, rest))
 }
 
-/// Judges the entries after the first; gives the number of records and the length of the data field.
-fn judge_form<C: Codec>(form: &[u8]) -> Option<(u8, usize)> {
-    let mut records = 0;
-    let mut length = 3;
-    let mut record = 0;
-    let mut group = 0;
-    let mut at = 5;
-    while at < form.len() {
-        let (kind, body) = entry(form, at)?;
-        at += 4 + body.len();
+/// What the entries of a form have come to: records, the data field without its last record, that record, its last kind.
+#[derive(Clone, Copy)]
+pub struct FormSums {
+    records: usize,
+    length: usize,
+    record: usize,
+    kind: usize,
+}
+
+impl FormSums {
+    pub const START: FormSums = FormSums { records: 0, length: 3, record: 0, kind: 0 };
+
+    /// One entry more, if it may stand here.
+    #[inline]
+    pub fn with<C: Codec>(mut self, kind: usize, body: &[u8]) -> Option<Self> {
         if kind == 101 {
             let body: &[u8; 27] = body.try_into().ok()?;
             if body[8] > 2 || C::EVENT == 1 && body[25] != 0 || body[26] > if C::GENERATION == 1 { 7 } else { 0 } {
                 return None;
             }
-            records += 1;
-            length += record;
-            record = C::LEAST;
-            group = 1;
+            self = FormSums { records: self.records + 1, length: self.length + self.record, record: C::LEAST, kind: 1 };
         } else {
-            if kind < group || group == 0 || C::ID == 1 && *body.get(1)? != 0 {
+            if kind < self.kind || self.kind == 0 || C::ID == 1 && *body.get(1)? != 0 {
                 return None;
             }
             match kind {
-                1 | 2 | 4 | 8 if body.len() == 2 + kind => record += C::ID + kind,
-                9 if C::VARIABLE && body.len() >= 2 => record += C::ID + body.len(),
+                1 | 2 | 4 | 8 if body.len() == 2 + kind => self.record += C::ID + kind,
+                9 if C::VARIABLE && body.len() >= 2 => self.record += C::ID + body.len(),
                 _ => return None,
             }
-            group = kind;
+            self.kind = kind;
         }
-        if record > 255 || length + record > 1268 {
-            return None;
-        }
+        (self.record <= 255 && self.length + self.record <= 1268).then_some(self)
     }
-    if records == 0 {
-        return None;
+
+    /// The number of records and the length of the data field. A record has at least 30 bytes, so there are at most 42.
+    pub fn packet(self) -> Option<(u8, usize)> {
+        (self.records > 0).then_some((self.records as u8, self.length + self.record))
     }
-    // a record has at least 30 bytes, so there are at most 42
-    Some((records as u8, length + record))
+}
+
+/// Judges the entries after the first; gives the number of records and the length of the data field.
+fn judge_form<C: Codec>(mut entries: &[u8]) -> Option<(u8, usize)> {
+    let mut sums = FormSums::START;
+    while !entries.is_empty() {
+        let (kind, body, rest) = entry(entries)?;
+        sums = sums.with::<C>(kind, body)?;
+        entries = rest;
+    }
+    sums.packet()
 }
 
 /// Puts a number of one or two bytes, big-endian.
@@ -771,61 +815,78 @@ fn turn<const SIZE: usize>(from: &[u8], to: &mut [u8]) {
     }
 }
 
+/// The fixed fields of an entry's body into a record.
+#[inline]
+fn put_fields<C: Codec>(f: &[u8], r: &mut [u8]) -> Option<()> {
+    turn::<8>(&f[0..8], &mut r[0..8]);
+    r[8] = f[8];
+    turn::<4>(&f[9..13], &mut r[9..13]);
+    turn::<4>(&f[13..17], &mut r[13..17]);
+    turn::<2>(&f[17..19], &mut r[17..19]);
+    turn::<2>(&f[19..21], &mut r[19..21]);
+    r[21] = f[21];
+    turn::<2>(&f[22..24], &mut r[22..24]);
+    put(r, 24, C::EVENT, le16(f, 24)?);
+    if C::GENERATION == 1 {
+        r[24 + C::EVENT] = f[26];
+    }
+    Some(())
+}
+
+/// Entries of one fixed kind into their group: from `at` in the form, to `to` in the packet; gives their number.
+#[inline]
+fn put_group<C: Codec>(form: &[u8], at: &mut usize, out: &mut [u8], to: &mut usize, size: usize) -> Option<usize> {
+    let count_at = *to;
+    *to += C::COUNT;
+    let mut count = 0;
+    while le16(form, *at + 2) == Some(size) {
+        let e = form.get(*at + 4..*at + 6 + size)?;
+        let pair = out.get_mut(*to..*to + C::ID + size)?;
+        put(pair, 0, C::ID, le16(e, 0)?);
+        pair[C::ID..].copy_from_slice(&e[2..]);
+        count += 1;
+        *at += 6 + size;
+        *to += C::ID + size;
+    }
+    put(out, count_at, C::COUNT, count);
+    Some(count)
+}
+
+/// The same for the variable group.
+#[inline]
+fn put_variable<C: Codec>(form: &[u8], at: &mut usize, out: &mut [u8], to: &mut usize) -> Option<()> {
+    let count_at = *to;
+    *to += C::COUNT;
+    let mut count = 0;
+    while let Some((9, e, _)) = form.get(*at..).and_then(entry) {
+        let size = e.len() - 2;
+        put(out, *to, C::ID, le16(e, 0)?);
+        put(out, *to + C::ID, 2, size);
+        *to += C::ID + 2;
+        out.get_mut(*to..*to + size)?.copy_from_slice(&e[2..]);
+        count += 1;
+        *at += 6 + size;
+        *to += size;
+    }
+    put(out, count_at, C::COUNT, count);
+    Some(())
+}
+
 /// The records of a judged form into the space between the counts.
 fn packet_write<C: Codec>(form: &[u8], out: &mut [u8]) -> Option<()> {
-    let mut at = 5;
-    let mut to = 0;
+    let (mut at, mut to) = (5, 0);
     while at < form.len() {
-        let f = form.get(at + 4..at + 31)?;
+        put_fields::<C>(form.get(at + 4..at + 31)?, out.get_mut(to..to + C::GROUPS)?)?;
         at += 31;
-        let r = out.get_mut(to..to + C::GROUPS)?;
-        turn::<8>(&f[0..8], &mut r[0..8]);
-        r[8] = f[8];
-        turn::<4>(&f[9..13], &mut r[9..13]);
-        turn::<4>(&f[13..17], &mut r[13..17]);
-        turn::<2>(&f[17..19], &mut r[17..19]);
-        turn::<2>(&f[19..21], &mut r[19..21]);
-        r[21] = f[21];
-        turn::<2>(&f[22..24], &mut r[22..24]);
-        put(r, 24, C::EVENT, le16(f, 24)?);
-        if C::GENERATION == 1 {
-            r[24 + C::EVENT] = f[26];
-        }
-        let total_at = to + C::GROUPS - C::COUNT;
         to += C::GROUPS;
+        let total_at = to - C::COUNT;
         let mut total = 0;
         for size in [1, 2, 4, 8] {
-            let count_at = to;
-            to += C::COUNT;
-            let mut count = 0;
-            while le16(form, at + 2) == Some(size) {
-                let e = form.get(at + 4..at + 6 + size)?;
-                let pair = out.get_mut(to..to + C::ID + size)?;
-                put(pair, 0, C::ID, le16(e, 0)?);
-                pair[C::ID..].copy_from_slice(&e[2..]);
-                count += 1;
-                at += 6 + size;
-                to += C::ID + size;
-            }
-            put(out, count_at, C::COUNT, count);
-            total += count;
+            total += put_group::<C>(form, &mut at, out, &mut to, size)?;
         }
         put(out, total_at, C::COUNT, total);
         if C::VARIABLE {
-            let count_at = to;
-            to += C::COUNT;
-            let mut count = 0;
-            while let Some((9, e)) = entry(form, at) {
-                let size = e.len() - 2;
-                put(out, to, C::ID, le16(e, 0)?);
-                put(out, to + C::ID, 2, size);
-                to += C::ID + 2;
-                out.get_mut(to..to + size)?.copy_from_slice(&e[2..]);
-                count += 1;
-                at += 6 + size;
-                to += size;
-            }
-            put(out, count_at, C::COUNT, count);
+            put_variable::<C>(form, &mut at, out, &mut to)?;
         }
     }
     Some(())
@@ -833,18 +894,23 @@ fn packet_write<C: Codec>(form: &[u8], out: &mut [u8]) -> Option<()> {
 
 #[inline(never)]
 pub fn packet_of_form(form: &[u8], out: &mut [u8]) -> Answer<usize> {
-    let Some(&[1, 0, 100, 0, codec]) = form.first_chunk::<5>() else {
+    let Some((&[1, 0, 100, 0, codec], entries)) = form.split_first_chunk::<5>() else {
         return Err(no(17));
     };
     let judged = match codec {
-        0x08 => judge_form::<Codec8>(form),
-        0x8E => judge_form::<Codec8E>(form),
-        0x10 => judge_form::<Codec16>(form),
+        0x08 => judge_form::<Codec8>(entries),
+        0x8E => judge_form::<Codec8E>(entries),
+        0x10 => judge_form::<Codec16>(entries),
         _ => None,
     };
     let Some((records, length)) = judged else {
         return Err(no(17));
     };
+    write_packet(form, codec, records, length, out)
+}
+
+/// The packet of a judged form, with its number of records and the length of its data field.
+pub fn write_packet(form: &[u8], codec: u8, records: u8, length: usize, out: &mut [u8]) -> Answer<usize> {
     let Some(out) = out.get_mut(..length + 12) else {
         return Err(no(18));
     };

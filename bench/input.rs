@@ -1,5 +1,7 @@
 //! Valid inputs of every kind, made at random, and damages to them.
 
+use crate::hand::crc;
+
 pub struct Random(pub u64);
 
 impl Random {
@@ -23,11 +25,6 @@ impl Random {
     pub fn digits(&mut self, n: usize) -> Vec<u8> {
         (0..n).map(|_| b'0' + self.below(10) as u8).collect()
     }
-}
-
-fn crc(data: &[u8]) -> u16 {
-    data.iter()
-        .fold(0, |c, &b| (0..8).fold(c ^ u16::from(b), |c, _| if c & 1 != 0 { (c >> 1) ^ 0xA001 } else { c >> 1 }))
 }
 
 /// A TCP packet around a data field.
@@ -57,6 +54,56 @@ pub struct Data {
     pub last_id: u16,
 }
 
+/// An element: kind, ID and value.
+type Element = (usize, u16, Vec<u8>);
+
+/// Elements of at most `room` bytes, their IDs of `id` bytes each, no ID twice, in packet order.
+fn elements(random: &mut Random, codec: u8, id: usize, mut room: usize) -> Vec<Element> {
+    let mut all: Vec<Element> = vec![];
+    while room > id {
+        let variable = codec == 0x8E && (all.is_empty() || random.below(6) == 0);
+        let kind = if variable { 9 } else { [1, 1, 1, 2, 2, 4, 8][random.below(7)] };
+        let len = if variable { room.saturating_sub(4).min(random.below(20)) } else { kind };
+        let space = id + len + if variable { 2 } else { 0 };
+        let new = random.next() as u16 & if id == 1 { 0xFF } else { 0xFFFF };
+        if space <= room && all.iter().all(|e| e.1 != new) {
+            room -= space;
+            all.push((kind, new, random.bytes(len)));
+        }
+    }
+    all.sort_by_key(|e| e.0);
+    all
+}
+
+/// A number of one or two bytes.
+fn put(b: &mut Vec<u8>, width: usize, n: usize) {
+    b.extend(&(n as u16).to_be_bytes()[2 - width..]);
+}
+
+/// A record with these elements, its counts of `count` bytes.
+fn record(random: &mut Random, b: &mut Vec<u8>, codec: u8, id: usize, count: usize, elements: &[Element]) {
+    b.extend(random.bytes(8));
+    b.push(random.below(3) as u8);
+    b.extend(random.bytes(15 + id));
+    if codec == 0x10 {
+        b.push(random.below(8) as u8);
+    }
+    put(b, count, elements.iter().filter(|e| e.0 != 9).count());
+    for kind in [1, 2, 4, 8, 9] {
+        if kind == 9 && codec != 0x8E {
+            break;
+        }
+        put(b, count, elements.iter().filter(|e| e.0 == kind).count());
+        for e in elements.iter().filter(|e| e.0 == kind) {
+            put(b, id, usize::from(e.1));
+            if kind == 9 {
+                put(b, 2, e.2.len());
+            }
+            b.extend(&e.2);
+        }
+    }
+}
+
 /// A data field of `from` to `to` bytes, or a few fewer; its records have 60 to `most` bytes.
 pub fn data(random: &mut Random, codec: u8, from: usize, to: usize, most: usize) -> Data {
     let size = random.range(from, to);
@@ -71,55 +118,9 @@ pub fn data(random: &mut Random, codec: u8, from: usize, to: usize, most: usize)
         if out.records > 0 && left < least + id + 5 {
             break;
         }
-        let mut room = if left <= most { left } else { random.range(60, most) };
-        room -= least;
-        // elements: kind, ID and value, no ID twice
-        let mut elements: Vec<(usize, u16, Vec<u8>)> = vec![];
-        loop {
-            let kind = if codec == 0x8E && (elements.is_empty() || random.below(6) == 0) {
-                9
-            } else {
-                [1, 1, 1, 2, 2, 4, 8][random.below(7)]
-            };
-            let len = if kind == 9 { room.saturating_sub(4).min(random.below(20)) } else { kind };
-            let space = id + len + if kind == 9 { 2 } else { 0 };
-            if space > room {
-                if room < id + 1 {
-                    break;
-                }
-                continue;
-            }
-            let new = if id == 1 { random.next() & 0xFF } else { random.next() & 0xFFFF } as u16;
-            if elements.iter().any(|e| e.1 == new) {
-                continue;
-            }
-            room -= space;
-            elements.push((kind, new, random.bytes(len)));
-        }
-        elements.sort_by_key(|e| e.0);
-        let b = &mut out.bytes;
-        b.extend(random.bytes(8));
-        b.push(random.below(3) as u8);
-        b.extend(random.bytes(15));
-        b.extend(random.bytes(id));
-        if codec == 0x10 {
-            b.push(random.below(8) as u8);
-        }
-        let put = |b: &mut Vec<u8>, width: usize, n: usize| b.extend(&(n as u16).to_be_bytes()[2 - width..]);
-        put(b, count, elements.iter().filter(|e| e.0 != 9).count());
-        for kind in [1, 2, 4, 8, 9] {
-            if kind == 9 && codec != 0x8E {
-                break;
-            }
-            put(b, count, elements.iter().filter(|e| e.0 == kind).count());
-            for e in elements.iter().filter(|e| e.0 == kind) {
-                put(b, id, usize::from(e.1));
-                if kind == 9 {
-                    put(b, 2, e.2.len());
-                }
-                b.extend(&e.2);
-            }
-        }
+        let room = if left <= most { left } else { random.range(60, most) };
+        let elements = elements(random, codec, id, room - least);
+        record(random, &mut out.bytes, codec, id, count, &elements);
         out.records += 1;
         out.elements = elements.len();
         out.last_id = elements.last().map_or(0, |e| e.1);
@@ -174,46 +175,32 @@ pub fn damage(random: &mut Random, b: &mut Vec<u8>) {
 /// Damages to what the walk judges: head, counts, total, priority and such, and left-over or missing bytes.
 pub fn damage_data(random: &mut Random, d: &mut Vec<u8>) {
     let end = d.len().saturating_sub(1);
-    match random.below(8) {
+    let style = random.below(8);
+    match style {
         0 => damage(random, d),
-        1 if end > 2 => {
-            // another codec over the same bytes
-            d[0] = [0x08, 0x8E, 0x10, 0x0C, 0x0E, 0x07][random.below(6)];
-        }
-        2 if end > 2 => {
+        _ if end <= 40 => d.truncate(end),
+        // another codec over the same bytes
+        1 => d[0] = [0x08, 0x8E, 0x10, 0x0C, 0x0E, 0x07][random.below(6)],
+        2 => {
             let n = d[1].wrapping_add(random.below(3) as u8).wrapping_sub(1);
             d[1] = n;
             d[end] = n;
         }
-        3 if end > 2 => {
-            // bytes lost before the second count
-            let from = random.range(2, end);
-            d.drain(from..end);
+        // bytes lost before the second count
+        3 => drop(d.drain(random.range(2, end)..end)),
+        4 => {
+            let more: Vec<_> = (0..random.below(20)).map(|_| random.below(4) as u8).collect();
+            d.splice(end..end, more);
         }
-        4 if end > 2 => {
-            let more = random.below(20);
-            for _ in 0..more {
-                d.insert(end, random.below(4) as u8);
+        // a byte of the first record's head or counts
+        5 => d[random.range(2, 40)] = random.below(10) as u8,
+        6 => {
+            // total and one count raised together, in the first record
+            for at in [random.range(26, 30), random.range(26, 32)] {
+                d[at] = d[at].wrapping_add(1);
             }
         }
-        5 if end > 32 => {
-            // a byte of the first record's head or counts
-            let at = random.range(2, 40.min(end));
-            d[at] = random.below(10) as u8;
-        }
-        6 if end > 40 => {
-            // total and one count raised or lowered together, in the first record
-            let at = random.range(26, 30);
-            d[at] = d[at].wrapping_add(1);
-            let at = random.range(26, 32);
-            d[at] = d[at].wrapping_add(1);
-        }
-        _ => {
-            if end > 2 {
-                let at = random.range(2, end - 1);
-                d[at] = [0, 1, 2, 3, 7, 8, 255][random.below(7)];
-            }
-        }
+        _ => d[random.range(2, end - 1)] = [0, 1, 2, 3, 7, 8, 255][random.below(7)],
     }
 }
 
@@ -229,53 +216,50 @@ pub fn entries(form: &[u8]) -> Vec<Vec<u8>> {
     all
 }
 
+/// Damages one entry: its kind, a byte, its length and body, or only its body.
+fn damage_entry(random: &mut Random, e: &mut Vec<u8>) {
+    match random.below(4) {
+        0 => {
+            if let Some(b) = e.get_mut(2) {
+                *b = [1, 2, 4, 8, 9, 100, 101, 0, 3][random.below(9)];
+            }
+        }
+        1 => {
+            let at = random.below(e.len().max(1));
+            if let Some(b) = e.get_mut(at) {
+                *b = random.below(10) as u8;
+            }
+        }
+        2 => {
+            let size = random.below(260);
+            e.resize(4 + size, 0);
+            e[..2].copy_from_slice(&(size as u16).to_le_bytes());
+        }
+        _ => {
+            let at = random.range(4, 30).min(e.len().saturating_sub(1));
+            if at >= 4 {
+                e[at] = [0, 1, 2, 3, 255][random.below(5)];
+            }
+        }
+    }
+}
+
 /// Damages to a form: its entries moved, lost, doubled or changed, or any bytes.
 pub fn damage_form(random: &mut Random, form: &mut Vec<u8>) {
     let mut all = entries(form);
     for _ in 0..random.range(1, 2) {
-        let n = all.len();
-        if n == 0 {
+        if all.is_empty() {
             break;
         }
-        let (i, j) = (random.below(n), random.below(n));
+        let (i, j) = (random.below(all.len()), random.below(all.len()));
+        let e = all[i].clone();
         match random.below(9) {
             0 => all.swap(i, j),
             1 => drop(all.remove(i)),
-            2 => {
-                let e = all[i].clone();
-                all.insert(j, e);
-            }
-            3 => {
-                let e = all[i].clone();
-                all.insert(i, e);
-            }
-            4 => {
-                if let Some(b) = all[i].get_mut(2) {
-                    *b = [1, 2, 4, 8, 9, 100, 101, 0, 3][random.below(9)];
-                }
-            }
-            5 => {
-                let at = random.below(all[i].len().max(1));
-                if let Some(b) = all[i].get_mut(at) {
-                    *b = random.below(10) as u8;
-                }
-            }
-            6 => all.truncate(i),
-            7 => {
-                // a longer or shorter body with a fitting length
-                let e = &mut all[i];
-                let size = random.below(260);
-                e.resize(4 + size, 0);
-                e[..2].copy_from_slice(&(size as u16).to_le_bytes());
-            }
-            _ => {
-                // only changes that keep it a form
-                let e = &mut all[i];
-                let at = random.range(4, 30).min(e.len().saturating_sub(1));
-                if at >= 4 {
-                    e[at] = [0, 1, 2, 3, 255][random.below(5)];
-                }
-            }
+            2 => all.insert(j, e),
+            3 => all.insert(i, e),
+            4 => all.truncate(i),
+            _ => damage_entry(random, &mut all[i]),
         }
     }
     *form = all.concat();

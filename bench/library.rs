@@ -7,7 +7,7 @@ macro_rules! answer {
         #[repr(C)]
         #[derive(Clone, Copy, Debug, Default, PartialEq, Eq)]
         pub struct $name {
-            pub number: u8,
+            pub number: usize,
             pub index: usize,
             $(pub $field: $type),*
         }
@@ -37,11 +37,10 @@ answer!(Known { older: bool, id: u16, kind: u8, offset: usize, size: usize });
 
 /// Safe wrappers of C calls that take byte strings, then other values, then perhaps a buffer.
 macro_rules! calls {
-    ($($cfg:meta: $name:ident = $symbol:ident($($arg:ident: $type:tt),*) -> $answer:ty;)*) => {
-        $(calls!(@one $cfg, $name, $symbol, $answer, [$($arg: $type),*], [], [], []);)*
+    ($($name:ident = $symbol:ident($($arg:ident: $type:tt),*) -> $answer:ty;)*) => {
+        $(calls!(@one $name, $symbol, $answer, [$($arg: $type),*], [], [], []);)*
     };
-    (@one $cfg:meta, $name:ident, $symbol:ident, $answer:ty, [], [$($p:tt)*], [$($c:tt)*], [$($v:tt)*]) => {
-        #[cfg($cfg)]
+    (@one $name:ident, $symbol:ident, $answer:ty, [], [$($p:tt)*], [$($c:tt)*], [$($v:tt)*]) => {
         #[inline(always)]
         pub fn $name($($p)*) -> $answer {
             unsafe extern "C" {
@@ -50,38 +49,38 @@ macro_rules! calls {
             unsafe { $symbol($($v)*) }
         }
     };
-    (@one $cfg:meta, $n:ident, $s:ident, $a:ty, [$arg:ident: bytes $(, $($more:tt)*)?], [$($p:tt)*], [$($c:tt)*], [$($v:tt)*]) => {
-        calls!(@one $cfg, $n, $s, $a, [$($($more)*)?], [$($p)* $arg: &[u8],], [$($c)* $arg: *const u8, _: usize,],
+    (@one $n:ident, $s:ident, $a:ty, [$arg:ident: bytes $(, $($more:tt)*)?], [$($p:tt)*], [$($c:tt)*], [$($v:tt)*]) => {
+        calls!(@one $n, $s, $a, [$($($more)*)?], [$($p)* $arg: &[u8],], [$($c)* $arg: *const u8, _: usize,],
             [$($v)* $arg.as_ptr(), $arg.len(),]);
     };
-    (@one $cfg:meta, $n:ident, $s:ident, $a:ty, [$arg:ident: buffer $(, $($more:tt)*)?], [$($p:tt)*], [$($c:tt)*], [$($v:tt)*]) => {
-        calls!(@one $cfg, $n, $s, $a, [$($($more)*)?], [$($p)* $arg: &mut [u8],], [$($c)* $arg: *mut u8, _: usize,],
+    (@one $n:ident, $s:ident, $a:ty, [$arg:ident: buffer $(, $($more:tt)*)?], [$($p:tt)*], [$($c:tt)*], [$($v:tt)*]) => {
+        calls!(@one $n, $s, $a, [$($($more)*)?], [$($p)* $arg: &mut [u8],], [$($c)* $arg: *mut u8, _: usize,],
             [$($v)* $arg.as_mut_ptr(), $arg.len(),]);
     };
-    (@one $cfg:meta, $n:ident, $s:ident, $a:ty, [$arg:ident: $type:tt $(, $($more:tt)*)?], [$($p:tt)*], [$($c:tt)*], [$($v:tt)*]) => {
-        calls!(@one $cfg, $n, $s, $a, [$($($more)*)?], [$($p)* $arg: $type,], [$($c)* $arg: $type,], [$($v)* $arg,]);
+    (@one $n:ident, $s:ident, $a:ty, [$arg:ident: $type:tt $(, $($more:tt)*)?], [$($p:tt)*], [$($c:tt)*], [$($v:tt)*]) => {
+        calls!(@one $n, $s, $a, [$($($more)*)?], [$($p)* $arg: $type,], [$($c)* $arg: $type,], [$($v)* $arg,]);
     };
 }
 
 calls! {
-    all(): read_packet = brundilope_read_packet(p: bytes) -> Packet;
-    all(): read_datagram = brundilope_read_datagram(p: bytes) -> Datagram;
-    all(): read_login = brundilope_read_login(p: bytes) -> Login;
-    all(): read_command = brundilope_read_command(p: bytes) -> Command;
-    all(): answer_login = brundilope_answer_login(p: bytes, known: bool, out: buffer) -> Written;
-    all(): acknowledge_packet = brundilope_acknowledge_packet(p: bytes, out: buffer) -> Written;
-    all(): acknowledge_datagram = brundilope_acknowledge_datagram(p: bytes, out: buffer) -> Written;
-    all(): write_command = brundilope_write_command(codec: u8, kind: u8, imei: bytes, text: bytes, out: buffer) -> Written;
-    lookups: record_in_packet = brundilope_record_in_packet(p: bytes, record: usize) -> Record;
-    lookups: record_in_datagram = brundilope_record_in_datagram(p: bytes, record: usize) -> Record;
-    lookups: value_in_packet = brundilope_value_in_packet(p: bytes, record: usize, element: usize) -> Value;
-    lookups: value_in_datagram = brundilope_value_in_datagram(p: bytes, record: usize, element: usize) -> Value;
-    lookups: id_in_packet = brundilope_id_in_packet(p: bytes, record: usize, id: u16) -> Value;
-    lookups: id_in_datagram = brundilope_id_in_datagram(p: bytes, record: usize, id: u16) -> Value;
-    lookups: last_known = brundilope_last_known(newer: bytes, older: bytes, id: u16) -> Known;
-    forms: form_of_packet = brundilope_form_of_packet(p: bytes, out: buffer) -> Written;
-    forms: form_of_datagram = brundilope_form_of_datagram(p: bytes, out: buffer) -> Written;
-    forms: packet_of_form = brundilope_packet_of_form(form: bytes, out: buffer) -> Written;
+    read_packet = brundilope_read_packet(p: bytes) -> Packet;
+    read_datagram = brundilope_read_datagram(p: bytes) -> Datagram;
+    read_login = brundilope_read_login(p: bytes) -> Login;
+    read_command = brundilope_read_command(p: bytes) -> Command;
+    answer_login = brundilope_answer_login(p: bytes, known: bool, out: buffer) -> Written;
+    acknowledge_packet = brundilope_acknowledge_packet(p: bytes, out: buffer) -> Written;
+    acknowledge_datagram = brundilope_acknowledge_datagram(p: bytes, out: buffer) -> Written;
+    write_command = brundilope_write_command(codec: u8, kind: u8, imei: bytes, text: bytes, out: buffer) -> Written;
+    record_in_packet = brundilope_record_in_packet(p: bytes, record: usize) -> Record;
+    record_in_datagram = brundilope_record_in_datagram(p: bytes, record: usize) -> Record;
+    value_in_packet = brundilope_value_in_packet(p: bytes, record: usize, element: usize) -> Value;
+    value_in_datagram = brundilope_value_in_datagram(p: bytes, record: usize, element: usize) -> Value;
+    id_in_packet = brundilope_id_in_packet(p: bytes, record: usize, id: u16) -> Value;
+    id_in_datagram = brundilope_id_in_datagram(p: bytes, record: usize, id: u16) -> Value;
+    last_known = brundilope_last_known(newer: bytes, older: bytes, id: u16) -> Known;
+    form_of_packet = brundilope_form_of_packet(p: bytes, out: buffer) -> Written;
+    form_of_datagram = brundilope_form_of_datagram(p: bytes, out: buffer) -> Written;
+    packet_of_form = brundilope_packet_of_form(form: bytes, out: buffer) -> Written;
 }
 
 /// A hand-written answer as the library would give it.
@@ -91,7 +90,7 @@ macro_rules! shape {
             fn from(a: Answer<$from>) -> Self {
                 match a {
                     Ok($value) => $answer { number: 0, index: 0, $($field: $e),* },
-                    Err(r) => $answer { number: r.number, index: r.index, ..Default::default() },
+                    Err(r) => $answer { number: usize::from(r.number), index: r.index, ..Default::default() },
                 }
             }
         }

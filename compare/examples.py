@@ -1,10 +1,13 @@
-"""The published examples as calls: (name, call line, expected answer).
+"""The published examples as calls: (name, call line, expected answer or None).
 
 P1 to P13 are the bench sheet of document 01; compare/vectors/006.txt holds the
-streams of document 006. The expected answers are those of the papers.
+streams of document 006. The expected answers are those of the papers, but for
+TLV forms and the packets behind them, which the reference makes.
 """
 
 import os
+
+import reference
 
 VECTORS = os.path.join(os.path.dirname(os.path.abspath(__file__)), "vectors", "006.txt")
 
@@ -52,46 +55,84 @@ def bench_calls():
     ]
 
 
-def vector_calls(line):
-    """The calls that suit a line of vectors/006.txt: (name, call, expected answer)."""
-    name, kind, text, *told = line.split()
-    text = text.lower()
-    if told[0] == "refused":
-        call = {"tcp": "read_packet", "udp": "read_datagram",
-                "login": "read_login", "command": "read_command"}[kind]
-        return [(name, f"{call} {text}", f"refused {told[1]} 0")]
-    told = dict(zip(told[::2], told[1::2] + [""]))
-    if kind == "login":
-        return [(name, f"read_login {text}", f"accepted {told['imei']}"),
-                (name, f"answer_login {text} 1 ee", "written 1 01"),
-                (name, f"answer_login {text} 0 ee", "written 1 00")]
-    codec = int(told["codec"], 16)
+def refused_calls(name, kind, text, number):
+    """An input that document 01 refuses, in each call that takes it."""
+    answer = f"refused {number} 0"
     if kind == "command":
-        sent = told["text"].lower()
-        imei = told["imei"]
-        start, given = (15, "-") if codec == 0x0C else (23, imei.encode().hex())
-        size = len(text) // 2
-        return [(name, f"read_command {text}",
-                 f"accepted {codec} {int(told['type'], 16)} {imei} {start} {len(sent) // 2}"),
-                (name, f"command_text {text}", f"bytes {sent or '-'}"),
-                (name, f"write_command {codec} {int(told['type'], 16)} {given} {sent or '-'}"
-                       f" {'ee' * size}", f"written {size} {text}")]
-    count = int(told["records"])
-    if kind == "tcp":
-        return [(name, f"read_packet {text}", f"accepted {codec} {count}"),
-                (name, f"acknowledge_packet {text} eeeeeeee", f"written 4 {count:08x}")]
-    data = bytes.fromhex(text)
-    return [(name, f"read_datagram {text}",
-             f"accepted {codec} {count} {data[8:23].decode()} {data[2] * 256 + data[3]}"
-             f" {data[4]} {data[5]}"),
-            (name, f"acknowledge_datagram {text} {'ee' * 7}",
-             f"written 7 0005{text[4:12]}{count:02x}")]
+        return [(name, f"read_command {text}", answer), (name, f"command_text {text}", "bytes -")]
+    calls = [f"read_{kind} {text}", f"record_in_{kind} {text} 0", f"value_in_{kind} {text} 0 0",
+             f"id_in_{kind} {text} 0 1"]
+    return [(name, call, answer) for call in calls] + [
+        (name, f"view_in_{kind} {text} 0 0", "bytes -"), (name, f"id_view_in_{kind} {text} 0 1", "bytes -"),
+        (name, f"form_of_{kind} {text} eeee", answer + " eeee"),
+        (name, f"acknowledge_{kind} {text} {'ee' * 7}",
+         f"{answer} {'ee' * 7}" if kind == "datagram" else "written 4 00000000eeeeee")]
+
+
+def login_calls(name, text, imei):
+    return [(name, f"read_login {text}", f"accepted {imei}"),
+            (name, f"answer_login {text} 1 ee", "written 1 01"),
+            (name, f"answer_login {text} 0 ee", "written 1 00")]
+
+
+def command_calls(name, text, codec, kind, imei, sent=""):
+    codec, kind, sent = int(codec, 16), int(kind, 16), sent.lower()
+    start, given = (15, "-") if codec == 0x0C else (23, imei.encode().hex())
+    size = len(text) // 2
+    return [(name, f"read_command {text}", f"accepted {codec} {kind} {imei} {start} {len(sent) // 2}"),
+            (name, f"command_text {text}", f"bytes {sent or '-'}"),
+            (name, f"write_command {codec} {kind} {given} {sent or '-'} {'ee' * size}", f"written {size} {text}")]
+
+
+def data_calls(name, kind, text, codec, count, reply):
+    """A data packet or datagram: read, acknowledged, turned into its form, and that into a packet."""
+    codec, reply, data = int(codec, 16), reply.lower(), bytes.fromhex(text)
+    accepted = f"accepted {codec} {count}"
+    if kind == "datagram":
+        accepted += f" {data[8:23].decode()} {data[2] * 256 + data[3]} {data[4]} {data[5]}"
+        packet, read = reference.tcp_packet(data[23:]), reference.read_datagram(data)
+    else:
+        packet, read = data, reference.read_packet(data)
+    form = reference.tlv_form(data, read)
+    lent = "ee" * (len(form) + 2)
+    return [(name, f"read_{kind} {text}", accepted),
+            (name, f"acknowledge_{kind} {text} {'ee' * 7}",
+             f"written {len(reply) // 2} {reply}{'ee' * (7 - len(reply) // 2)}"),
+            (name, f"form_of_{kind} {text} {lent}", f"written {len(form)} {form.hex()}eeee"),
+            (name, f"packet_of_form {form.hex()} {'ee' * len(packet)}", f"written {len(packet)} {packet.hex()}"),
+            (name, f"record_in_{kind} {text} {count}", "refused 16 0")]
+
+
+def record_calls(name, kind, text, number, fields, elements):
+    """A record by its number, and each of its values by number and by ID."""
+    values = [item.lower().split("=") for item in elements]
+    calls = [(name, f"record_in_{kind} {text} {number}", f"accepted {' '.join(fields)} {len(values)}"),
+             (name, f"value_in_{kind} {text} {number} {len(values)}", "refused 16 0")]
+    for place, (ident, value) in enumerate(values):
+        for call, word in (("view", place), ("id_view", ident)):
+            calls.append((name, f"{call}_in_{kind} {text} {number} {word}", f"bytes {value}"))
+        for call, word in (("value", place), ("id", ident)):
+            calls.append((name, f"{call}_in_{kind} {text} {number} {word}", None))
+    return calls
+
+
+def vector_calls(lines):
+    """The calls of vectors/006.txt: (name, call, expected answer or None)."""
+    for line in lines:
+        name, kind, *told = line.split()
+        if kind == "record":            # of the line before
+            yield from record_calls(name, side, text, told[0], told[1:11], told[11:])
+            continue
+        side, text, told = kind, told[0].lower(), told[1:]
+        if told[0] == "refused":
+            yield from refused_calls(name, side, text, told[1])
+        else:
+            calls = {"login": login_calls, "command": command_calls}
+            first = (name, text) if side in calls else (name, side, text)
+            yield from calls.get(side, data_calls)(*first, *told[1::2])
 
 
 def published_calls():
-    calls = bench_calls()
+    yield from bench_calls()
     with open(VECTORS, encoding="ascii") as file:
-        for line in file:
-            if line.strip() and not line.startswith("#"):
-                calls += vector_calls(line)
-    return calls
+        yield from vector_calls(line for line in file if line.strip() and not line.startswith("#"))

@@ -83,6 +83,16 @@ class Record:
     def ids(self):
         return [ident for group in self.groups for ident, _ in group]
 
+    def size(self, codec):
+        """The number of bytes that encode gives."""
+        extra = WIDTHS[codec][3]
+        size = LEAST[codec]
+        for place, group in enumerate(self.groups if codec == 0x8E else self.groups[:4]):
+            size += len(group) * (extra + (KINDS[place] if place < 4 else 2))
+            if place == 4:
+                size += sum(len(value) for _, value in group)
+        return size
+
     def encode(self, codec):
         event, generation, count, ident = WIDTHS[codec]
         parts = [self.time, number(self.priority, 1), self.place, number(self.event, event)]
@@ -243,7 +253,7 @@ class Maker:
                 size = least + self.upto(small) if small else self.size(codec)
                 size = min(size, room - least)
             records.append(self.record(codec, max(size, least)))
-            room -= len(records[-1].encode(codec))
+            room -= records[-1].size(codec)
         return records
 
     def records(self, codec, room):
@@ -259,7 +269,7 @@ class Maker:
 
     def fitting(self, codec, records, room, kept=0):
         """As many of the records as fit; the one at kept is not given up."""
-        sizes = [len(record.encode(codec)) for record in records]
+        sizes = [record.size(codec) for record in records]
         while sum(sizes) > room and len(records) > 1:
             place = len(records) - 1 if len(records) - 1 != kept else 0
             if place < kept:
@@ -290,7 +300,7 @@ class Maker:
         item = self.upto(len(record.groups[4])) if self.chance(0.3) else len(record.groups[4]) - 1
         right = len(record.groups[4][item][1])
         after = sum(4 + len(value) for _, value in record.groups[4][item + 1:])
-        later = after + sum(len(other.encode(codec)) for other in records[place + 1:])
+        later = after + sum(other.size(codec) for other in records[place + 1:])
         # later + 1 takes in the second count, later + 5 the CRC field
         record.lengths[item] = right + self.pick((
             1, 1, 2, 4, -1, self.upto(40), 256, later, later + 1, later + 1, later + 2, later + 5, later + 6,
@@ -458,7 +468,7 @@ class Maker:
             records = self.too_long(codec, 15)
         else:
             records = self.records(codec, room)
-        clean = 3 + sum(len(record.encode(codec)) for record in records)
+        clean = 3 + sum(record.size(codec) for record in records)
         field = self.data_field(codec, records, aims, room)
         # the length is repaired in half of the cases, but more often for 8
         left = len(field) != clean and self.chance(0.5 if 0 in aims else 0.15)
@@ -490,7 +500,7 @@ class Maker:
         codec = 0x10 if 11 in aims else self.pick(CODECS)
         room = 2000 if 3 in aims else PACKET_LIMIT - 26
         records = self.too_long(codec, 26) if 3 in aims else self.records(codec, room)
-        clean = 3 + sum(len(record.encode(codec)) for record in records)
+        clean = 3 + sum(record.size(codec) for record in records)
         field = self.data_field(codec, records, aims, room)
         imei = b"\x00\x0f" + self.digits()
         if 15 in aims:
@@ -527,10 +537,8 @@ class Maker:
             return self.bytes(self.upto(most + 1))
         return self.bytes(most - self.pick((0, 0, 0, 1, 2)))
 
-    def command(self, valid=0.4):
-        """A command packet: its bytes."""
-        aims = self.aims(COMMAND_AIMS, valid)
-        codec = 0x0E if 15 in aims else self.pick((0x0C, 0x0E))
+    def command_body(self, codec, aims):
+        """Type, size, and IMEI with text, with damage towards 3, 13, 14 and 15."""
         most = 1252 if codec == 0x0E else 1260
         kind = self.pick((0x05, 0x06, 0x05, 0x06, 0x11) if codec == 0x0E else (0x05, 0x06))
         text = b"" if kind == 0x11 else self.text(most)
@@ -554,6 +562,13 @@ class Maker:
                                -1 - size, -8, -15 - size, -23 - size, self.rng.getrandbits(32)))
         if 13 in aims:
             kind = self.pick((0x00, 0x04, 0x07, 0x10, 0x12, 0x85, 0xFF, 0x11, 0x11, 0x11, self.upto(256)))
+        return kind, size, body
+
+    def command(self, valid=0.4):
+        """A command packet: its bytes."""
+        aims = self.aims(COMMAND_AIMS, valid)
+        codec = 0x0E if 15 in aims else self.pick((0x0C, 0x0E))
+        kind, size, body = self.command_body(codec, aims)
         first = second = 1
         if 7 in aims:
             first, second = self.pick(((2, 2), (2, 1), (1, 2), (0, 0), (0, 1), (1, 0), (255, 1),
@@ -627,7 +642,7 @@ class Maker:
                               self.digits(), self.wrong_digit(self.digits()) + b"7"))
         return f"{codec} {kind} {shown(imei)} {shown(text)} {shown(self.buffer(size))}"
 
-    # ------------------------------------------------------------ house forms
+    # ------------------------------------------------------------ TLV forms
 
     def form_entries(self, codec, records):
         """The entries of a form, each [length, kind, body]."""
@@ -648,7 +663,7 @@ class Maker:
         return entries
 
     def form(self):
-        """A house form and the size of its packet."""
+        """A TLV form and the size of its packet."""
         codec = self.pick(CODECS)
         records = self.records(codec, PACKET_LIMIT - 15)
         style = self.rng.random()
@@ -663,7 +678,7 @@ class Maker:
         record = self.pick(records)
         if damage == "record":
             self.spoil_record(codec, records, record)
-        size = 15 + sum(len(record.encode(codec)) for record in records)
+        size = 15 + sum(record.size(codec) for record in records)
         entries = self.form_entries(codec, records)
         if damage == "entry":
             entries = self.spoil_entries(codec, entries)
@@ -699,38 +714,27 @@ class Maker:
             del records[:]
 
     def spoil_entries(self, codec, entries):
-        """A form with one entry broken."""
+        """A form with one entry broken, moved, lost or doubled."""
         place = self.upto(len(entries))
         chosen = entries[place]
         style = self.upto(13)
-        if style == 0:
-            chosen[0] += self.pick((1, -1, 2, 256, -256, 65535, 4))
-        elif style == 1:
-            chosen[1] = self.pick((0, 1, 2, 3, 4, 5, 8, 9, 10, 16, 99, 100, 101, 102, 255,
-                                   chosen[1] + 256, chosen[1] ^ 0x8000, self.upto(65536)))
-        elif style == 2:
-            body = self.pick((chosen[2] + b"\0", chosen[2][:-1], chosen[2] + self.bytes(4),
-                              chosen[2][:1], b"", chosen[2][1:]))
-            chosen[0], chosen[2] = len(body), body
-        elif style == 3:
-            del entries[place]
-        elif style == 4:
-            entries.insert(place, list(chosen))
+        if style < 5:
+            self.spoil_entry(codec, entries, chosen, style)
         elif style == 5:
-            entries.insert(self.upto(len(entries) + 1), list(chosen))
+            del entries[place]
         elif style == 6:
+            entries.insert(place, list(chosen))
+        elif style == 7:
+            entries.insert(self.upto(len(entries) + 1), list(chosen))
+        elif style == 8:
             other = self.upto(len(entries))
             entries[place], entries[other] = entries[other], chosen
-        elif style == 7:
+        elif style == 9:
             kind = self.pick(KINDS)
             size = 2 + (self.upto(9) if kind == 9 or self.chance(0.3) else kind)
             entries.insert(self.upto(len(entries) + 1), [size, kind, self.bytes(size)])
-        elif style == 8:
-            entries[0][2] = bytes([self.pick(OTHER_CODECS + CODECS)])
-        elif style == 9:
-            entries.append([self.pick((0, 1, 2, 3, 27)), self.pick((1, 9, 101, 100)), b""])
         elif style == 10:
-            entries[0] = [2, 100, bytes([codec, 0])]
+            entries.append([self.pick((0, 1, 2, 3, 27)), self.pick((1, 9, 101, 100)), b""])
         elif style == 11:
             # neighbours of different kinds change places
             for at in range(1, len(entries) - 1):
@@ -741,6 +745,22 @@ class Maker:
             # a value of another width under its old kind, or under a new one
             chosen[1] = self.pick(KINDS)
         return entries
+
+    def spoil_entry(self, codec, entries, chosen, style):
+        """A wrong length, kind, body or codec entry."""
+        if style == 0:
+            chosen[0] += self.pick((1, -1, 2, 256, -256, 65535, 4))
+        elif style == 1:
+            chosen[1] = self.pick((0, 1, 2, 3, 4, 5, 8, 9, 10, 16, 99, 100, 101, 102, 255,
+                                   chosen[1] + 256, chosen[1] ^ 0x8000, self.upto(65536)))
+        elif style == 2:
+            body = self.pick((chosen[2] + b"\0", chosen[2][:-1], chosen[2] + self.bytes(4),
+                              chosen[2][:1], b"", chosen[2][1:]))
+            chosen[0], chosen[2] = len(body), body
+        elif style == 3:
+            entries[0][2] = bytes([self.pick(OTHER_CODECS + CODECS)])
+        else:
+            entries[0] = [2, 100, bytes([codec, 0])]
 
     def form_size(self, codec, records):
         return sum(4 + len(body) for _, _, body in self.form_entries(codec, records))

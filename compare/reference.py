@@ -1,8 +1,7 @@
 #!/usr/bin/env python3
 """A second implementation of the packet rules of document 01.
 
-    python3 reference.py             answers calls from standard input, one a line
-    python3 reference.py --selftest  checks the published examples
+    python3 reference.py     answers calls from standard input, one a line
 
 It is written from the papers alone and is meant to be read beside them.
 Byte strings in a call are lower-case hexadecimal, '-' stands for none.
@@ -26,13 +25,16 @@ WIDTHS = {
 }
 FIXED_KINDS = (1, 2, 4, 8)
 VARIABLE_KIND = 9
+GROUP_FIELDS = {size: tuple(f"{size or 'variable'} {field}" for field in ("count", "ID", "value"))
+                for size in FIXED_KINDS + (None,)}
 
 # The message types that a command codec allows.
 TYPES = {0x0C: (0x05, 0x06), 0x0E: (0x05, 0x06, 0x11)}
 NO_MATCH = 0x11
 
-# House form: the kinds of its first entry and of a record's, and the layout of
-# the latter: the fields of Record but the last, little-endian, 27 bytes.
+# TLV form (document 01 calls it the house form): the kinds of its first entry
+# and of a record's, and the layout of the latter: the fields of Record but the
+# last, little-endian, 27 bytes.
 CODEC_ENTRY = 100
 RECORD_ENTRY = 101
 RECORD_BODY = struct.Struct("<QBiihHBHHB")
@@ -46,11 +48,12 @@ Command = namedtuple("Command", "codec type imei offset size")
 
 
 class Refused(Exception):
-    """A refusal: its number and its record index."""
+    """A refusal: its number and its record index. The place, a field or a part of
+    the rule, is no part of an answer: the comparison counts the places it reached."""
 
-    def __init__(self, number, index=0):
-        super().__init__(number, index)
-        self.number, self.index = number, index
+    def __init__(self, number, index=0, place=""):
+        super().__init__(number, index, place)
+        self.number, self.index, self.place = number, index, place
 
 
 # ---------------------------------------------------------------- numbers
@@ -83,23 +86,27 @@ def crc16(data):
 
 def ascii_imei(data):
     """The number of an IMEI of 15 ASCII digits."""
-    if len(data) != 15 or not all(0x30 <= byte <= 0x39 for byte in data):
-        raise Refused(15)
+    if len(data) != 15:
+        raise Refused(15, place="length")
+    if not all(0x30 <= byte <= 0x39 for byte in data):
+        raise Refused(15, place="digit")
     return int(data)
 
 
 def login_imei(data):
     """The number of an IMEI of 15 ASCII digits after its length."""
     if big(data[:2]) != 15:
-        raise Refused(15)
+        raise Refused(15, place="length")
     return ascii_imei(data[2:])
 
 
 def packed_imei(data):
     """The number of an IMEI of sixteen digits, two a byte, the first of them 0."""
     digits = data.hex()
-    if digits[0] != "0" or not all(digit in "0123456789" for digit in digits):
-        raise Refused(15)
+    if digits[0] != "0":
+        raise Refused(15, place="first digit")
+    if not all(digit in "0123456789" for digit in digits):
+        raise Refused(15, place="digit")
     return int(digits)
 
 
@@ -112,9 +119,9 @@ class Space:
         self.data, self.at, self.end = data, at, end
         self.index = 0          # the record index of a refusal
 
-    def take(self, size):
+    def take(self, size, field):
         if self.end - self.at < size:
-            raise Refused(8, self.index)
+            raise Refused(8, self.index, field)
         start = self.at
         self.at = start + size
         return self.data[start:self.at]
@@ -122,12 +129,13 @@ class Space:
 
 def read_elements(space, widths, size):
     """One group: a count, then its elements. Size None: each with its own length."""
+    count_field, id_field, value_field = GROUP_FIELDS[size]
     elements = []
-    for _ in range(big(space.take(widths.count))):
-        ident = big(space.take(widths.id))
-        length = big(space.take(2)) if size is None else size
+    for _ in range(big(space.take(widths.count, count_field))):
+        ident = big(space.take(widths.id, id_field))
+        length = big(space.take(2, "variable length")) if size is None else size
         offset = space.at
-        space.take(length)
+        space.take(length, value_field)
         elements.append(Element(ident, VARIABLE_KIND if size is None else size, offset, length))
     return elements
 
@@ -135,23 +143,23 @@ def read_elements(space, widths, size):
 def read_record(space, widths, index):
     space.index = index
     start = space.at
-    timestamp = big(space.take(8))
-    priority = big(space.take(1))
+    timestamp = big(space.take(8, "timestamp"))
+    priority = big(space.take(1, "priority"))
     if priority > 2:
         raise Refused(10, index)
-    longitude = signed(space.take(4))
-    latitude = signed(space.take(4))
-    altitude = signed(space.take(2))
-    angle = big(space.take(2))
-    satellites = big(space.take(1))
-    speed = big(space.take(2))
-    event = big(space.take(widths.event))
+    longitude = signed(space.take(4, "longitude"))
+    latitude = signed(space.take(4, "latitude"))
+    altitude = signed(space.take(2, "altitude"))
+    angle = big(space.take(2, "angle"))
+    satellites = big(space.take(1, "satellites"))
+    speed = big(space.take(2, "speed"))
+    event = big(space.take(widths.event, "event ID"))
     generation = 0
     if widths.generation:
-        generation = big(space.take(widths.generation))
+        generation = big(space.take(widths.generation, "generation type"))
         if generation > 7:
             raise Refused(11, index)
-    total = big(space.take(widths.count))
+    total = big(space.take(widths.count, "total"))
     elements = []
     for size in FIXED_KINDS:
         elements += read_elements(space, widths, size)
@@ -173,11 +181,11 @@ def read_data_field(data, start, end):
         raise Refused(6)
     count = data[start + 1]
     if count == 0 or count != data[end - 1]:
-        raise Refused(7)
+        raise Refused(7, place="differ" if count != data[end - 1] else "zero")
     space = Space(data, start + 2, end - 1)
     records = [read_record(space, WIDTHS[codec], index) for index in range(count)]
     if space.at != space.end:
-        raise Refused(8, count)
+        raise Refused(8, count, "left over")
     return codec, records
 
 
@@ -191,11 +199,11 @@ def check_frame(data):
         raise Refused(2)
     length = big(data[4:8])
     if not 3 <= length <= LENGTH_LIMIT:
-        raise Refused(3)
+        raise Refused(3, place="under" if length < 3 else "over")
     if len(data) != length + 12:
-        raise Refused(4)
+        raise Refused(4, place="missing" if len(data) < length + 12 else "too many")
     if big(data[-4:]) != crc16(data[8:-4]):
-        raise Refused(5)
+        raise Refused(5, place="upper" if any(data[-4:-2]) else "lower")
 
 
 def read_packet(data):
@@ -209,7 +217,7 @@ def read_datagram(data):
     if len(data) > PACKET_LIMIT:
         raise Refused(3)
     if len(data) != 2 + big(data[:2]):
-        raise Refused(4)
+        raise Refused(4, place="missing" if len(data) < 2 + big(data[:2]) else "too many")
     imei = login_imei(data[6:23])
     codec, records = read_data_field(data, 23, len(data))
     return Datagram(codec, records, imei, big(data[2:4]), data[4], data[5])
@@ -229,22 +237,22 @@ def read_command(data):
     if codec not in TYPES:
         raise Refused(6)
     if data[9] != 1 or data[-5] != 1:
-        raise Refused(7)
+        raise Refused(7, place="first" if data[9] != 1 else "second")
     space = Space(data, 10, len(data) - 5)
-    kind = big(space.take(1))
+    kind = big(space.take(1, "type"))
     if kind not in TYPES[codec]:
         raise Refused(13)
-    size = big(space.take(4))
+    size = big(space.take(4, "size"))
     if size != space.end - space.at:
-        raise Refused(14)
+        raise Refused(14, place="size")
     imei = 0
     if codec == 0x0E:
         if size < 8:
-            raise Refused(14)
-        imei = packed_imei(space.take(8))
+            raise Refused(14, place="under 8")
+        imei = packed_imei(space.take(8, "IMEI"))
     text = space.end - space.at
     if kind == NO_MATCH and text > 0:
-        raise Refused(14)
+        raise Refused(14, place="text with 11")
     return Command(codec, kind, imei, space.at, text)
 
 
@@ -252,14 +260,14 @@ def read_command(data):
 
 def record_at(packet, number):
     if number >= len(packet.records):
-        raise Refused(16)
+        raise Refused(16, place="record")
     return packet.records[number]
 
 
 def element_at(packet, number, place):
     elements = record_at(packet, number).elements
     if place >= len(elements):
-        raise Refused(16)
+        raise Refused(16, place="element")
     return elements[place]
 
 
@@ -274,7 +282,7 @@ def first_with(record, ident):
 def element_with(packet, number, ident):
     element = first_with(record_at(packet, number), ident)
     if element is None:
-        raise Refused(16)
+        raise Refused(16, place="ID")
     return element
 
 
@@ -284,7 +292,7 @@ def last_known(newer, older, ident):
         element = first_with(read_packet(data).records[-1], ident)
         if element is not None:
             return which, element
-    raise Refused(16)
+    raise Refused(16, place="ID")
 
 
 def part(data, element):
@@ -302,8 +310,8 @@ def entry(kind, body):
     return len(body).to_bytes(2, "little") + kind.to_bytes(2, "little") + body
 
 
-def house_form(data, packet):
-    """The house form of a packet or datagram that was read from data."""
+def tlv_form(data, packet):
+    """The TLV form of a packet or datagram that was read from data."""
     form = [entry(CODEC_ENTRY, bytes([packet.codec]))]
     for record in packet.records:
         form.append(entry(RECORD_ENTRY, RECORD_BODY.pack(*record[:-1])))
@@ -351,7 +359,7 @@ def candidate_record(widths, body, elements):
 
 
 def candidate_packet(form):
-    """The only packet whose house form this can be, or None."""
+    """The only packet whose TLV form this can be, or None."""
     entries = split_form(form)
     if not entries or entries[0][0] != CODEC_ENTRY or len(entries[0][1]) != 1:
         return None
@@ -374,14 +382,14 @@ def candidate_packet(form):
 
 
 def packet_of_form(form):
-    """The packet with this house form. What it is taken for is read back and
+    """The packet with this TLV form. What it is taken for is read back and
     written again: only an accepted packet with the very same form will do."""
     try:
         packet = candidate_packet(form)
     except OverflowError:
         packet = None
     try:
-        if packet is not None and house_form(packet, read_packet(packet)) == form:
+        if packet is not None and tlv_form(packet, read_packet(packet)) == form:
             return packet
     except Refused:
         pass
@@ -398,15 +406,15 @@ def write_command(codec, kind, imei, text):
         ascii_imei(imei)
         packed = bytes.fromhex("0" + imei.decode("ascii"))
     elif imei:
-        raise Refused(15)
+        raise Refused(15, place="length")
     body = packed + text
     field = bytes([codec, 1, kind]) + len(body).to_bytes(4, "big") + body + b"\x01"
     if len(field) > LENGTH_LIMIT or (kind == NO_MATCH and text):
-        raise Refused(14)
+        raise Refused(14, place="over" if len(field) > LENGTH_LIMIT else "text with 11")
     return tcp_packet(field)
 
 
-def packet_receipt(data):
+def packet_acknowledgement(data):
     try:
         count = len(read_packet(data).records)
     except Refused:
@@ -414,7 +422,7 @@ def packet_receipt(data):
     return count.to_bytes(4, "big")
 
 
-def datagram_receipt(data):
+def datagram_acknowledgement(data):
     count = len(read_datagram(data).records)
     return b"\x00\x05" + data[2:6] + bytes([count])
 
@@ -473,7 +481,7 @@ def lookup_view(reader, find):
 
 
 def form_of(reader):
-    return lambda data: house_form(data, reader(data))
+    return lambda data: tlv_form(data, reader(data))
 
 
 # Each call: its sort of answer, the sorts of its words, its function. The last
@@ -496,8 +504,8 @@ CALLS = {
     "id_view_in_datagram": ("view", "PNI", lookup_view(read_datagram, element_with)),
     "last_known": ("read", "PPI", last_known_words),
     "last_known_view": ("view", "PPI", last_known_view),
-    "acknowledge_packet": ("write", "PP", packet_receipt),
-    "acknowledge_datagram": ("write", "PP", datagram_receipt),
+    "acknowledge_packet": ("write", "PP", packet_acknowledgement),
+    "acknowledge_datagram": ("write", "PP", datagram_acknowledgement),
     "answer_login": ("write", "PKP", login_answer),
     "write_command": ("write", "BBPPP", write_command),
     "form_of_packet": ("write", "PP", form_of(read_packet)),
@@ -507,7 +515,6 @@ CALLS = {
 
 # The sorts of words: P bytes; numbers below these bounds.
 BOUNDS = {"N": 1 << 64, "I": 1 << 16, "B": 1 << 8, "K": 2}
-HEX = re.compile(r"(?:[0-9a-f]{2})+")
 DECIMAL = re.compile(r"[0-9]{1,20}")
 
 
@@ -516,17 +523,18 @@ def argument(sort, word):
     if sort == "P":
         if word == "-":
             return b""
-        if not HEX.fullmatch(word):
+        data = bytes.fromhex(word)
+        if data.hex() != word:
             raise ValueError("not lower-case hexadecimal bytes")
-        return bytes.fromhex(word)
+        return data
     if not DECIMAL.fullmatch(word) or int(word) >= BOUNDS[sort]:
         raise ValueError("not a number of this place")
     return int(word)
 
 
 def evaluate(line):
-    """The answer to a call line, and the number of its refusal or None.
-    A view hides its refusal in the answer; the number is given all the same."""
+    """The answer to a call line, and the refusal behind it or None. A view shows
+    no refusal; it is given all the same."""
     words = line.split()
     if not words or words[0] not in CALLS:
         return "error unknown call", None
@@ -545,7 +553,7 @@ def evaluate(line):
         if answered == "view":
             return "bytes " + shown(result), None
         if len(lent) < len(result):
-            raise Refused(18)
+            raise Refused(18, place="by one" if len(lent) == len(result) - 1 else "by more")
         return f"written {len(result)} {shown(result + lent[len(result):])}", None
     except Refused as refusal:
         text = f"refused {refusal.number} {refusal.index}"
@@ -553,7 +561,7 @@ def evaluate(line):
             text = "bytes -"
         elif answered == "write":
             text += " " + shown(lent)
-        return text, refusal.number
+        return text, refusal
 
 
 def answer(line):
@@ -562,33 +570,9 @@ def answer(line):
 
 # ---------------------------------------------------------------- running
 
-def selftest():
-    sys.dont_write_bytecode = True
-    from examples import published_calls
-    calls = published_calls()
-    # Every published TCP data packet comes back from its house form.
-    for name, call, expected in list(calls):
-        if call.startswith("read_packet") and expected.startswith("accepted"):
-            data = bytes.fromhex(call.split()[1])
-            form = house_form(data, read_packet(data)).hex()
-            room = "ee" * (len(data) + 1)
-            calls.append((name, f"packet_of_form {form} {room}",
-                          f"written {len(data)} {data.hex()}ee"))
-    failures = 0
-    for name, call, expected in calls:
-        given = answer(call)
-        if given != expected:
-            failures += 1
-            print(f"{name}: {call}\n  expected {expected}\n  answered {given}")
-    print(f"{len(calls) - failures} passed, {failures} failed")
-    return 1 if failures else 0
-
-
 def main():
-    if sys.argv[1:] == ["--selftest"]:
-        return selftest()
     if sys.argv[1:]:
-        print("usage: reference.py [--selftest]", file=sys.stderr)
+        print("usage: reference.py < calls", file=sys.stderr)
         return 2
     for line in sys.stdin:
         print(answer(line), flush=True)

@@ -1,0 +1,266 @@
+//! The answers of all sides compared, on whole and damaged inputs of every kind.
+
+use crate::input::{self, Random};
+use crate::{combinator, hand, library, CODECS, SIZES};
+use std::fmt::Debug;
+
+#[derive(Default)]
+pub struct Check {
+    pub compared: usize,
+    pub refusals: [usize; 19],
+}
+
+impl Check {
+    fn note(&mut self, number: usize) {
+        self.refusals[number.min(18)] += 1;
+    }
+
+    /// Stops if an answer differs from the library's.
+    fn same<A: PartialEq + Debug>(&mut self, call: &str, side: &str, library: &A, other: &A, inputs: &[&dyn Debug]) {
+        self.compared += 1;
+        if library != other {
+            println!("{call} differs\nlibrary {library:02X?}\n{side} {other:02X?}");
+            for i in inputs {
+                println!("  {i:02X?}");
+            }
+            std::process::exit(1);
+        }
+    }
+}
+
+/// Compares a call that reads, on all sides.
+macro_rules! same {
+    ($check:expr, $call:ident($($arg:expr),*)) => {{
+        let library = library::$call($($arg),*);
+        let name = stringify!($call);
+        $check.note(library.number);
+        $check.same(name, "hand", &library, &hand::$call($($arg),*).into(), &[$(&$arg),*]);
+        $check.same(name, "combinator", &library, &combinator::$call($($arg),*).into(), &[$(&$arg),*]);
+    }};
+}
+
+/// A call on one side with a buffer behind its arguments, and those arguments to be shown.
+macro_rules! with_buffer {
+    ($side:ident::$call:ident($($arg:expr),*), $out:expr) => {
+        $side::$call($($arg,)* $out)
+    };
+    (($($arg:expr),*)) => {
+        &[$(&$arg),*]
+    };
+}
+
+/// Compares a call that writes, and the whole buffer, on these sides; gives how many bytes the library wrote.
+macro_rules! written {
+    ($check:expr, $call:ident $args:tt, $room:expr, $($side:ident),*) => {{
+        let room = $room;
+        let mut a = [0xA5u8; 6000];
+        let library = with_buffer!(library::$call $args, &mut a[..room]);
+        let name = stringify!($call);
+        $check.note(library.number);
+        $({
+            let mut b = [0xA5u8; 6000];
+            let other = with_buffer!($side::$call $args, &mut b[..room]).into();
+            $check.same(name, stringify!($side), &library, &other, with_buffer!($args));
+            $check.same(name, concat!(stringify!($side), ", buffer"), &a, &b, with_buffer!($args));
+        })*
+        let behind = if library.number == 0 { &a[library.written..] } else { &a[..] };
+        $check.same(name, "bytes behind", &behind.iter().all(|&x| x == 0xA5), &true, with_buffer!($args));
+        library.written
+    }};
+}
+
+/// All calls on one TCP input.
+fn check_tcp(c: &mut Check, random: &mut Random, p: &[u8]) {
+    same!(c, read_packet(p));
+    same!(c, read_command(p));
+    written!(c, acknowledge_packet(p), random.below(9), hand);
+    let record = random.below(6).wrapping_sub(random.below(20) / 19);
+    let element = random.below(30).wrapping_sub(random.below(20) / 19);
+    let id = random.below(260) as u16;
+    same!(c, record_in_packet(p, record));
+    same!(c, value_in_packet(p, record, element));
+    same!(c, id_in_packet(p, record, id));
+    // an ID that is there, if there is one
+    if let Ok(v) = hand::value_in_packet(p, record, element) {
+        same!(c, id_in_packet(p, record, v.id));
+    }
+    let need = written!(c, form_of_packet(p), 6000, hand, combinator);
+    if need > 0 {
+        written!(c, form_of_packet(p), random.range(need - 1, need + 1), hand, combinator);
+        written!(c, form_of_packet(p), random.below(need), hand, combinator);
+    }
+}
+
+/// All calls on one datagram.
+fn check_udp(c: &mut Check, random: &mut Random, p: &[u8]) {
+    same!(c, read_datagram(p));
+    written!(c, acknowledge_datagram(p), random.below(12), hand);
+    let (record, element) = (random.below(6), random.below(30));
+    let id = random.below(260) as u16;
+    same!(c, record_in_datagram(p, record));
+    same!(c, value_in_datagram(p, record, element));
+    same!(c, id_in_datagram(p, record, id));
+    if let Ok(v) = hand::value_in_datagram(p, record, element) {
+        same!(c, id_in_datagram(p, record, v.id));
+    }
+    let need = written!(c, form_of_datagram(p), 6000, hand, combinator);
+    if need > 0 {
+        written!(c, form_of_datagram(p), random.range(need - 1, need + 1), hand, combinator);
+    }
+}
+
+fn check_form(c: &mut Check, random: &mut Random, form: &[u8]) {
+    let need = written!(c, packet_of_form(form), 1400, hand, combinator);
+    if need > 0 {
+        written!(c, packet_of_form(form), random.range(need - 1, need + 1), hand, combinator);
+    }
+}
+
+/// The form of a packet, back into the packet, and damaged.
+fn check_forms(c: &mut Check, random: &mut Random, packet: &[u8]) {
+    let mut form = vec![0; 6000];
+    let Ok(n) = hand::form_of_packet(packet, &mut form) else { return };
+    form.truncate(n);
+    let mut back = vec![0; 1400];
+    let n = hand::packet_of_form(&form, &mut back).unwrap_or(0);
+    c.same("packet_of_form", "the packet", &&back[..n], &packet, &[&form]);
+    check_form(c, random, &form);
+    for _ in 0..120 {
+        let mut f = form.clone();
+        input::damage_form(random, &mut f);
+        check_form(c, random, &f);
+    }
+}
+
+fn check_last_known(c: &mut Check, random: &mut Random, newer: &[u8], codec: u8) {
+    let mut older = input::tcp(&input::data(random, codec, 60, 600, 160).bytes);
+    for _ in 0..30 {
+        let id = random.below(260) as u16;
+        same!(c, last_known(newer, &older, id));
+        same!(c, last_known(&older, newer, id));
+    }
+    input::damage(random, &mut older);
+    same!(c, last_known(newer, &older, 300));
+    same!(c, last_known(&older, newer, 300));
+}
+
+/// A data field as packet and datagram, whole and damaged; records of up to `most` bytes.
+fn check_data(c: &mut Check, random: &mut Random, codec: u8, (from, to): (usize, usize), most: usize) {
+    let data = input::data(random, codec, from - 12, to - 12, most).bytes;
+    let whole = input::tcp(&data);
+    check_tcp(c, random, &whole);
+    let small = if data.len() <= 1257 { data.clone() } else { input::data(random, codec, 1250, 1257, most).bytes };
+    let gram = input::udp(random, &small);
+    check_udp(c, random, &gram);
+    for _ in 0..60 {
+        let mut p = whole.clone();
+        input::damage(random, &mut p);
+        check_tcp(c, random, &p);
+        let mut d = data.clone();
+        input::damage_data(random, &mut d);
+        check_tcp(c, random, &input::tcp(&d));
+        let p = input::udp(random, &d);
+        check_udp(c, random, &p);
+        let mut p = gram.clone();
+        input::damage(random, &mut p);
+        check_udp(c, random, &p);
+    }
+    let other = CODECS[random.below(3)].0;
+    check_last_known(c, random, &whole, other);
+    check_forms(c, random, &whole);
+}
+
+fn check_command(c: &mut Check, random: &mut Random, codec: u8, size: usize) {
+    let data = input::command(random, codec, size);
+    check_tcp(c, random, &input::tcp(&data));
+    for _ in 0..30 {
+        let mut p = input::tcp(&data);
+        input::damage(random, &mut p);
+        check_tcp(c, random, &p);
+        let mut d = data.clone();
+        let at = random.below(d.len().min(16));
+        match random.below(4) {
+            0 => input::damage(random, &mut d),
+            1 => d[at] = random.next() as u8,
+            2 => d[at] = [1, 5, 6, 0x0C, 0x0E, 0x11][random.below(6)],
+            _ => d[at] = d[at].wrapping_add(1),
+        }
+        check_tcp(c, random, &input::tcp(&d));
+    }
+}
+
+fn check_write(c: &mut Check, random: &mut Random) {
+    let codec = [0x0C, 0x0E, 0x0E, 0x0C, 0x0D][random.below(5)];
+    let kind = [5, 6, 0x11, 5, 6, 0x11, 4][random.below(7)];
+    let size = if codec == 0x0E { 15 } else { 0 };
+    let size = [size, size, size, 0, 14, 15, 16][random.below(7)];
+    let mut imei = random.digits(size);
+    if size > 0 && random.below(5) == 0 {
+        let at = random.below(size);
+        imei[at] = [b'/', b':', 0, 255][random.below(4)];
+    }
+    let size = match random.below(4) {
+        0 => 0,
+        1 => random.range(1250, 1265),
+        _ => random.below(1300),
+    };
+    let text = random.bytes(size);
+    let need = written!(c, write_command(codec, kind, &imei, &text), 1400, hand);
+    if need > 0 {
+        written!(c, write_command(codec, kind, &imei, &text), random.range(need - 1, need + 1), hand);
+    }
+}
+
+fn check_login(c: &mut Check, random: &mut Random, damaged: bool, known: bool) {
+    let mut p = input::login(random);
+    if damaged {
+        input::damage(random, &mut p);
+    }
+    same!(c, read_login(&p));
+    written!(c, answer_login(&p, known), random.below(3), hand);
+}
+
+/// Inputs of a few bytes, and heads alone.
+fn check_short(c: &mut Check, random: &mut Random, size: usize) {
+    for length in [0, 2, 3, 4, 1267, 1268, 1269, 1 << 24] {
+        let mut p = vec![0; 4];
+        p.extend((length as u32).to_be_bytes());
+        p.resize(size, 0);
+        check_tcp(c, random, &p);
+        check_udp(c, random, &p);
+    }
+    let d = random.bytes(size);
+    check_tcp(c, random, &input::tcp(&d));
+    let p = input::udp(random, &d);
+    check_udp(c, random, &p);
+    check_form(c, random, &d);
+}
+
+/// Compares all sides; stops if one answer differs.
+pub fn check(random: &mut Random) -> Check {
+    let mut c = Check::default();
+    for (codec, _) in CODECS {
+        for size in SIZES {
+            for round in 0..40 {
+                // with and without records over 255 bytes
+                check_data(&mut c, random, codec, size, [160, 255, 255, 270][round % 4]);
+            }
+        }
+    }
+    for codec in [0x0C, 0x0E] {
+        for round in 0..300 {
+            let size = if round % 3 == 0 { random.below(1232) } else { random.below(12) };
+            check_command(&mut c, random, codec, size);
+        }
+    }
+    for round in 0..4000 {
+        check_login(&mut c, random, round % 8 != 0, round % 2 == 0);
+    }
+    for _ in 0..6000 {
+        check_write(&mut c, random);
+    }
+    for size in 0..40 {
+        check_short(&mut c, random, size);
+    }
+    c
+}

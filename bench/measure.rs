@@ -1,0 +1,73 @@
+//! Times of several sides on the same inputs, in turn, and the table of them.
+
+use std::hint::black_box;
+use std::ops::Range;
+use std::time::{Duration, Instant};
+
+/// Inputs of each kind, and the most calls in one timed run.
+pub const POOL: usize = 512;
+const MOST: usize = 64;
+/// A run is short, so that few runs are interrupted by other work of the machine.
+const RUN_TIME: Duration = Duration::from_micros(100);
+
+/// Makes one side's calls on these inputs of the pool.
+pub type Side<'a> = Box<dyn Fn(Range<usize>) + 'a>;
+
+/// How many calls make a run: 4 to 64, as many as the slowest side does in its time.
+fn calls(sides: &[Side]) -> usize {
+    let mut calls = MOST;
+    for side in sides {
+        side(0..POOL);
+        let start = Instant::now();
+        side(0..POOL);
+        let pool = start.elapsed();
+        while calls > 4 && pool * calls as u32 > RUN_TIME * POOL as u32 {
+            calls /= 2;
+        }
+    }
+    calls
+}
+
+/// Times all sides in turn over the same inputs, another part of the pool in each round: ns per call.
+fn measure(budget: Duration, inputs: &[Vec<u8>], sides: &[Side]) -> Vec<Vec<f64>> {
+    let calls = calls(sides);
+    let mut t = vec![vec![]; sides.len()];
+    let begin = Instant::now();
+    let mut round = 0;
+    while round < 1000 || begin.elapsed() < budget {
+        let from = round * calls % POOL;
+        // the inputs into the cache, whoever goes first
+        black_box(inputs[from..from + calls].iter().flatten().map(|&x| usize::from(x)).sum::<usize>());
+        for k in 0..sides.len() {
+            let side = (k + round) % sides.len();
+            let start = Instant::now();
+            sides[side](from..from + calls);
+            t[side].push(start.elapsed().as_nanos() as f64 / calls as f64);
+        }
+        round += 1;
+    }
+    t
+}
+
+/// The median and the least of some times.
+fn figures(mut t: Vec<f64>) -> (f64, f64) {
+    t.sort_by(f64::total_cmp);
+    (t[t.len() / 2], t[0])
+}
+
+/// The head of the table.
+pub const HEAD: &str = "\
+| call | codecs | bytes | by hand, ns | library, ns | library / hand | nom, ns | nom / hand |
+|---|---|---:|---:|---:|---:|---:|---:|";
+
+/// Measures one line of the table: medians, with minimums in brackets; by hand, the library, perhaps nom.
+pub fn line(budget: Duration, call: &str, codecs: &str, inputs: &[Vec<u8>], sides: &[Side]) -> String {
+    let bytes = inputs.iter().map(Vec::len).sum::<usize>() / inputs.len();
+    let times: Vec<_> = measure(budget, inputs, sides).into_iter().map(figures).collect();
+    let hand = times[0];
+    let mut line = format!("| {call} | {codecs} | {bytes} | {:.1} ({:.1}) |", hand.0, hand.1);
+    for t in &times[1..] {
+        line += &format!(" {:.1} ({:.1}) | {:.2} ({:.2}) |", t.0, t.1, t.0 / hand.0, t.1 / hand.1);
+    }
+    line + if times.len() < 3 { " | |" } else { "" }
+}

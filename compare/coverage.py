@@ -1,0 +1,194 @@
+"""What document 01 lets each call answer, and how often a run reached it."""
+
+from collections import Counter
+
+import reference
+
+NUMBERS = range(1, 19)
+CODECS = {0x08: "8", 0x8E: "8E", 0x10: "16"}
+
+# The refusals of each input in the order of document 01, each with its places: the parts of the rule.
+FRAME = {1: [""], 2: [""], 3: ["under", "over"], 4: ["missing", "too many"], 5: ["upper", "lower"]}
+COUNTS = {6: [""], 7: ["zero", "differ"]}
+WALK = (8, 9, 10, 11, 12)
+INPUTS = {
+    "packet": FRAME | COUNTS,
+    "datagram": {1: [""], 3: [""], 4: ["missing", "too many"], 15: ["length", "digit"]} | COUNTS,
+    "command": FRAME | {6: [""], 7: ["first", "second"], 8: ["type", "size"], 13: [""],
+                        14: ["size", "under 8", "text with 11"], 15: ["first digit", "digit"]},
+    "login": {1: [""], 4: [""], 15: ["length", "digit"]},
+    "text": {6: [""], 13: [""], 15: ["length", "digit"], 14: ["over", "text with 11"]},
+    "form": {17: [""]},
+}
+
+# The walk of a data packet or datagram, codec by codec: the fields that can be missing, and the other rules.
+FIELDS = ["timestamp", "priority", "longitude", "latitude", "altitude", "angle", "satellites", "speed", "event ID",
+          "generation type", "total", "1 count", "1 ID", "1 value", "2 count", "2 ID", "2 value", "4 count", "4 ID",
+          "4 value", "8 count", "8 ID", "8 value", "variable count", "variable ID", "variable length",
+          "variable value", "left over"]
+
+
+def walk_places(codec):
+    """The (number, place) pairs of a codec's walk."""
+    fields = [field for field in FIELDS if (codec == 0x10 or field != "generation type")
+              and (codec == 0x8E or not field.startswith("variable"))]
+    return [(8, field) for field in fields] + [(number, "") for number in WALK[1:] if codec == 0x10 or number != 11]
+
+
+# Each call: its input, and what it can give behind that input's refusals. A lent buffer is too short by one byte or by
+# more, or it is as long as the result or longer.
+ROOM = {18: ["by one"], None: ["exact", "longer"]}
+CALLS = {
+    "read_packet": ("packet", {}),
+    "read_datagram": ("datagram", {}),
+    "read_login": ("login", {}),
+    "read_command": ("command", {}),
+    "command_text": ("command", {}),
+    "record_in_packet": ("packet", {16: ["record"]}),
+    "record_in_datagram": ("datagram", {16: ["record"]}),
+    "value_in_packet": ("packet", {16: ["record", "element"]}),
+    "value_in_datagram": ("datagram", {16: ["record", "element"]}),
+    "id_in_packet": ("packet", {16: ["record", "ID"]}),
+    "id_in_datagram": ("datagram", {16: ["record", "ID"]}),
+    "view_in_packet": ("packet", {16: ["record", "element"]}),
+    "view_in_datagram": ("datagram", {16: ["record", "element"]}),
+    "id_view_in_packet": ("packet", {16: ["record", "ID"]}),
+    "id_view_in_datagram": ("datagram", {16: ["record", "ID"]}),
+    "last_known": ("packet", {16: ["ID"]}),
+    "last_known, older": ("packet", {}),
+    "last_known_view": ("packet", {16: ["ID"]}),
+    "last_known_view, older": ("packet", {}),
+    "acknowledge_packet": ("packet", ROOM),
+    "acknowledge_datagram": ("datagram", ROOM),
+    "answer_login": ("login", ROOM),
+    "write_command": ("text", ROOM),
+    "form_of_packet": ("packet", ROOM),
+    "form_of_datagram": ("datagram", ROOM),
+    "packet_of_form": ("form", ROOM),
+}
+
+# Calls that do not show the refusal behind their answer, and one that does. Views need none: the reference tells.
+BEHIND = {"acknowledge_packet": "read_packet", "answer_login": "read_login"}
+
+
+def allowed(row):
+    """The refusals that document 01 lets a call give, or hide."""
+    source, more = CALLS[row]
+    numbers = set(INPUTS[source]) | set(more)
+    return numbers | set(WALK) if source in ("packet", "datagram") else numbers
+
+
+def from_older(words, refusal):
+    """Does a last-known answer come from the older packet? 16 comes from both."""
+    if refusal is None:
+        return reference.evaluate("last_known " + " ".join(words))[0].startswith("accepted 1")
+    return refusal.number != 16 and reference.evaluate(f"read_packet {words[0]}")[1] is None
+
+
+class Coverage:
+    def __init__(self):
+        self.reached = Counter()        # (row of CALLS, codec or None, number or None, place)
+        self.indices = {number: Counter() for number in WALK}
+
+    def count(self, line, answer, refusal):
+        """Notes what a line reached."""
+        name, *words = line.split()
+        row, data = name, words[0]
+        if name in BEHIND and refusal is None:
+            refusal = reference.evaluate(f"{BEHIND[name]} {data}")[1]
+        if name.startswith("last_known") and from_older(words, refusal):
+            row, data = f"{name}, older", words[1]
+        number, place = (refusal.number, refusal.place) if refusal else (None, "")
+        codec = None
+        if number in WALK and CALLS[row][0] in ("packet", "datagram"):
+            codec = int(data[16:18] if CALLS[row][0] == "packet" else data[46:48], 16)
+            self.indices[number][refusal.index] += 1
+        self.reached[row, codec, number, place] += 1
+        if answer.startswith("written"):
+            _, size, lent = answer.split()
+            self.reached[row, "room", None, "exact" if len(lent) == 2 * int(size) else "longer"] += 1
+
+    def times(self, rows, codec, number, place):
+        return sum(self.reached[row, codec, number, place] for row in rows)
+
+    # ------------------------------------------------------------ what is missing
+
+    def missing(self):
+        """What has to be reached and was not, as lines of text."""
+        for row, (source, more) in CALLS.items():
+            given = Counter()
+            for (name, _, number, _), times in self.reached.items():
+                given[number] += times if name == row else 0
+            for number in (None, *NUMBERS):
+                if number in allowed(row) | {None} and not given[number]:
+                    yield f"{row} with {number or 'an acceptance'}"
+            for number, places in more.items():
+                for place in places:
+                    if not self.times([row], None if number else "room", number, place):
+                        yield f"{row} with {number or 'a buffer'}, {place}"
+        for source, rules in INPUTS.items():
+            rows = [row for row, (of, _) in CALLS.items() if of == source]
+            for number, places in rules.items():
+                for place in places:
+                    if not self.times(rows, None, number, place):
+                        yield f"{source} with {number}, {place or 'the rule'}"
+            if source in ("packet", "datagram"):
+                for codec, name in CODECS.items():
+                    for number, place in walk_places(codec):
+                        if not self.times(rows, codec, number, place):
+                            yield f"{source} of codec {name} with {number}, {place or 'the rule'}"
+
+    def unforeseen(self):
+        """What document 01 does not let a call give and the reference gave."""
+        for row, _, number, _ in self.reached:
+            if number is not None and number not in allowed(row):
+                yield f"{row} with {number}"
+
+    # ------------------------------------------------------------ tables
+
+    def calls_table(self):
+        views = {name for name, (sort, _, _) in reference.CALLS.items() if sort == "view"}
+        sums = Counter()
+        yield f"{'calls and refusals':24}" + "".join(f"{number:>7}" for number in ("none", *NUMBERS))
+        for row in CALLS:
+            given = Counter()
+            for (name, codec, number, _), times in self.reached.items():
+                if name == row and codec != "room":
+                    given[number] += times
+            sums += given
+            hiding = row.split(",")[0] in views | set(BEHIND)
+            cells = [given[number] if number in allowed(row) | {None} else "." for number in (None, *NUMBERS)]
+            yield f"{row + ('*' if hiding else ''):24}" + "".join(f"{cell:>7}" for cell in cells)
+        yield f"{'sum':24}" + "".join(f"{sums[number]:>7}" for number in (None, *NUMBERS))
+        yield "* these calls do not show their refusals, or not all of them"
+
+    def walk_table(self):
+        columns = [(source, codec) for source in ("packet", "datagram") for codec in CODECS]
+        heads = (f"{source} {CODECS[codec]}" for source, codec in columns)
+        yield f"{'refusals of the walk':24}" + "".join(f"{head:>13}" for head in heads)
+        for number, place in [(8, field) for field in FIELDS] + [(number, "") for number in WALK[1:]]:
+            cells = []
+            for source, codec in columns:
+                rows = [row for row, (of, _) in CALLS.items() if of == source]
+                can = (number, place) in walk_places(codec)
+                cells.append(self.times(rows, codec, number, place) if can else ".")
+            yield f"{str(number) + ' ' + place:24}" + "".join(f"{cell:>13}" for cell in cells)
+
+    def places_lines(self):
+        for source, rules in INPUTS.items():
+            rows = [row for row, (of, _) in CALLS.items() if of == source]
+            cells = [f"{number}{' ' + place if place else ''}: {self.times(rows, None, number, place)}"
+                     for number, places in rules.items() for place in places]
+            yield f"{source}: " + ", ".join(cells)
+        for number, indices in self.indices.items():
+            yield f"refusal {number} at {len(indices)} record indices, the greatest {max(indices, default='none')}"
+
+    def report(self):
+        """Prints the tables; returns whether all was reached that has to be."""
+        for part in (self.calls_table, self.walk_table, self.places_lines):
+            print("\n".join(part()) + "\n")
+        missing, unforeseen = list(self.missing()), sorted(set(self.unforeseen()))
+        for title, found in (("never reached", missing), ("not in document 01", unforeseen)):
+            if found:
+                print(f"{title}: " + "; ".join(found))
+        return not missing and not unforeseen

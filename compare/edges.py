@@ -1,0 +1,605 @@
+"""Calls at the edges of the rules: (name, call line, expected answer or None).
+
+Damage is done before length and CRC are put on, so that every rule and every
+field is reached. The expected answers follow from document 01 and from the way
+an input is built here; with None the two programs only have to agree.
+"""
+
+from generate import CODECS, KINDS, LEAST, PACKET_LIMIT, Maker, Record, little, number, shown
+
+MAKER = Maker(1)
+HEAD = bytes.fromhex("c0de5a69000f") + b"123456789012345"
+LOGIN = HEAD[4:]
+IMEI = b"123456789012345"
+LARGE = (255, 256, 65535, 65536, (1 << 32) - 1, 1 << 32, 1 << 63, (1 << 64) - 1)
+
+
+# ---------------------------------------------------------------- inputs
+
+def tcp(field):
+    return MAKER.frame(field, ())
+
+
+def udp(field):
+    return number(len(HEAD) + len(field), 2) + HEAD + field
+
+
+# How a data field becomes an input, and the bytes around its records.
+SIDES = {"packet": (tcp, 15), "datagram": (udp, 26)}
+
+
+def changed(data, place, value):
+    return data[:place] + bytes([value]) + data[place + 1:]
+
+
+def record(codec, tag=0):
+    """A record with two elements in each group, all IDs its own."""
+    groups = [[(20 * tag + 2 * place + item, bytes([16 * (place + 1) + item]) * size)
+               for item in range(2)] for place, size in enumerate((1, 2, 4, 8, 3))]
+    if codec != 0x8E:
+        groups[4] = []
+    return Record(number(1000 + tag, 8), 1, bytes(range(200, 215)), 7, 3, groups)
+
+
+def of_elements(codec, *counts):
+    """A record with so many elements in its groups."""
+    groups = [[(item & 255, bytes(size)) for item in range(many)]
+              for size, many in zip(KINDS, counts + (0,) * (5 - len(counts)))]
+    return Record(bytes(8), 0, bytes(15), 0, 0, groups)
+
+
+def data_field(codec, records, first=None, second=None):
+    first = len(records) if first is None else first
+    second = first if second is None else second
+    body = b"".join(each.encode(codec) for each in records)
+    return bytes([codec, first]) + body + bytes([second])
+
+
+def pair(codec):
+    return [record(codec, 0), record(codec, 1)]
+
+
+def command_field(codec, kind=5, text=b"getio", size=None, imei=b"\x03\x52\x09\x30\x81\x45\x22\x51"):
+    body = (imei if codec == 0x0E else b"") + text
+    return bytes([codec, 1, kind]) + number(len(body) if size is None else size, 4) + body + b"\x01"
+
+
+def each_side():
+    for codec in CODECS:
+        for side, (wrap, around) in SIDES.items():
+            yield codec, side, wrap, around
+
+
+def reading(name, side, data, expected=None):
+    return name, f"read_{side} {shown(data)}", expected
+
+
+def refused(number, index=0):
+    return f"refused {number} {index}"
+
+
+# ---------------------------------------------------------------- heads
+
+def beginnings():
+    """Every beginning of an input, none of it too, and a byte too many."""
+    for side, data, least, call in (
+            ("packet", tcp(data_field(0x8E, pair(0x8E))), 8, "read_packet"),
+            ("datagram", udp(data_field(0x8E, pair(0x8E))), 26, "read_datagram"),
+            ("command", tcp(command_field(0x0E)), 8, "read_command"),
+            ("login", LOGIN, 17, "read_login")):
+        for size in range(len(data)):
+            yield f"beginning of a {side}", f"{call} {shown(data[:size])}", refused(1 if size < least else 4)
+        yield f"more than a {side}", f"{call} {shown(data + bytes(1))}", refused(4)
+
+
+def frames():
+    """First four bytes, data length and CRC, bit by bit."""
+    for side, field in (("packet", data_field(0x08, pair(0x08))), ("command", command_field(0x0C))):
+        data = tcp(field)
+        for bit in range(32):
+            flipped = 1 << bit
+            yield reading("first bytes", side, number(flipped, 4) + data[4:], refused(2))
+            length = len(field) ^ flipped
+            yield reading("data length", side, data[:4] + number(length, 4) + data[8:],
+                          refused(4 if 3 <= length <= 1268 else 3))
+            crc = int.from_bytes(data[-4:], "big") ^ flipped
+            yield reading("CRC field", side, data[:-4] + number(crc, 4), refused(5))
+        for length in (0, 1, 2, 1269, 1280):
+            yield reading("data length", side, data[:4] + number(length, 4) + data[8:], refused(3))
+        for place in range(8, len(data) - 4):
+            yield reading("data byte", side, changed(data, place, data[place] ^ 1), refused(5))
+        whole = tcp(data[4:8] + field)
+        yield reading("CRC over the length too", side, data[:-4] + whole[-4:], refused(5))
+        yield reading("CRC bytes the other way", side, data[:-2] + data[:-3:-1], refused(5))
+    for size in range(3):
+        yield reading("short data field", "packet", tcp(bytes([8, 0])[:size]), refused(3))
+    data = udp(data_field(0x08, pair(0x08)))
+    for bit in range(16):
+        length = int.from_bytes(data[:2], "big") ^ 1 << bit
+        yield reading("datagram length", "datagram", number(length, 2) + data[2:], refused(4))
+
+
+def codecs_and_counts():
+    for codec in range(256):
+        for side, (wrap, _) in SIDES.items():
+            field = bytes([codec]) + data_field(0x08, pair(0x08))[1:]
+            yield reading("codec", side, wrap(field), None if codec in CODECS else refused(6))
+        known = codec in (0x0C, 0x0E)
+        field = bytes([codec]) + command_field(0x0C)[1:]
+        yield reading("codec", "command", tcp(field), None if known else refused(6))
+        yield ("codec", f"write_command {codec} 5 - - {'ee' * 20}",
+               None if known else refused(6) + " " + "ee" * 20)
+    for codec, side, wrap, _ in each_side():
+        for counts in ((0, 0), (0, 2), (2, 0), (1, 2), (2, 1), (3, 2), (255, 2), (2, 255), (130, 2)):
+            yield reading("counts", side, wrap(data_field(codec, pair(codec), *counts)), refused(7))
+        yield reading("no records", side, wrap(data_field(codec, [])), refused(7))
+
+
+# ---------------------------------------------------------------- the walk
+
+def cuts():
+    """The records end within or before each field; bytes are left over."""
+    for codec, side, wrap, _ in each_side():
+        field = data_field(codec, pair(codec))
+        first = record(codec).size(codec)
+        for size in range(len(field) - 3):
+            yield reading("cut", side, wrap(field[:2 + size] + field[-1:]), refused(8, int(size >= first)))
+        for more in (1, 2, LEAST[codec], 255):
+            yield reading("left over", side, wrap(field[:-1] + bytes(more) + field[-1:]), refused(8, 2))
+        one = changed(changed(field, 1, 1), len(field) - 1, 1)
+        yield reading("a record too many", side, wrap(one), refused(8, 1))
+        for count in (3, 42, 43, 255):
+            yield reading("missing records", side, wrap(data_field(codec, pair(codec), count)), refused(8, 2))
+
+
+def fields():
+    """Priority, generation type and total, in the first and in the second record."""
+    for codec, side, wrap, _ in each_side():
+        for place in range(2):
+            def attempt(name, expected, **values):
+                records = pair(codec)
+                vars(records[place]).update(values)
+                return reading(name, side, wrap(data_field(codec, records)), expected)
+
+            accepted = f"accepted {codec} 2" if side == "packet" else None
+            for priority in (0, 1, 2, 3, 4, 128, 255):
+                yield attempt("priority", accepted if priority < 3 else refused(10, place), priority=priority)
+            for generation in (0, 7, 8, 9, 128, 255):
+                wrong = codec == 0x10 and generation > 7
+                yield attempt("generation", refused(11, place) if wrong else accepted, generation=generation)
+            # 10 counts the variable values too, 264 is 8 in one byte
+            for total in (0, 7, 9, 10, 255) + ((264, 65535) if codec == 0x8E else ()):
+                yield attempt("total", refused(9, place), total=total)
+
+
+def counts_and_lengths():
+    """Group counts and variable lengths that say something else than is there."""
+    for codec, side, wrap, _ in each_side():
+        for place in range(2):
+            for group in range(5 if codec == 0x8E else 4):
+                for count in (0, 1, 3, 127, 128, 255) + ((256, 258, 65535) if codec == 0x8E else ()):
+                    for total in (None, count + 6):
+                        records = pair(codec)
+                        records[place].counts[group] = count
+                        records[place].total = total
+                        yield reading("group count", side, wrap(data_field(codec, records)))
+            if codec == 0x8E:
+                for item in range(2):
+                    for length in (0, 1, 2, 4, 5, 7, 11, 120, 125, 255, 256, 259, 32768, 65535):
+                        records = pair(codec)
+                        records[place].lengths[item] = length
+                        yield reading("variable length", side, wrap(data_field(codec, records)))
+
+
+def past_the_record():
+    """A variable length that takes in just the second count, the CRC, or the packet's end."""
+    for side, (wrap, _) in SIDES.items():
+        for more in (1, 2, 4, 5, 6):
+            records = pair(0x8E)
+            records[1].lengths[1] = 3 + more
+            yield reading("past the records", side, wrap(data_field(0x8E, records)), refused(8, 1))
+
+
+def sizes():
+    """Records of 255 and 256 bytes, inputs of 1,280 and 1,281, the most records."""
+    for codec, side, wrap, around in each_side():
+        def attempt(name, records, expected):
+            if expected is None and side == "packet":
+                expected = f"accepted {codec} {len(records)}"
+            return reading(name, side, wrap(data_field(codec, records)), expected)
+
+        full, over = (MAKER.record(codec, size) for size in (255, 256))
+        yield attempt("255 bytes", [full, full], None)
+        yield attempt("256 bytes", [over, full], refused(12))
+        yield attempt("256 bytes", [full, over], refused(12, 1))
+        over.total = over.fixed() + 1
+        yield attempt("256 bytes and a wrong total", [full, over], refused(9, 1))
+        each = (PACKET_LIMIT - around) // 6
+        last = PACKET_LIMIT - around - 5 * each
+        for more, expected in ((0, None), (1, refused(3))):
+            records = [MAKER.record(codec, each) for _ in range(5)] + [MAKER.record(codec, last + more)]
+            yield attempt(f"{PACKET_LIMIT + more} bytes", records, expected)
+        most = (PACKET_LIMIT - around) // LEAST[codec]
+        least = MAKER.record(codec, LEAST[codec])
+        yield attempt("most records", [least] * most, None)
+        yield attempt("a record more", [least] * (most + 1), refused(3))
+        yield reading("255 records", side, wrap(data_field(codec, [least] * most, 255)), refused(8, most))
+
+
+def wraps():
+    """Group counts that make 256 together: 0 in one byte."""
+    for codec, side, wrap, around in each_side():
+        for counts in ((128, 128), (255, 1), (1, 255), (129, 127), (64, 64, 64, 64), (256,), (257,)):
+            each = of_elements(codec, *counts)
+            if each.size(codec) > PACKET_LIMIT - around or (max(counts) > 255 and codec != 0x8E):
+                continue
+            for total in (0, 1, 255, 256):
+                each.total = total
+                right = codec == 0x8E and total == sum(counts)
+                yield reading("256 elements", side, wrap(data_field(codec, [each])), refused(12 if right else 9))
+
+
+# ---------------------------------------------------------------- commands and IMEIs
+
+def command_rules():
+    for codec in (0x0C, 0x0E):
+        for kind in range(256):
+            allowed = kind in (5, 6) or (codec == 0x0E and kind == 0x11)
+            yield reading("type", "command", tcp(command_field(codec, kind, b"")), None if allowed else refused(13))
+            if not allowed:
+                text = "ee" * 28
+                imei = shown(IMEI) if codec == 0x0E else "-"
+                yield "type", f"write_command {codec} {kind} {imei} - {text}", f"{refused(13)} {text}"
+        size = len(command_field(codec)) - 8
+        for wrong in (0, size - 1, size + 1, size - 8, size + 256, size + 65536, 1 << 31, (1 << 32) - 1):
+            data = tcp(command_field(codec, size=wrong & 0xFFFFFFFF))
+            yield reading("text size", "command", data, refused(14))
+        for quantities in ((0, 1), (1, 0), (2, 2), (255, 1), (1, 255), (2, 1), (1, 2), (0, 0)):
+            field = command_field(codec)
+            field = changed(changed(field, 1, quantities[0]), len(field) - 1, quantities[1])
+            yield reading("quantities", "command", tcp(field), refused(7))
+        field = command_field(codec)
+        for kept in range(2, len(field) - 1):
+            yield reading("cut", "command", tcp(field[:kept] + b"\x01"), refused(8 if kept < 7 else 14))
+        most = 1260 if codec == 0x0C else 1252
+        yield reading("longest text", "command", tcp(command_field(codec, 6, bytes(most))), None)
+        yield reading("too long a text", "command", tcp(command_field(codec, 6, bytes(most + 1))), refused(3))
+    for size in range(8):
+        yield reading("0E under 8", "command", tcp(command_field(0x0E, 0x11, b"", imei=bytes(size))), refused(14))
+    for text in (b"\0", b"nACK", bytes(1252)):
+        yield reading("text with type 11", "command", tcp(command_field(0x0E, 0x11, text)), refused(14))
+
+
+def imeis():
+    for place in range(15):
+        for wrong in (0x00, 0x2F, 0x3A, 0xFF):
+            bad = changed(IMEI, place, wrong)
+            yield "digit", f"read_login {shown(LOGIN[:2] + bad)}", refused(15)
+            data = udp(data_field(0x08, [record(0x08)]))
+            yield reading("digit", "datagram", data[:8] + bad + data[23:], refused(15))
+            yield "digit", f"write_command 14 5 {shown(bad)} - -", refused(15) + " -"
+    for length in (0, 1, 14, 16, 0x0F00, 0x010F, 0x800F, 0xFFFF):
+        yield "IMEI length", f"read_login {shown(number(length, 2) + IMEI)}", refused(15)
+        data = udp(data_field(0x08, [record(0x08)]))
+        yield reading("IMEI length", "datagram", data[:6] + number(length, 2) + data[8:], refused(15))
+    for place in range(16):
+        for digit in range(1, 16):
+            digits = "0352093081452251"
+            packed = bytes.fromhex(digits[:place] + f"{digit:x}" + digits[place + 1:])
+            yield reading("packed digit", "command", tcp(command_field(0x0E, imei=packed)),
+                          refused(15) if digit > 9 or place == 0 else None)
+    for given in (b"", b"1", IMEI[1:], IMEI + b"0", b"0" + IMEI):
+        yield "IMEI to write", f"write_command 14 5 {shown(given)} - {'ee' * 40}", f"{refused(15)} {'ee' * 40}"
+        if given:
+            yield "IMEI to write", f"write_command 12 5 {shown(given)} - {'ee' * 40}", f"{refused(15)} {'ee' * 40}"
+
+
+# ---------------------------------------------------------------- looking up
+
+def lookups():
+    """Every element by its number and by its ID; what is not there; the other record's IDs."""
+    for codec, side, wrap, _ in each_side():
+        records = pair(codec)
+        data = shown(wrap(data_field(codec, records)))
+        for place, each in enumerate(records):
+            elements = [item for group in each.groups for item in group]
+            for item, (ident, value) in enumerate(elements):
+                for found, other, words in (("view", "value", item), ("id_view", "id", ident)):
+                    yield "element", f"{found}_in_{side} {data} {place} {words}", f"bytes {shown(value)}"
+                    yield "element", f"{other}_in_{side} {data} {place} {words}", None
+                    yield "no such record", f"{other}_in_{side} {data} 2 {words}", refused(16)
+                absent = f"{data} {1 - place} {ident}"
+                yield "the other record's ID", f"id_in_{side} {absent}", refused(16)
+                yield "the other record's ID", f"id_view_in_{side} {absent}", "bytes -"
+            yield "record", f"record_in_{side} {data} {place}", None
+            for beyond in (len(elements), len(elements) + 1) + LARGE:
+                yield "no such element", f"value_in_{side} {data} {place} {beyond}", refused(16)
+                yield "no such element", f"view_in_{side} {data} {place} {beyond}", "bytes -"
+        for beyond in (2, 3) + LARGE:
+            yield "no such record", f"record_in_{side} {data} {beyond}", refused(16)
+            yield "no such record", f"view_in_{side} {data} {beyond} 0", "bytes -"
+            yield "no such record", f"id_view_in_{side} {data} {beyond} 0", "bytes -"
+
+
+def twice():
+    """An ID twice: the first in byte order counts, an empty value too."""
+    for codec, side, wrap, _ in each_side():
+        each = record(codec)
+        each.groups[0] = [(109, b"\x01"), (105, b"\x02"), (105, b"\x03")]
+        each.groups[3] = [(109, bytes(8)), (106, bytes(range(8)))]
+        if codec == 0x8E:
+            each.groups[4] = [(106, b"no"), (104, b""), (104, b"no")]
+        data = shown(wrap(data_field(codec, [each])))
+        for ident, value in ((109, b"\x01"), (105, b"\x02"), (106, bytes(range(8))), (104, b"")):
+            yield "twice", f"id_view_in_{side} {data} 0 {ident}", f"bytes {shown(value)}"
+            absent = ident == 104 and codec != 0x8E
+            yield "twice", f"id_in_{side} {data} 0 {ident}", refused(16) if absent else None
+        for ident in (256 + 105, 32768 + 105, 65535):
+            yield "wide ID", f"id_in_{side} {data} 0 {ident}", refused(16)
+
+
+def last_known():
+    """In the newer's last record, else in the older's; the older judged only when needed."""
+    for codec in CODECS:
+        newer = tcp(data_field(codec, [record(codec, 0), record(codec, 1)]))
+        older = tcp(data_field(0x8E, [record(0x8E, 3), record(0x8E, 2), record(0x8E, 1)]))
+        last = tcp(data_field(0x08, [record(0x08, 2)]))
+        for second, ident, expected in (
+                (older, 20, "10"), (older, 0, None), (older, 60, None), (older, 40, None),
+                (last, 40, "10"), (last, 41, "11"), (last, 0, None), (b"", 20, "10"), (newer, 20, "10")):
+            words = f"{shown(newer)} {shown(second)} {ident}"
+            yield "last known", f"last_known_view {words}", "bytes " + (expected or "-")
+            yield "last known", f"last_known {words}", None if expected else refused(16)
+
+
+# ---------------------------------------------------------------- writing
+
+def buffers():
+    """No room, a byte too few, just enough, and more; the bytes behind stay."""
+    data = data_field(0x8E, pair(0x8E))
+    packet, datagram = tcp(data), udp(data)
+    form = whole_form(0x8E)
+    writers = (
+        (f"acknowledge_packet {shown(packet)}", number(2, 4)),
+        (f"acknowledge_packet {shown(packet[:-1])}", bytes(4)),
+        (f"acknowledge_datagram {shown(datagram)}", b"\x00\x05" + datagram[2:6] + b"\x02"),
+        (f"answer_login {shown(LOGIN)} 1", b"\x01"), (f"answer_login {shown(LOGIN)} 0", b"\x00"),
+        (f"answer_login {shown(LOGIN[:-1])} 1", b"\x00"),
+        ("write_command 12 5 - 676574696f", tcp(command_field(0x0C))),
+        ("write_command 14 17 333532303933303831343532323531 -", tcp(command_field(0x0E, 0x11, b""))),
+        (f"form_of_packet {shown(packet)}", form), (f"form_of_datagram {shown(datagram)}", form),
+        (f"packet_of_form {shown(form)}", packet))
+    for call, result in writers:
+        need = len(result)
+        for room in (0, 1, need - 1, need, need + 1, need + 100):
+            lent = bytes(range(1, 256))[:room] + bytes(max(room - 255, 0))
+            expected = f"refused 18 0 {shown(lent)}"
+            if room >= need:
+                expected = f"written {need} {shown(result + lent[need:])}"
+            yield "buffer", f"{call} {shown(lent)}", expected
+    for codec, most in ((12, 1260), (14, 1252)):
+        imei = "-" if codec == 12 else shown(IMEI)
+        for room in (1279, 1280, 1281):
+            yield "longest text", f"write_command {codec} 6 {imei} {'61' * most} {'ee' * room}", None
+        yield "too long a text", f"write_command {codec} 6 {imei} {'61' * (most + 1)} {'ee' * 1290}", \
+            f"refused 14 0 {'ee' * 1290}"
+    yield "text with type 11", f"write_command 14 17 {shown(IMEI)} 00 {'ee' * 30}", f"refused 14 0 {'ee' * 30}"
+
+
+# ---------------------------------------------------------------- TLV forms
+
+def joined(entries):
+    return b"".join(little(length, 2) + little(kind, 2) + body for length, kind, body in entries)
+
+
+def whole_form(codec, records=None):
+    records = records or pair(codec)
+    for each in records:
+        each.generation = each.generation if codec == 0x10 else 0
+    return joined(MAKER.form_entries(codec, records))
+
+
+def rebuilding(name, form, expected=None):
+    lent = "ee" * 1300
+    return name, f"packet_of_form {shown(form)} {lent}", f"refused 17 0 {lent}" if expected == 17 else expected
+
+
+def form_entries():
+    """Each entry cut, lengthened, renamed, lost, doubled or moved."""
+    for codec in CODECS:
+        form = whole_form(codec)
+        entries = MAKER.form_entries(codec, pair(codec))
+        if codec != 0x10:
+            for each in entries:
+                each[2] = each[2][:26] + b"\0" if each[1] == 101 else each[2]
+        ends = {len(joined(entries[:kept])) for kept in range(2, len(entries))}
+        for size in range(len(form)):
+            yield rebuilding("beginning", form[:size], None if size in ends else 17)
+        for place, (length, kind, body) in enumerate(entries):
+            before, after = entries[:place], entries[place + 1:]
+            for wrong in (length - 1, length + 1, length ^ 256, length ^ 32768):
+                yield rebuilding("length", joined(before + [[wrong & 65535, kind, body]] + after))
+            for wrong in (0, 3, 10, 99, 102, kind ^ 256, kind ^ 32768):
+                yield rebuilding("kind", joined(before + [[length, wrong, body]] + after), 17)
+            for wrong in (1, 2, 4, 8, 9, 100, 101):
+                yield rebuilding("kind", joined(before + [[length, wrong, body]] + after))
+            for changed_body in (body[:-1], body + b"\0", body[:1], b""):
+                new = [len(changed_body), kind, changed_body]
+                yield rebuilding("body", joined(before + [new] + after))
+            this = [[length, kind, body]]
+            yield rebuilding("lost", joined(before + after))
+            yield rebuilding("doubled", joined(before + this + this + after))
+            yield rebuilding("moved", joined(before + after[:1] + this + after[1:]))
+
+
+def form_rules():
+    """Forms of packets that a rule refuses, and those at the limits."""
+    yield rebuilding("no form", b"", 17)
+    for codec in CODECS:
+        def spoiled(**values):
+            records = pair(codec)
+            vars(records[1]).update(values)
+            return joined(MAKER.form_entries(codec, records))
+
+        yield rebuilding("no records", joined([[1, 100, bytes([codec])]]), 17)
+        yield rebuilding("priority", spoiled(priority=3, generation=0), 17)
+        for generation in (1, 7, 8, 255):
+            yield rebuilding("generation", spoiled(generation=generation), None if codec == 0x10 else 17)
+        for ident in (255, 256, 257, 65535):
+            yield rebuilding("event", whole_form(codec, [Record(bytes(8), 0, bytes(15), ident, 0, [[]] * 5)]))
+            groups = [[(ident, b"\x01")]] + [[]] * 4
+            yield rebuilding("ID", whole_form(codec, [Record(bytes(8), 0, bytes(15), 0, 0, groups)]))
+        for size in (255, 256):
+            yield rebuilding(f"{size} bytes", whole_form(codec, [MAKER.record(codec, size)]), 17 if size > 255 else None)
+        for more in (0, 1):
+            records = [MAKER.record(codec, 253) for _ in range(4)] + [MAKER.record(codec, 253 + more)]
+            yield rebuilding(f"{1280 + more} bytes", whole_form(codec, records), 17 if more else None)
+        least = MAKER.record(codec, LEAST[codec])
+        for many in (1265 // LEAST[codec], 1265 // LEAST[codec] + 1, 255, 256, 257):
+            form = whole_form(codec, [least] * many)
+            yield rebuilding(f"{many} records", form, None if many * LEAST[codec] <= 1265 else 17)
+        for other in range(256):
+            form = bytes([1, 0, 100, 0, other]) + whole_form(codec)[5:]
+            yield rebuilding("codec", form, None if other in CODECS else 17)
+
+
+# ---------------------------------------------------------------- the order of refusals
+
+def walk_orders():
+    """Records that break several rules at once: the first in the walk counts."""
+    for codec, side, wrap, _ in each_side():
+        def attempt(expected, first, second, count=2, last=None, more=b""):
+            records = pair(codec)
+            vars(records[0]).update(first)
+            vars(records[1]).update(second)
+            field = data_field(codec, records, count, last)
+            if expected == refused(6):
+                field = bytes([0x07]) + field[1:]
+            return reading("order", side, wrap(field[:-1] + more + field[-1:]), expected)
+
+        wrong = {"priority": 3, "generation": 8, "total": 1}
+        yield attempt(refused(6), wrong, wrong, last=9)
+        yield attempt(refused(7), wrong, wrong, last=9, more=b"\0")
+        yield attempt(refused(10), wrong, wrong)
+        yield attempt(refused(11 if codec == 0x10 else 9), wrong | {"priority": 2}, wrong)
+        yield attempt(refused(9), {"total": 1}, {"priority": 3})
+        yield attempt(refused(10, 1), {}, {"priority": 3}, more=b"\0")
+        yield attempt(refused(9, 1), {}, {"total": 1}, count=3)
+        yield attempt(refused(8), {"total": 1, "counts": {3: 255}}, {"priority": 3})
+        long = vars(of_elements(codec, 120)) | {"total": 1}
+        yield attempt(refused(9), long, {"priority": 3})
+        yield attempt(refused(12), vars(of_elements(codec, 120)), {"priority": 3}, more=b"\0")
+
+
+def head_orders():
+    """Inputs that break several rules of their head, or a rule of it and one of the walk."""
+    bad = data_field(0x08, pair(0x08), 3, 9)
+    frame = tcp(bytes([7]) + bad[1:])
+    spoiled = frame[:-1] + bytes([frame[-1] ^ 1])
+    for side in ("packet", "command"):
+        for data, refusal in ((b"\x01" * 7, 1), (b"\x01" * 8, 2), (bytes(4) + b"\xff" * 9, 3), (spoiled[:-2], 4),
+                              (spoiled, 5), (frame, 6)):
+            yield reading("order", side, data, refused(refusal))
+    wrong = changed(udp(bytes([7]) + bad[1:]), 9, 0x41)
+    for data, refusal in ((wrong[:25], 1), (wrong + bytes(1280), 3), (wrong + b"\0", 4), (wrong, 15),
+                          (changed(wrong, 9, 0x31), 6), (udp(bad), 7)):
+        yield reading("order", "datagram", data, refused(refusal))
+    yield "order", f"read_login {shown(bytes(16))}", refused(1)
+    yield "order", f"read_login {shown(bytes(18))}", refused(4)
+
+
+def command_orders():
+    """Commands, read and to be written, that break several rules."""
+    digit = bytes([0x1F] * 8)
+    for field, refusal in (
+            (b"\x0d\x02\x04\x00\x03", 6), (b"\x0e\x02\x04\x00\x03", 7), (b"\x0e\x01\x04\x00\x01", 13),
+            (b"\x0e\x01\x05\x00\x01", 8), (command_field(0x0E, 4, size=1, imei=digit), 13),
+            (command_field(0x0E, 0x11, size=1, imei=digit), 14), (command_field(0x0E, 0x11, imei=digit), 15),
+            (command_field(0x0E, 0x11), 14), (command_field(0x0C, 0x11, size=1), 13)):
+        yield reading("order", "command", tcp(field), refused(refusal))
+    long = "61" * 1261
+    for words, refusal in ((f"13 4 30 {long}", 6), (f"14 4 30 {long}", 13), (f"12 17 30 {long}", 13),
+                           (f"14 5 30 {long}", 15), (f"12 5 30 {long}", 15), (f"14 17 {shown(IMEI)} {long}", 14),
+                           (f"12 5 - {long}", 14), (f"14 17 {shown(IMEI)} 61", 14), ("12 5 - 61", 18)):
+        yield "order", f"write_command {words} -", refused(refusal) + " -"
+
+
+# ---------------------------------------------------------------- every refusal in every call
+
+def refused_fields(codec):
+    """(number, index, data field) for 6 to 12."""
+    def spoiled(**values):
+        records = pair(codec)
+        vars(records[1]).update(values)
+        return data_field(codec, records)
+
+    yield 6, 0, bytes([0x0C]) + spoiled()[1:]
+    yield 7, 0, data_field(codec, pair(codec), 2, 3)
+    yield 8, 2, data_field(codec, pair(codec), 3)
+    yield 9, 1, spoiled(total=1)
+    yield 10, 1, spoiled(priority=3)
+    if codec == 0x10:
+        yield 11, 1, spoiled(generation=8)
+    yield 12, 1, data_field(codec, [record(codec), MAKER.record(codec, 256)])
+
+
+def refused_inputs(side, codec):
+    """(number, index, input) for every refusal of a data packet or datagram."""
+    good = SIDES[side][0](data_field(codec, pair(codec)))
+    yield 1, 0, b""
+    yield 4, 0, good[:-1]
+    if side == "packet":
+        yield 2, 0, b"\x80" + good[1:]
+        yield 3, 0, good[:4] + number(1269, 4) + good[8:]
+        yield 5, 0, changed(good, len(good) - 1, good[-1] ^ 1)
+    else:
+        yield 3, 0, number(1279, 2) + good[2:] + bytes(1281 - len(good))
+        yield 15, 0, changed(good, 22, 0x3A)
+    for refusal, index, field in refused_fields(codec):
+        yield refusal, index, SIDES[side][0](field)
+
+
+def everywhere():
+    """Each refusal of an input, in each call that takes it."""
+    for codec, side, wrap, _ in each_side():
+        for refusal, index, data in refused_inputs(side, codec):
+            data, answer = shown(data), refused(refusal, index)
+            yield reading("everywhere", side, bytes.fromhex(data.strip("-")), answer)
+            yield "everywhere", f"record_in_{side} {data} 9", answer
+            yield "everywhere", f"value_in_{side} {data} 9 0", answer
+            yield "everywhere", f"id_in_{side} {data} 0 500", answer
+            yield "everywhere", f"view_in_{side} {data} 0 0", "bytes -"
+            yield "everywhere", f"id_view_in_{side} {data} 0 0", "bytes -"
+            yield "everywhere", f"form_of_{side} {data} -", answer + " -"
+            yield "everywhere", f"form_of_{side} {data} {'ee' * 400}", f"{answer} {'ee' * 400}"
+            if side == "datagram":
+                yield "everywhere", f"acknowledge_datagram {data} -", answer + " -"
+                continue
+            yield "everywhere", f"acknowledge_packet {data} eeeeeeeeee", "written 4 00000000ee"
+            good = shown(wrap(data_field(0x08, pair(0x08))))
+            yield "everywhere", f"last_known {data} {good} 20", answer
+            yield "everywhere", f"last_known {good} {data} 500", answer
+            yield "everywhere", f"last_known {good} {data} 20", None
+            yield "everywhere", f"last_known_view {data} {good} 20", "bytes -"
+            yield "everywhere", f"last_known_view {good} {data} 500", "bytes -"
+
+
+def command_texts():
+    """Each refusal of a command behind the view of its text."""
+    good = tcp(command_field(0x0E))
+    yield "text", f"command_text {shown(good)}", "bytes 676574696f"
+    for data in (b"", b"\x01" + good[1:], good[:4] + number(2, 4) + good[8:], good[:-1], good[:-1] + b"\0",
+                 tcp(b"\x08" + good[9:-4]), tcp(good[8:-5] + b"\x02"), tcp(b"\x0e\x01\x01"),
+                 tcp(command_field(0x0E, 4)), tcp(command_field(0x0E, size=1)),
+                 tcp(command_field(0x0E, imei=bytes([16] * 8)))):
+        yield "text", f"command_text {shown(data)}", "bytes -"
+    for data in (b"", LOGIN[:-1], LOGIN + b"0", changed(LOGIN, 9, 65)):
+        yield "answer", f"answer_login {shown(data)} 1 eeee", "written 1 00ee"
+        yield "answer", f"answer_login {shown(data)} 1 -", "refused 18 0 -"
+
+
+def edge_calls():
+    for part in (beginnings, frames, codecs_and_counts, cuts, fields, counts_and_lengths, past_the_record, sizes,
+                 wraps, command_rules, imeis, lookups, twice, last_known, buffers, form_entries, form_rules,
+                 walk_orders, head_orders, command_orders, everywhere, command_texts):
+        yield from part()
