@@ -1,23 +1,21 @@
 -- The judge of a data field accepts exactly what keeps the rules.
-use Prim.Native.Nat.{ℕ, _+_, _≤_, _<_}
+use Prim.Native.Nat.{ℕ, _≤_, _<_}
 use native.Mathlib.Omega.{arith}
 use mathlib.Core.Path.{_≡_, refl, sym, ap, ap₂, _∙_, subst}
 use mathlib.Core.Bool.{Bool, true, false}
 use mathlib.Core.Logic.{_↔_}
-use mathlib.Core.List.{List, []}
+use mathlib.Core.List.{List}
 use lib.ListN.{length}
 use lib.Dec.{eqb, leb}
 use borrow.Author.Tests.{le-leb, leb-true, eq-eqb, eqb-true}
 use Rattle.wire.specs.Numbers.{Bytes, pick}
-use Rattle.wire.specs.Sequences.{joined, All}
+use Rattle.wire.specs.Sequences.{joined}
 use Rattle.wire.specs.Envelope.{enclosed, codecOf, firstCount, lastCount, inner}
-use Rattle.wire.specs.Reading.{got}
-use Rattle.wire.specs.Answers.{Answer, accepted, refused, check, told, onAccepted}
-use Rattle.wire.proofs.Enclosed.{enclosed-parts, length-enclosed, codec-enclosed, first-enclosed, last-enclosed, inner-enclosed, bytes-inner, first-lt}
+use Rattle.wire.specs.Answers.{accepted}
+use Rattle.wire.proofs.Enclosed.{enclosed-parts, codec-enclosed, first-enclosed, last-enclosed, inner-enclosed, bytes-inner, first-lt}
 use Rattle.wire.proofs.Accepting.{check-accepted, check-passed, onAccepted-accepted, onAccepted-passed, told-accepted, told-got}
 use Rattle.avl.specs.Codecs.{widthsOf, isDataCodec}
-use Rattle.avl.specs.Records.{AvlRecord, recordBytes, RecordRules}
-use Rattle.avl.specs.RecordReader.{allRecords}
+use Rattle.avl.specs.Records.{recordBytes}
 use Rattle.avl.specs.DataField.{AvlData, dataBytes, DataRules, readData}
 use Rattle.avl.proofs.RecordLaws.{all-sound, all-complete}
 

@@ -2,20 +2,20 @@
 use Prim.Native.Nat.{ℕ, zero, suc, _+_, _^_, _≤_, _<_}
 use native.Mathlib.Nat.{add-zero}
 use native.Mathlib.Omega.{arith}
-use mathlib.Core.Path.{_≡_, refl, sym, ap, ap₂, _∙_, subst, subst₂}
+use mathlib.Core.Path.{_≡_, refl, sym, ap, ap₂, _∙_, subst}
 use mathlib.Core.Bool.{Bool, true, false}
-use mathlib.Core.List.{List, [], _∷_, _++_, append-assoc}
+use mathlib.Core.List.{List, [], _∷_}
 use lib.ListN.{length}
 use lib.Dec.{eqb, leb}
 use borrow.Author.Tests.{le-leb, leb-true, eq-eqb, eqb-true}
 use Rattle.wire.specs.Numbers.{Bytes, be, pick}
 use Rattle.wire.specs.Sequences.{joined, All}
-use Rattle.wire.specs.Reading.{Read, got, bad, Reader, _>>=_, _>>_, pure, here, require, number, bytes, upTo, repeat}
+use Rattle.wire.specs.Reading.{Read, got, bad, Reader, _>>=_, _>>_, pure, here, require, number, bytes, upTo}
 use Rattle.wire.proofs.Placed.{Between, between-nil, between-join, between-split, between-moved, between-bytes, between-whole, whole-between}
 use Rattle.wire.proofs.Exactness.{Meets, meets-then, meets-next, meets-pure, meets-weaken, meets-got, meets-pick, meets-here, meets-require, then-got, next-got, here-got, require-got, Exact, number-exact, bytes-exact, upTo-exact, repeat-sound, repeat-complete}
 use Rattle.avl.specs.declared.Widths.{Widths}
 use Rattle.avl.specs.Codecs.{kinds}
-use Rattle.avl.specs.Records.{Element, Fixed, AvlRecord, total, lengthBytes, elementBytes, groupBytes, groupsBytes, fixedBytes, recordBytes, ValueSize, ElementRules, GroupRules, GroupsRules, FixedRules, RecordRules}
+use Rattle.avl.specs.Records.{Element, AvlRecord, total, lengthBytes, elementBytes, groupBytes, groupsBytes, fixedBytes, recordBytes, ValueSize, ElementRules, GroupRules, GroupsRules, FixedRules, RecordRules}
 use Rattle.avl.specs.RecordReader.{valueSize, element, group, groups, fixedFields, avlRecord, tagged, inRecord, avlRecords, atEnd, allRecords}
 
 pure-exact : {A : Type 0} (a : A) → Exact (pure a) (λ b. []) (λ b. b ≡ a)

@@ -3,7 +3,6 @@ use mathlib.Core.Path.{_≡_, refl}
 use mathlib.Core.List.{List, [], _∷_, _++_}
 use Prim.Native.Nat.{ℕ}
 use lib.ListN.{replicate}
-use Rattle.avl.specs.Records.{Element, Fixed, AvlRecord}
 use Rattle.wire.specs.Reading.{got, bad}
 use Rattle.wire.specs.Answers.{onAccepted, told, check}
 use Rattle.wire.specs.Envelope.{enclosed, codecOf, firstCount, lastCount, inner}

@@ -1,12 +1,11 @@
 -- Demand 3 holds, for any limits whose records fit the TLV form's lengths, the base's 1,280 and 255 among them.
-use Prim.Native.Nat.{ℕ, suc, _+_, _%_, _^_, _<_}
+use Prim.Native.Nat.{ℕ, _%_, _^_, _<_}
 use native.Mathlib.Omega.{arith}
-use mathlib.Core.Path.{_≡_, refl, sym, ap, ap₂, _∙_, subst, subst₂}
+use mathlib.Core.Path.{_≡_, sym, ap, ap₂, _∙_, subst₂}
 use mathlib.Core.List.{List, [], _∷_}
 use lib.ListN.{length}
 use lib.Dec.{lit<}
-use Rattle.wire.specs.Numbers.{Bytes}
-use Rattle.wire.specs.Sequences.{joined, All}
+use Rattle.wire.specs.Sequences.{All}
 use Rattle.wire.proofs.Placed.{between-whole}
 use Rattle.checksum.specs.Bits.{differing}
 use Rattle.frame.specs.Frame.{framed, FrameRules, IsFrame, fieldOf, lastFour}
@@ -20,7 +19,7 @@ use Rattle.command.specs.Commands.{Command, commandField, CommandPacket}
 use Rattle.command.proofs.CommandLaws.{layout-unique}
 use Rattle.tlv.specs.Form.{form}
 use Rattle.tlv.proofs.PacketOfLaws.{form-unique}
-use Rattle.claims.specs.Demand3.{Accepted, isData, isCommand, AgreeBut, Told, NeverTakenForEachOther}
+use Rattle.claims.specs.Demand3.{Accepted, isData, isCommand, AgreeBut, NeverTakenForEachOther}
 
 module _ (largest longest : ℕ) where
   framing : (d p : List ℕ) → FrameRules largest d → p ≡ framed d → IsFrame p

@@ -4,11 +4,11 @@ use mathlib.Core.Path.{_≡_, ap, _∙_}
 use mathlib.Core.Logic.{_↔_}
 use mathlib.Core.List.{List}
 use Rattle.wire.specs.Numbers.{Bytes}
-use Rattle.wire.specs.Answers.{accepted, onAccepted}
+use Rattle.wire.specs.Answers.{accepted}
 use Rattle.wire.proofs.Accepting.{onAccepted-accepted, onAccepted-passed}
-use Rattle.frame.specs.Frame.{framed, FrameRules, unframe}
+use Rattle.frame.specs.Frame.{framed, unframe}
 use Rattle.frame.proofs.FrameLaws.{frame-exact, frame-complete}
-use Rattle.command.specs.Commands.{Command, commandField, CommandRules, CommandPacket, readField, readCommand}
+use Rattle.command.specs.Commands.{Command, commandField, CommandPacket, readField, readCommand}
 use Rattle.command.proofs.CommandLaws.{field-sound, field-complete}
 
 command-sound : (largest : ℕ) (p : List ℕ) (c : Command) → Bytes p → readCommand largest p ≡ accepted c → CommandPacket largest c p

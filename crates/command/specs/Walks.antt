@@ -1,5 +1,5 @@
 -- What the code answers, of what the definitions read.
-use Prim.Native.Nat.{ℕ, _+_}
+use Prim.Native.Nat.{ℕ}
 use mathlib.Core.List.{List}
 use lib.ListN.{length}
 use Rattle.wire.specs.Reading.{Read, got, bad}

@@ -18,7 +18,7 @@ use Rattle.wire.proofs.Enclosed.{length-enclosed}
 use Rattle.wire.proofs.Exactness.{meets-then, meets-pure, then-got, Exact, number-exact}
 use Rattle.wire.proofs.Accepting.{check-accepted, check-passed, onAccepted-accepted, onAccepted-passed, told-accepted, told-got}
 use Rattle.wire.proofs.ImeiText.{imei-exact, length-imeiText}
-use Rattle.avl.specs.DataField.{AvlData, dataBytes, DataRules, readData}
+use Rattle.avl.specs.DataField.{AvlData, dataBytes, readData}
 use Rattle.avl.proofs.DataLaws.{data-exact, data-complete}
 use Rattle.datagram.specs.declared.Header.{Header}
 use Rattle.datagram.specs.Datagrams.{Datagram, headerBytes, contentBytes, datagramBytes, HeaderRules, UdpPacket, readHeader, judgeHeader, readDatagram}

@@ -1,24 +1,23 @@
 -- The number of a record's elements, group by group.
-use Prim.Native.Nat.{ℕ, zero, suc, _+_, _*_, _^_, _≤_, _<_}
+use Prim.Native.Nat.{ℕ, zero, suc, _+_, _*_, _≤_, _<_}
 use native.Mathlib.Nat.{suc-mul}
 use native.Mathlib.Omega.{arith}
-use mathlib.Core.Path.{_≡_, refl, sym, ap, _∙_, subst}
+use mathlib.Core.Path.{_≡_, sym, ap, _∙_, subst}
 use mathlib.Core.Bool.{true, false}
 use mathlib.Core.List.{List, [], _∷_}
 use lib.ListN.{length, drop, getD}
 use lib.Dec.{eqb}
 use borrow.Author.Tests.{ne-eqb}
-use Rattle.wire.specs.Numbers.{Bytes, numberAt, pick}
+use Rattle.wire.specs.Numbers.{numberAt, pick}
 use Rattle.wire.specs.Reading.{got, pure, repeat}
 use Rattle.wire.proofs.Accepting.{pick-true, pick-false}
 use Rattle.avl.specs.declared.Widths.{Widths}
 use Rattle.avl.specs.Codecs.{kinds, allKinds}
 use Rattle.avl.specs.Records.{Element, AvlRecord, elementCount}
 use Rattle.avl.specs.RecordReader.{element, group, groups, avlRecord}
-use Rattle.walk.specs.Walks.{Narrow}
 use Rattle.walk.proofs.KindLaws.{kinds-four, kind-known, next-kind}
 use Rattle.element.specs.Elements.{leadSize, fixedSize}
-use Rattle.element.proofs.ReadLaws.{element-read, Parted, repeat-parted, repeat-nothing, groups-parted, group-repeat, number-below, record-read}
+use Rattle.element.proofs.ReadLaws.{element-read, Parted, repeat-parted, repeat-nothing, groups-parted, group-repeat, record-read}
 
 -- as many elements as were asked for
 repeat-size : (w : Widths) (kind : ℕ) (s : List ℕ) (n at : ℕ) (g : List Element) (end : ℕ) → repeat n (element w kind) s at ≡ got g end → length g ≡ n

@@ -1,16 +1,15 @@
 -- Each value of a record lies within the record's bytes, and the elements are as many as the groups have.
 use Prim.Native.Nat.{ℕ, suc, _+_}
-use native.Mathlib.Nat.{zero-add}
 use native.Mathlib.Omega.{arith}
 use mathlib.Core.Path.{_≡_, refl, ap, ap₂, _∙_}
 use mathlib.Core.Bool.{Bool, true, false}
-use mathlib.Core.List.{List, [], _∷_, _++_, append-assoc}
+use mathlib.Core.List.{List, [], _∷_}
 use lib.ListN.{length, length-append}
 use lib.Dec.{eqb}
 use Rattle.wire.specs.Numbers.{be, pick}
-use Rattle.wire.specs.Sequences.{fields, joined, All}
+use Rattle.wire.specs.Sequences.{joined, All}
 use Rattle.wire.proofs.Widths.{length-digits, all-append}
-use Rattle.wire.proofs.Placed.{Between, between-split, between-moved, between-bytes, between-whole, between-is}
+use Rattle.wire.proofs.Placed.{Between, between-split, between-moved, between-whole, between-is}
 use Rattle.avl.specs.declared.Widths.{Widths}
 use Rattle.avl.specs.Codecs.{kinds}
 use Rattle.avl.specs.Records.{Element, Fixed, AvlRecord, elementCount, total, lengthBytes, elementBytes, groupBytes, groupsBytes, fixedBytes, recordBytes, GroupsRules, RecordRules}

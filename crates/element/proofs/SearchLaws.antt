@@ -12,7 +12,7 @@ use borrow.Author.Tests.{eq-eqb, ne-eqb}
 use Rattle.wire.specs.Numbers.{Bytes, numberAt, pick}
 use Rattle.wire.specs.Reading.{got, repeat}
 use Rattle.wire.specs.Answers.{Answer, accepted, refused}
-use Rattle.wire.proofs.Accepting.{pick-true, pick-false, pick-either}
+use Rattle.wire.proofs.Accepting.{pick-true, pick-false}
 use Rattle.wire.proofs.Widths.{byte-pos}
 use Rattle.avl.specs.declared.Widths.{Widths}
 use Rattle.avl.specs.Codecs.{kinds, allKinds}

@@ -1,17 +1,17 @@
 -- How two equally long frames can differ: never in an odd number of bits, and, where their CRC fields agree, never in one
 -- byte or two neighbouring bytes of the data field only.
-use Prim.Native.Nat.{ℕ, zero, suc, _+_, _-_, _*_, _%_, _^_, _≤_, _<_}
+use Prim.Native.Nat.{ℕ, suc, _+_, _-_, _%_, _^_, _≤_, _<_}
 use native.Mathlib.Nat.{lt-of-lt-of-le}
 use native.Mathlib.Omega.{arith}
-use mathlib.Core.Path.{_≡_, refl, sym, ap, ap₂, _∙_, subst}
-use mathlib.Core.List.{List, [], _∷_, _++_, append-assoc}
+use mathlib.Core.Path.{_≡_, sym, ap, ap₂, _∙_}
+use mathlib.Core.List.{List, _++_, append-assoc}
 use lib.ListN.{length, drop, getD, length-append}
 use lib.Dec.{lit≤, lit<}
 use lib.Seq.{drop-at}
-use Rattle.wire.specs.Numbers.{Bytes, digits, valueFrom, be}
+use Rattle.wire.specs.Numbers.{Bytes, valueFrom, be}
 use Rattle.wire.proofs.Widths.{length-digits, value-digits}
 use Rattle.checksum.specs.Crc.{crc}
-use Rattle.checksum.specs.Bits.{ones, onesOf, differing}
+use Rattle.checksum.specs.Bits.{onesOf, differing}
 use Rattle.checksum.proofs.CrcLaws.{crc-lt, neighbours}
 use Rattle.checksum.proofs.BitLaws.{onesOf-append, differing-parity, crc-parity}
 use Rattle.frame.specs.Frame.{framed, lastFour}

@@ -1,16 +1,16 @@
 -- The frame's judge accepts exactly what keeps the frame's rules.
-use Prim.Native.Nat.{ℕ, zero, suc, _+_, _-_, _^_, _≤_, _<_}
+use Prim.Native.Nat.{ℕ, _+_, _-_, _^_, _≤_, _<_}
 use native.Mathlib.Nat.{lt-of-lt-of-le}
 use native.Mathlib.Omega.{arith}
-use mathlib.Core.Path.{_≡_, refl, sym, ap, ap₂, _∙_, subst}
+use mathlib.Core.Path.{_≡_, refl, sym, ap, _∙_, subst}
 use mathlib.Core.Logic.{_↔_}
-use mathlib.Core.List.{List, [], _∷_, _++_, append-nil}
-use lib.ListN.{length, take, drop, length-append, length-drop, drop-of-length-le}
+use mathlib.Core.List.{List, _++_}
+use lib.ListN.{length, take, drop, length-append, length-drop}
 use lib.Seq.{length-take-le}
 use lib.Dec.{eqb, leb, lit<, lit≤}
 use borrow.Author.Tests.{le-leb, leb-true, eq-eqb, eqb-true}
 use Rattle.wire.specs.Numbers.{Bytes, numberAt, digits, be}
-use Rattle.wire.specs.Answers.{Answer, accepted, check}
+use Rattle.wire.specs.Answers.{accepted, check}
 use Rattle.wire.proofs.Widths.{be-number, number-be, number-lt, length-digits, bytes-take, bytes-drop, bytes-append, bytes-be}
 use Rattle.wire.proofs.Placed.{Between, between-join, between-split, between-moved, between-bytes, between-take, between-is, between-whole, whole-between}
 use Rattle.wire.proofs.Accepting.{check-accepted, check-passed}

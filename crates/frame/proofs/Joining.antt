@@ -1,15 +1,14 @@
 -- Frames that are joined one behind the other can be taken apart in one way only.
-use Prim.Native.Nat.{ℕ, zero, suc, _+_, _^_, _≤_, _<_}
+use Prim.Native.Nat.{ℕ, _+_}
 use native.Mathlib.Omega.{arith}
-use mathlib.Core.Path.{_≡_, refl, sym, ap, ap₂, _∙_, subst}
+use mathlib.Core.Path.{_≡_, refl, sym, ap, ap₂, _∙_}
 use mathlib.Core.List.{List, [], _∷_, _++_}
 use lib.ListN.{length, drop, length-append}
 use lib.Seq.{drop-at}
-use Rattle.wire.specs.Numbers.{Bytes}
 use Rattle.wire.specs.Sequences.{joined, All}
 use Rattle.wire.proofs.Placed.{Between}
 use Rattle.frame.specs.Frame.{framed, fieldOf, IsFrame}
-use Rattle.frame.proofs.FrameLaws.{length-framed, Parts, parts}
+use Rattle.frame.proofs.FrameLaws.{length-framed, parts}
 
 in-front : (a b : List ℕ) → Between (a ++ b) 0 a (length a)
 in-front a b =

@@ -20,7 +20,6 @@ use Rattle.lookup.specs.declared.Part.{Part}
 use Rattle.lookup.specs.declared.RecordAnswer.{RecordAnswer}
 use Rattle.lookup.specs.declared.ValueAnswer.{ValueAnswer}
 use Rattle.lookup.specs.declared.KnownAnswer.{KnownAnswer}
-use Rattle.lookup.specs.Places.{Placed}
 use Rattle.lookup.specs.Lookups.{Source, placedRecord, Found, LastKnown}
 
 unfoldable pub recordAs : RecordAnswer → Answer RecordFields

@@ -1,10 +1,8 @@
 -- Looking values up: by record and element number, by record and ID, and the last known value of an ID.
-use Prim.Native.Nat.{ℕ, zero, suc, _+_, _-_}
+use Prim.Native.Nat.{ℕ, _+_, _-_}
 use mathlib.Core.Bool.{Bool, true, false}
-use mathlib.Core.List.{List, [], _∷_}
+use mathlib.Core.List.{List, []}
 use lib.ListN.{length}
-use lib.Dec.{eqb}
-use Rattle.wire.specs.Numbers.{pick}
 use Rattle.wire.specs.Answers.{Answer, accepted, refused, onAccepted}
 use Rattle.avl.specs.Codecs.{widthsOf}
 use Rattle.avl.specs.DataField.{AvlData}

@@ -1,14 +1,14 @@
 -- The judge of a TCP data packet accepts exactly what keeps the rules, in one way only.
-use Prim.Native.Nat.{ℕ, _≤_}
-use mathlib.Core.Path.{_≡_, refl, sym, ap, _∙_}
+use Prim.Native.Nat.{ℕ}
+use mathlib.Core.Path.{_≡_, ap, _∙_}
 use mathlib.Core.Logic.{_↔_}
 use mathlib.Core.List.{List}
 use Rattle.wire.specs.Numbers.{Bytes}
-use Rattle.wire.specs.Answers.{Answer, accepted, onAccepted}
+use Rattle.wire.specs.Answers.{accepted}
 use Rattle.wire.proofs.Accepting.{onAccepted-accepted, onAccepted-passed}
-use Rattle.avl.specs.DataField.{AvlData, dataBytes, DataRules, readData}
+use Rattle.avl.specs.DataField.{AvlData, dataBytes, readData}
 use Rattle.avl.proofs.DataLaws.{data-exact, data-complete}
-use Rattle.frame.specs.Frame.{framed, FrameRules, unframe}
+use Rattle.frame.specs.Frame.{framed, unframe}
 use Rattle.frame.proofs.FrameLaws.{frame-exact, frame-complete}
 use Rattle.packet.specs.DataPackets.{packetBytes, DataPacket, readPacket}
 

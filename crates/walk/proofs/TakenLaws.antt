@@ -2,12 +2,10 @@
 use Prim.Native.Nat.{ℕ}
 use native.Mathlib.Omega.{arith}
 use mathlib.Core.Path.{_≡_, refl, ap, ap₂}
-use mathlib.Core.List.{List}
 use lib.ListN.{length}
 use Rattle.wire.specs.declared.Refusal.{Refusal}
 use Rattle.wire.specs.Answers.{Answer, accepted, refused}
 use Rattle.walk.specs.declared.Span.{Span}
-use Rattle.walk.specs.declared.DataWalk.{DataWalk}
 use Rattle.walk.specs.declared.DataWalk.the-variants.{Taken, Refused}
 use Rattle.avl.specs.Codecs.{widthsOf}
 use Rattle.avl.specs.DataField.{AvlData}

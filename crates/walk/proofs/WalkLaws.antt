@@ -16,7 +16,7 @@ use Rattle.wire.specs.declared.Walk.the-variants.{On, Stopped}
 use Rattle.wire.specs.Numbers.{Bytes, numberAt, pick}
 use Rattle.wire.specs.Reading.{Read, got, bad, walked, Reader, andThen, _>>=_, _>>_, pure, require, number, bytes, upTo, repeat}
 use Rattle.wire.specs.Envelope.{codecOf, firstCount, lastCount, inner}
-use Rattle.wire.specs.Answers.{Answer, accepted, refused, check, told, onAccepted}
+use Rattle.wire.specs.Answers.{Answer, accepted, told, onAccepted}
 use Rattle.wire.proofs.Widths.{number-lt, byte-pos}
 use Rattle.wire.proofs.Enclosed.{bytes-inner}
 use Rattle.wire.proofs.Accepting.{pick-true, pick-false, pick-either, check-passed, check-failed}

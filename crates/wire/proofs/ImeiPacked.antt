@@ -1,6 +1,6 @@
 -- A packed IMEI is read exactly where one stands.
 use Prim.Native.Nat.{ℕ, zero, suc, _+_, _-_, _*_, _/_, _%_, _^_, _≤_, _<_}
-use native.Mathlib.Nat.{mod-eq-of-lt, lt-of-mul-lt-mul-right, pow-suc, pow-zero, mul-one, add-zero}
+use native.Mathlib.Nat.{lt-of-mul-lt-mul-right, pow-suc, pow-zero, mul-one, add-zero}
 use native.Mathlib.Omega.{arith}
 use mathlib.Core.Path.{_≡_, refl, sym, ap, _∙_, subst, subst₂}
 use mathlib.Core.Logic.{_↔_}
@@ -10,7 +10,7 @@ use lib.ListN.{length}
 use lib.Dec.{leb, lit<}
 use lib.Arith.{digits-lt}
 use borrow.Author.Tests.{le-leb, leb-true}
-use Rattle.wire.specs.Numbers.{Bytes, digits, valueFrom, be, pick}
+use Rattle.wire.specs.Numbers.{Bytes, digits, valueFrom, pick}
 use Rattle.wire.specs.Sequences.{joined, All}
 use Rattle.wire.specs.Reading.{got, pure, here, require, number, repeat}
 use Rattle.wire.specs.Imei.{packedPair, packed, pairUpTo, readPacked}

@@ -1,13 +1,11 @@
 -- Where bytes stand in a list: `Between s at bs next` says that the bytes `bs` stand in `s` from `at` up to `next`.
-use Prim.Native.Nat.{ℕ, zero, suc, _+_, _-_, _≤_, _<_}
-use native.Mathlib.Nat.{add-zero, add-assoc}
+use Prim.Native.Nat.{ℕ, _+_, _-_, _≤_}
+use native.Mathlib.Nat.{add-zero}
 use native.Mathlib.Omega.{arith}
 use mathlib.Core.Path.{_≡_, refl, sym, ap, _∙_, subst, subst₂}
-use mathlib.Core.List.{List, [], _∷_, _++_, append-assoc, append-nil}
-use lib.ListN.{length, take, drop, length-append, length-drop, length-take, take-append-drop}
+use mathlib.Core.List.{List, [], _++_, append-assoc, append-nil}
+use lib.ListN.{length, take, drop, length-append, length-drop, take-append-drop}
 use lib.Seq.{drop-drop, drop-at, take-at, length-take-le, drop-length}
-use Rattle.wire.specs.Numbers.{Bytes}
-use Rattle.wire.proofs.Widths.{bytes-take, bytes-drop}
 
 pub record Between (s : List ℕ) (at : ℕ) (bs : List ℕ) (next : ℕ) : Type 0 where
   pub layout : drop at s ≡ bs ++ drop next s

@@ -1,18 +1,17 @@
 -- Which way a walk goes at a field: on behind it where its bytes are there and it keeps its rule, else it stops.
-use Prim.Native.Nat.{ℕ, zero, suc, _+_, _≤_, _<_}
+use Prim.Native.Nat.{ℕ, _+_, _≤_, _<_}
 use native.Mathlib.Omega.{arith}
-use mathlib.Core.Path.{_≡_, refl, sym, ap, _∙_}
-use mathlib.Core.Bool.{Bool, true, false}
-use mathlib.Core.List.{List, [], _∷_}
+use mathlib.Core.Path.{_≡_, ap, _∙_}
+use mathlib.Core.Bool.{Bool, false}
+use mathlib.Core.List.{List}
 use lib.ListN.{length, take, drop}
 use lib.Dec.{leb}
 use borrow.Author.Tests.{le-leb, lt-leb}
 use Rattle.wire.specs.declared.Fault.{Fault}
-use Rattle.wire.specs.declared.Walk.{Walk}
 use Rattle.wire.specs.declared.Walk.the-variants.{On, Stopped}
-use Rattle.wire.specs.Numbers.{numberAt, pick}
-use Rattle.wire.specs.Reading.{Read, got, bad, walked, Reader, andThen, _>>=_, _>>_, pure, here, require, span, number, bytes, upTo, repeat}
-use Rattle.wire.proofs.Exactness.{then-got, next-got, here-got, require-got}
+use Rattle.wire.specs.Numbers.{numberAt}
+use Rattle.wire.specs.Reading.{Read, got, bad, walked, Reader, andThen, _>>=_, _>>_, pure, require, span, number, bytes, upTo}
+use Rattle.wire.proofs.Exactness.{then-got, here-got, require-got}
 
 -- a field's bytes are missing
 abbrev pub short : ℕ → Fault

@@ -1,14 +1,14 @@
 -- The laws of numbers as bytes, each once for every width.
 use Prim.Native.Nat.{ℕ, zero, suc, _+_, _-_, _*_, _/_, _%_, _^_, _≤_, _<_}
-use native.Mathlib.Nat.{add-zero, zero-add, add-suc, add-assoc, div-add-mod', mod-lt, mod-eq-of-lt, div-lt-iff-lt-mul, pow-zero, pow-suc, mul-one, mul-assoc, mul-comm, mul-le-mul-right, suc-add, le-refl, le-trans}
+use native.Mathlib.Nat.{add-zero, zero-add, add-suc, div-add-mod', mod-lt, mod-eq-of-lt, div-lt-iff-lt-mul, pow-zero, pow-suc, mul-one, mul-assoc, mul-comm, mul-le-mul-right, suc-add, le-refl, le-trans}
 use native.Mathlib.Numerals.{add-one}
 use native.Mathlib.Omega.{arith}
 use mathlib.Core.Path.{_≡_, refl, sym, ap, ap₂, _∙_, subst}
 use mathlib.Core.List.{List, [], _∷_, _++_, append-assoc, append-nil}
-use lib.ListN.{length, take, drop, getD, length-append, length-drop}
+use lib.ListN.{length, take, drop, getD, length-append}
 use lib.Dec.{lit<}
 use lib.Arith.{digits-div, digits-mod, digits-lt, lt-one}
-use lib.Seq.{drop-cons, drop-drop, drop-at, getD-at, getD-drop, append-snoc}
+use lib.Seq.{drop-cons, drop-drop, getD-at, getD-drop}
 use Rattle.wire.specs.Numbers.{Bytes, numberAt, digits, valueFrom, be, littleAt, le}
 use Rattle.wire.specs.Sequences.{All}
 

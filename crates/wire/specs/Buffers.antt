@@ -1,10 +1,8 @@
 -- Writing into a lent buffer: what a writer answers, and what every byte of the buffer holds afterwards.
 use Prim.Native.Nat.{ℕ}
-use mathlib.Core.Bool.{Bool}
 use mathlib.Core.List.{List, _++_}
 use lib.ListN.{length, drop}
 use lib.Dec.{leb}
-use Rattle.wire.specs.declared.Refusal.{Refusal}
 use Rattle.wire.specs.declared.Written.{Written}
 use Rattle.wire.specs.declared.Written.the-variants.{Bytes, Refused}
 use Rattle.wire.specs.Numbers.{pick}

@@ -1,12 +1,8 @@
 use Rattle.capi.specs.Flat.{flatWritten}
-use mathlib.Core.Path.{_≡_, sym, ap, _∙_}
+use mathlib.Core.Path.{ap, _∙_}
 use borrow.Author.Needs.{needs}
 use Rattle.capi.proofs.brundilope_acknowledge_datagram.Statement.{statement}
 use Rattle.capi.proofs.brundilope_acknowledge_datagram.Tie as tie
-use Rattle.capi.proofs.brundilope_acknowledge_datagram.Reads as reads
-use Rattle.capi.proofs.brundilope_acknowledge_datagram.Lts as lts
-use Rattle.capi.proofs.flat_written.Reads as flat-written-reads
-use Rattle.datagram.proofs.acknowledge_datagram.Reads as acknowledge-datagram-reads
 
 acknowledge-datagram-requires : tie.Need-acknowledge-datagram-requires
 acknowledge-datagram-requires c κs = search needs

@@ -1,12 +1,8 @@
 use Rattle.capi.specs.Flat.{flatWritten}
-use mathlib.Core.Path.{_≡_, sym, ap, _∙_}
+use mathlib.Core.Path.{ap, _∙_}
 use borrow.Author.Needs.{needs}
 use Rattle.capi.proofs.brundilope_acknowledge_packet.Statement.{statement}
 use Rattle.capi.proofs.brundilope_acknowledge_packet.Tie as tie
-use Rattle.capi.proofs.brundilope_acknowledge_packet.Reads as reads
-use Rattle.capi.proofs.brundilope_acknowledge_packet.Lts as lts
-use Rattle.capi.proofs.flat_written.Reads as flat-written-reads
-use Rattle.packet.proofs.acknowledge_packet.Reads as acknowledge-packet-reads
 
 acknowledge-packet-requires : tie.Need-acknowledge-packet-requires
 acknowledge-packet-requires c κs = search needs

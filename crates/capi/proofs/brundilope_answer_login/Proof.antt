@@ -1,12 +1,8 @@
 use Rattle.capi.specs.Flat.{flatWritten}
-use mathlib.Core.Path.{_≡_, sym, ap, _∙_}
+use mathlib.Core.Path.{ap, _∙_}
 use borrow.Author.Needs.{needs}
 use Rattle.capi.proofs.brundilope_answer_login.Statement.{statement}
 use Rattle.capi.proofs.brundilope_answer_login.Tie as tie
-use Rattle.capi.proofs.brundilope_answer_login.Reads as reads
-use Rattle.capi.proofs.brundilope_answer_login.Lts as lts
-use Rattle.capi.proofs.flat_written.Reads as flat-written-reads
-use Rattle.login.proofs.answer_login.Reads as answer-login-reads
 
 answer-login-requires : tie.Need-answer-login-requires
 answer-login-requires c κs = search needs

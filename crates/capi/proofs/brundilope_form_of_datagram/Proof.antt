@@ -1,12 +1,8 @@
 use Rattle.capi.specs.Flat.{flatWritten}
-use mathlib.Core.Path.{_≡_, sym, ap, _∙_}
+use mathlib.Core.Path.{ap, _∙_}
 use borrow.Author.Needs.{needs}
 use Rattle.capi.proofs.brundilope_form_of_datagram.Statement.{statement}
 use Rattle.capi.proofs.brundilope_form_of_datagram.Tie as tie
-use Rattle.capi.proofs.brundilope_form_of_datagram.Reads as reads
-use Rattle.capi.proofs.brundilope_form_of_datagram.Lts as lts
-use Rattle.capi.proofs.flat_written.Reads as flat-written-reads
-use Rattle.form.proofs.form_of_datagram.Reads as form-of-datagram-reads
 
 form-of-datagram-requires : tie.Need-form-of-datagram-requires
 form-of-datagram-requires c κs = search needs

@@ -1,12 +1,8 @@
 use Rattle.capi.specs.Flat.{flatWritten}
-use mathlib.Core.Path.{_≡_, sym, ap, _∙_}
+use mathlib.Core.Path.{ap, _∙_}
 use borrow.Author.Needs.{needs}
 use Rattle.capi.proofs.brundilope_form_of_packet.Statement.{statement}
 use Rattle.capi.proofs.brundilope_form_of_packet.Tie as tie
-use Rattle.capi.proofs.brundilope_form_of_packet.Reads as reads
-use Rattle.capi.proofs.brundilope_form_of_packet.Lts as lts
-use Rattle.capi.proofs.flat_written.Reads as flat-written-reads
-use Rattle.form.proofs.form_of_packet.Reads as form-of-packet-reads
 
 form-of-packet-requires : tie.Need-form-of-packet-requires
 form-of-packet-requires c κs = search needs

@@ -1,12 +1,8 @@
 use Rattle.capi.specs.Flat.{flatValue}
-use mathlib.Core.Path.{_≡_, sym, ap, _∙_}
+use mathlib.Core.Path.{ap, _∙_}
 use borrow.Author.Needs.{needs}
 use Rattle.capi.proofs.brundilope_id_in_packet.Statement.{statement}
 use Rattle.capi.proofs.brundilope_id_in_packet.Tie as tie
-use Rattle.capi.proofs.brundilope_id_in_packet.Reads as reads
-use Rattle.capi.proofs.brundilope_id_in_packet.Lts as lts
-use Rattle.capi.proofs.flat_value.Reads as flat-value-reads
-use Rattle.lookup.proofs.id_in_packet.Reads as id-in-packet-reads
 
 id-in-packet-requires : tie.Need-id-in-packet-requires
 id-in-packet-requires c κs = search needs

@@ -1,12 +1,9 @@
 use Rattle.capi.specs.Flat.{flatKnown}
-use Rattle.lookup.specs.Answers.{recordAs, valueAs, knownAs}
-use mathlib.Core.Path.{_≡_, sym, ap, _∙_}
+use Rattle.lookup.specs.Answers.{knownAs}
+use mathlib.Core.Path.{sym, ap, _∙_}
 use borrow.Author.Needs.{needs}
 use Rattle.capi.proofs.brundilope_last_known.Statement.{statement}
 use Rattle.capi.proofs.brundilope_last_known.Tie as tie
-use Rattle.capi.proofs.brundilope_last_known.Reads as reads
-use Rattle.capi.proofs.brundilope_last_known.Lts as lts
-use Rattle.lookup.proofs.last_known.Reads as last-known-reads
 
 last-known-requires : tie.Need-last-known-requires
 last-known-requires c κs = search needs

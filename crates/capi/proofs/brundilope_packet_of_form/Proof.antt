@@ -1,12 +1,8 @@
 use Rattle.capi.specs.Flat.{flatWritten}
-use mathlib.Core.Path.{_≡_, sym, ap, _∙_}
+use mathlib.Core.Path.{ap, _∙_}
 use borrow.Author.Needs.{needs}
 use Rattle.capi.proofs.brundilope_packet_of_form.Statement.{statement}
 use Rattle.capi.proofs.brundilope_packet_of_form.Tie as tie
-use Rattle.capi.proofs.brundilope_packet_of_form.Reads as reads
-use Rattle.capi.proofs.brundilope_packet_of_form.Lts as lts
-use Rattle.capi.proofs.flat_written.Reads as flat-written-reads
-use Rattle.rebuild.proofs.packet_of_form.Reads as packet-of-form-reads
 
 packet-of-form-requires : tie.Need-packet-of-form-requires
 packet-of-form-requires c κs = search needs

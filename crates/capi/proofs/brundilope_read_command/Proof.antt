@@ -1,12 +1,9 @@
 use Rattle.command.specs.Commands.{commandAs}
 use Rattle.capi.specs.Flat.{flatCommand}
-use mathlib.Core.Path.{_≡_, sym, ap, _∙_}
+use mathlib.Core.Path.{sym, ap, _∙_}
 use borrow.Author.Needs.{needs}
 use Rattle.capi.proofs.brundilope_read_command.Statement.{statement}
 use Rattle.capi.proofs.brundilope_read_command.Tie as tie
-use Rattle.capi.proofs.brundilope_read_command.Reads as reads
-use Rattle.capi.proofs.brundilope_read_command.Lts as lts
-use Rattle.command.proofs.read_command.Reads as read-command-reads
 
 read-command-requires : tie.Need-read-command-requires
 read-command-requires c κs = search needs

@@ -1,12 +1,9 @@
 use Rattle.datagram.specs.Datagrams.{datagramAs}
 use Rattle.capi.specs.Flat.{flatDatagram}
-use mathlib.Core.Path.{_≡_, sym, ap, _∙_}
+use mathlib.Core.Path.{sym, ap, _∙_}
 use borrow.Author.Needs.{needs}
 use Rattle.capi.proofs.brundilope_read_datagram.Statement.{statement}
 use Rattle.capi.proofs.brundilope_read_datagram.Tie as tie
-use Rattle.capi.proofs.brundilope_read_datagram.Reads as reads
-use Rattle.capi.proofs.brundilope_read_datagram.Lts as lts
-use Rattle.datagram.proofs.read_datagram.Reads as read-datagram-reads
 
 read-datagram-requires : tie.Need-read-datagram-requires
 read-datagram-requires c κs = search needs

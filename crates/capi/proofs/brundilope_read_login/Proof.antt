@@ -1,12 +1,9 @@
 use Rattle.login.specs.Login.{loginAs}
 use Rattle.capi.specs.Flat.{flatLogin}
-use mathlib.Core.Path.{_≡_, sym, ap, _∙_}
+use mathlib.Core.Path.{sym, ap, _∙_}
 use borrow.Author.Needs.{needs}
 use Rattle.capi.proofs.brundilope_read_login.Statement.{statement}
 use Rattle.capi.proofs.brundilope_read_login.Tie as tie
-use Rattle.capi.proofs.brundilope_read_login.Reads as reads
-use Rattle.capi.proofs.brundilope_read_login.Lts as lts
-use Rattle.login.proofs.read_login.Reads as read-login-reads
 
 read-login-requires : tie.Need-read-login-requires
 read-login-requires c κs = search needs

@@ -1,12 +1,9 @@
 use Rattle.packet.specs.DataPackets.{packetAs}
 use Rattle.capi.specs.Flat.{flatPacket}
-use mathlib.Core.Path.{_≡_, sym, ap, _∙_}
+use mathlib.Core.Path.{sym, ap, _∙_}
 use borrow.Author.Needs.{needs}
 use Rattle.capi.proofs.brundilope_read_packet.Statement.{statement}
 use Rattle.capi.proofs.brundilope_read_packet.Tie as tie
-use Rattle.capi.proofs.brundilope_read_packet.Reads as reads
-use Rattle.capi.proofs.brundilope_read_packet.Lts as lts
-use Rattle.packet.proofs.read_packet.Reads as read-packet-reads
 
 read-packet-requires : tie.Need-read-packet-requires
 read-packet-requires c κs = search needs

@@ -1,12 +1,8 @@
 use Rattle.capi.specs.Flat.{flatRecord}
-use mathlib.Core.Path.{_≡_, sym, ap, _∙_}
+use mathlib.Core.Path.{ap, _∙_}
 use borrow.Author.Needs.{needs}
 use Rattle.capi.proofs.brundilope_record_in_datagram.Statement.{statement}
 use Rattle.capi.proofs.brundilope_record_in_datagram.Tie as tie
-use Rattle.capi.proofs.brundilope_record_in_datagram.Reads as reads
-use Rattle.capi.proofs.brundilope_record_in_datagram.Lts as lts
-use Rattle.capi.proofs.flat_record.Reads as flat-record-reads
-use Rattle.lookup.proofs.record_in_datagram.Reads as record-in-datagram-reads
 
 record-in-datagram-requires : tie.Need-record-in-datagram-requires
 record-in-datagram-requires c κs = search needs

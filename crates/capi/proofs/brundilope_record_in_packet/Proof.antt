@@ -1,12 +1,8 @@
 use Rattle.capi.specs.Flat.{flatRecord}
-use mathlib.Core.Path.{_≡_, sym, ap, _∙_}
+use mathlib.Core.Path.{ap, _∙_}
 use borrow.Author.Needs.{needs}
 use Rattle.capi.proofs.brundilope_record_in_packet.Statement.{statement}
 use Rattle.capi.proofs.brundilope_record_in_packet.Tie as tie
-use Rattle.capi.proofs.brundilope_record_in_packet.Reads as reads
-use Rattle.capi.proofs.brundilope_record_in_packet.Lts as lts
-use Rattle.capi.proofs.flat_record.Reads as flat-record-reads
-use Rattle.lookup.proofs.record_in_packet.Reads as record-in-packet-reads
 
 record-in-packet-requires : tie.Need-record-in-packet-requires
 record-in-packet-requires c κs = search needs

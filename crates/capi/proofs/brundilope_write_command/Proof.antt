@@ -1,12 +1,8 @@
 use Rattle.capi.specs.Flat.{flatWritten}
-use mathlib.Core.Path.{_≡_, sym, ap, _∙_}
+use mathlib.Core.Path.{ap, _∙_}
 use borrow.Author.Needs.{needs}
 use Rattle.capi.proofs.brundilope_write_command.Statement.{statement}
 use Rattle.capi.proofs.brundilope_write_command.Tie as tie
-use Rattle.capi.proofs.brundilope_write_command.Reads as reads
-use Rattle.capi.proofs.brundilope_write_command.Lts as lts
-use Rattle.capi.proofs.flat_written.Reads as flat-written-reads
-use Rattle.command.proofs.write_command.Reads as write-command-reads
 
 write-command-requires : tie.Need-write-command-requires
 write-command-requires c κs = search needs

@@ -1,13 +1,11 @@
 use mir.Syntax.{w16, w32}
 use mir.ValLaws.{toZ-ofZ}
 use Rattle.capi.specs.Flat.{flatRecord}
-use Rattle.lookup.specs.Answers.{recordAs, valueAs, knownAs}
-use mathlib.Core.Path.{_≡_, sym, ap, _∙_}
+use Rattle.lookup.specs.Answers.{recordAs}
+use mathlib.Core.Path.{sym, ap, _∙_}
 use borrow.Author.Needs.{needs}
 use Rattle.capi.proofs.flat_record.Statement.{statement}
 use Rattle.capi.proofs.flat_record.Tie as tie
-use Rattle.capi.proofs.flat_record.Reads as reads
-use Rattle.capi.proofs.flat_record.Lts as lts
 
 enum-known-a : tie.Need-enum-known-a
 enum-known-a c = search needs

@@ -1,11 +1,9 @@
 use Rattle.capi.specs.Flat.{flatValue}
-use Rattle.lookup.specs.Answers.{recordAs, valueAs, knownAs}
-use mathlib.Core.Path.{_≡_, sym, ap, _∙_}
+use Rattle.lookup.specs.Answers.{valueAs}
+use mathlib.Core.Path.{sym, ap}
 use borrow.Author.Needs.{needs}
 use Rattle.capi.proofs.flat_value.Statement.{statement}
 use Rattle.capi.proofs.flat_value.Tie as tie
-use Rattle.capi.proofs.flat_value.Reads as reads
-use Rattle.capi.proofs.flat_value.Lts as lts
 
 enum-known-a : tie.Need-enum-known-a
 enum-known-a c = search needs

@@ -1,11 +1,9 @@
 use Rattle.wire.specs.Buffers.{writtenAs}
 use Rattle.capi.specs.Flat.{flatWritten}
-use mathlib.Core.Path.{_≡_, sym, ap, _∙_}
+use mathlib.Core.Path.{sym, ap}
 use borrow.Author.Needs.{needs}
 use Rattle.capi.proofs.flat_written.Statement.{statement}
 use Rattle.capi.proofs.flat_written.Tie as tie
-use Rattle.capi.proofs.flat_written.Reads as reads
-use Rattle.capi.proofs.flat_written.Lts as lts
 
 enum-known-w : tie.Need-enum-known-w
 enum-known-w c = search needs

@@ -6,7 +6,7 @@ use mathlib.Core.List.{List}
 use lib.ListN.{length, take, drop}
 use borrow.Author.Needs.{needs}
 use Rattle.wire.specs.Envelope.{codecOf, firstCount, lastCount, inner}
-use Rattle.wire.specs.Answers.{accepted, refused, onAccepted}
+use Rattle.wire.specs.Answers.{accepted, onAccepted}
 use Rattle.wire.proofs.Widths.{getD-bytes}
 use Rattle.command.specs.declared.Layout.{Layout}
 use Rattle.command.specs.Walks.{bodyAs}

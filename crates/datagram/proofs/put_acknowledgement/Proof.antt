@@ -1,15 +1,13 @@
 use Rattle.datagram.proofs.WalkLaws.{seven-bytes}
 use Rattle.wire.proofs.BufferLaws.{sets-front}
-use lib.ListN.{length, drop, length-set}
-use Prim.Native.Nat.{ℕ, _/_, _%_, _<_}
+use lib.ListN.{drop, length-set}
+use Prim.Native.Nat.{ℕ, _/_, _%_}
 use native.Mathlib.Omega.{arith}
 use mathlib.Core.List.{List, [], _∷_, _++_}
-use mathlib.Core.Path.{_≡_, sym, ap, _∙_}
+use mathlib.Core.Path.{sym, ap, _∙_}
 use borrow.Author.Needs.{needs}
 use Rattle.datagram.proofs.put_acknowledgement.Statement.{statement}
 use Rattle.datagram.proofs.put_acknowledgement.Tie as tie
-use Rattle.datagram.proofs.put_acknowledgement.Reads as reads
-use Rattle.datagram.proofs.put_acknowledgement.Lts as lts
 
 slice-write-out : tie.Need-slice-write-out
 slice-write-out c = search needs

@@ -3,8 +3,6 @@ use Prim.Native.Nat.{_+_, _-_, _*_, _≤_}
 use native.Mathlib.Nat.{mul-le-mul}
 use native.Mathlib.Omega.{arith}
 use mathlib.Core.Path.{_≡_, refl, sym, subst}
-use borrow.Author.Needs.{needs}
-use lib.ListN.{length}
 use Rattle.wire.proofs.Widths.{getD-bytes}
 use Rattle.walk.proofs.KindLaws.{fixed-kind}
 use Rattle.element.proofs.CountLaws.{CountingFrom, counting-start, counting-next, counting-inside, counting-on, ninth, counted-fixed, counted-variable}

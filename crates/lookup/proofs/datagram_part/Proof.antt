@@ -6,9 +6,6 @@ use Rattle.lookup.proofs.PartLaws.{walked-part, walked-none, walked-in,
 use borrow.Author.Needs.{needs}
 use Rattle.lookup.proofs.datagram_part.Statement.{statement}
 use Rattle.lookup.proofs.datagram_part.Tie as tie
-use Rattle.lookup.proofs.datagram_part.Reads as reads
-use Rattle.lookup.proofs.datagram_part.Lts as lts
-use Rattle.datagram.proofs.judge_datagram.Reads as judge-datagram-reads
 
 judge-datagram-requires : tie.Need-judge-datagram-requires
 judge-datagram-requires c κs = search needs

@@ -7,10 +7,6 @@ use Rattle.lookup.proofs.PartLaws.{value-view}
 use borrow.Author.Needs.{needs}
 use Rattle.lookup.proofs.id_view_in_datagram.Statement.{statement}
 use Rattle.lookup.proofs.id_view_in_datagram.Tie as tie
-use Rattle.lookup.proofs.id_view_in_datagram.Reads as reads
-use Rattle.lookup.proofs.id_view_in_datagram.Lts as lts
-use Rattle.lookup.proofs.id_in_datagram.Reads as id-in-datagram-reads
-use Rattle.lookup.proofs.view_of.Reads as view-of-reads
 
 id-in-datagram-requires : tie.Need-id-in-datagram-requires
 id-in-datagram-requires c κs = search needs

@@ -7,10 +7,6 @@ use Rattle.lookup.proofs.KnownLaws.{last-refused, last-in, last-value, 
 use borrow.Author.Needs.{needs}
 use Rattle.lookup.proofs.last_known.Statement.{statement}
 use Rattle.lookup.proofs.last_known.Tie as tie
-use Rattle.lookup.proofs.last_known.Reads as reads
-use Rattle.lookup.proofs.last_known.Lts as lts
-use Rattle.lookup.proofs.last_part.Reads as last-part-reads
-use Rattle.lookup.proofs.value_in.Reads as value-in-reads
 
 last-part-requires : tie.Need-last-part-requires
 last-part-requires c κs = search needs

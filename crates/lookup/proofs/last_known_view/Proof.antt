@@ -9,10 +9,6 @@ use Rattle.lookup.proofs.KnownLaws.{last-view, known-in, known-nowhere}
 use borrow.Author.Needs.{needs}
 use Rattle.lookup.proofs.last_known_view.Statement.{statement}
 use Rattle.lookup.proofs.last_known_view.Tie as tie
-use Rattle.lookup.proofs.last_known_view.Reads as reads
-use Rattle.lookup.proofs.last_known_view.Lts as lts
-use Rattle.lookup.proofs.last_known.Reads as last-known-reads
-use Rattle.lookup.proofs.view_of.Reads as view-of-reads
 
 last-known-requires : tie.Need-last-known-requires
 last-known-requires c κs = search needs

@@ -6,9 +6,6 @@ use Rattle.lookup.proofs.KnownLaws.{tcp-count, last-number}
 use borrow.Author.Needs.{needs}
 use Rattle.lookup.proofs.last_part.Statement.{statement}
 use Rattle.lookup.proofs.last_part.Tie as tie
-use Rattle.lookup.proofs.last_part.Reads as reads
-use Rattle.lookup.proofs.last_part.Lts as lts
-use Rattle.lookup.proofs.packet_part.Reads as packet-part-reads
 
 packet-part-requires : tie.Need-packet-part-requires
 packet-part-requires c κs = search needs

@@ -6,9 +6,6 @@ use Rattle.lookup.proofs.PartLaws.{walked-part, walked-none, walked-in,
 use borrow.Author.Needs.{needs}
 use Rattle.lookup.proofs.packet_part.Statement.{statement}
 use Rattle.lookup.proofs.packet_part.Tie as tie
-use Rattle.lookup.proofs.packet_part.Reads as reads
-use Rattle.lookup.proofs.packet_part.Lts as lts
-use Rattle.packet.proofs.judge_packet.Reads as judge-packet-reads
 
 judge-packet-requires : tie.Need-judge-packet-requires
 judge-packet-requires c κs = search needs

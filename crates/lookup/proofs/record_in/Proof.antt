@@ -13,10 +13,6 @@ use Rattle.lookup.specs.Answers.{PartIn, RecordIn}
 use borrow.Author.Needs.{needs}
 use Rattle.lookup.proofs.record_in.Statement.{statement}
 use Rattle.lookup.proofs.record_in.Tie as tie
-use Rattle.lookup.proofs.record_in.Reads as reads
-use Rattle.lookup.proofs.record_in.Lts as lts
-use Rattle.element.proofs.fields_of.Reads as fields-of-reads
-use Rattle.walk.proofs.widths_of.Reads as widths-of-reads
 
 enum-known-part : tie.Need-enum-known-part
 enum-known-part c = search needs

@@ -7,10 +7,6 @@ use Rattle.lookup.proofs.PartLaws.{part-in, record-answer}
 use borrow.Author.Needs.{needs}
 use Rattle.lookup.proofs.record_in_packet.Statement.{statement}
 use Rattle.lookup.proofs.record_in_packet.Tie as tie
-use Rattle.lookup.proofs.record_in_packet.Reads as reads
-use Rattle.lookup.proofs.record_in_packet.Lts as lts
-use Rattle.lookup.proofs.packet_part.Reads as packet-part-reads
-use Rattle.lookup.proofs.record_in.Reads as record-in-reads
 
 packet-part-requires : tie.Need-packet-part-requires
 packet-part-requires c κs = search needs

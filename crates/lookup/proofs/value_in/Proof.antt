@@ -14,10 +14,6 @@ use Rattle.lookup.specs.Answers.{PartIn, ValueIn}
 use borrow.Author.Needs.{needs}
 use Rattle.lookup.proofs.value_in.Statement.{statement}
 use Rattle.lookup.proofs.value_in.Tie as tie
-use Rattle.lookup.proofs.value_in.Reads as reads
-use Rattle.lookup.proofs.value_in.Lts as lts
-use Rattle.element.proofs.find_element.Reads as find-element-reads
-use Rattle.walk.proofs.widths_of.Reads as widths-of-reads
 
 enum-known-part : tie.Need-enum-known-part
 enum-known-part c = search needs

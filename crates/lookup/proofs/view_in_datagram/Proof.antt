@@ -7,10 +7,6 @@ use Rattle.lookup.proofs.PartLaws.{value-view}
 use borrow.Author.Needs.{needs}
 use Rattle.lookup.proofs.view_in_datagram.Statement.{statement}
 use Rattle.lookup.proofs.view_in_datagram.Tie as tie
-use Rattle.lookup.proofs.view_in_datagram.Reads as reads
-use Rattle.lookup.proofs.view_in_datagram.Lts as lts
-use Rattle.lookup.proofs.value_in_datagram.Reads as value-in-datagram-reads
-use Rattle.lookup.proofs.view_of.Reads as view-of-reads
 
 value-in-datagram-requires : tie.Need-value-in-datagram-requires
 value-in-datagram-requires c κs = search needs

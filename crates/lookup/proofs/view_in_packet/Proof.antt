@@ -7,10 +7,6 @@ use Rattle.lookup.proofs.PartLaws.{value-view}
 use borrow.Author.Needs.{needs}
 use Rattle.lookup.proofs.view_in_packet.Statement.{statement}
 use Rattle.lookup.proofs.view_in_packet.Tie as tie
-use Rattle.lookup.proofs.view_in_packet.Reads as reads
-use Rattle.lookup.proofs.view_in_packet.Lts as lts
-use Rattle.lookup.proofs.value_in_packet.Reads as value-in-packet-reads
-use Rattle.lookup.proofs.view_of.Reads as view-of-reads
 
 value-in-packet-requires : tie.Need-value-in-packet-requires
 value-in-packet-requires c κs = search needs

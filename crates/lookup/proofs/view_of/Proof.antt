@@ -7,8 +7,6 @@ use Rattle.lookup.specs.Answers.{Within, viewOf}
 use borrow.Author.Needs.{needs}
 use Rattle.lookup.proofs.view_of.Statement.{statement}
 use Rattle.lookup.proofs.view_of.Tie as tie
-use Rattle.lookup.proofs.view_of.Reads as reads
-use Rattle.lookup.proofs.view_of.Lts as lts
 
 enum-told : tie.Need-enum-told
 enum-told c = search needs

@@ -1,16 +1,13 @@
 use Rattle.packet.proofs.WalkLaws.{acknowledgement-bytes}
 use Rattle.wire.proofs.BufferLaws.{writing-done, writing-short, leaving-done, leaving-short, sets-front}
-use Rattle.wire.specs.Buffers.{writing, leaving, writtenAs}
+use Rattle.wire.specs.Buffers.{writtenAs}
 use lib.ListN.{length-set}
 use native.Mathlib.Omega.{arith}
-use mathlib.Core.List.{List, [], _∷_}
-use mathlib.Core.Path.{_≡_, sym, ap, _∙_}
+use mathlib.Core.List.{[], _∷_}
+use mathlib.Core.Path.{sym, _∙_}
 use borrow.Author.Needs.{needs}
 use Rattle.packet.proofs.acknowledge_packet.Statement.{statement}
 use Rattle.packet.proofs.acknowledge_packet.Tie as tie
-use Rattle.packet.proofs.acknowledge_packet.Reads as reads
-use Rattle.packet.proofs.acknowledge_packet.Lts as lts
-use Rattle.packet.proofs.record_count.Reads as record-count-reads
 
 record-count-requires : tie.Need-record-count-requires
 record-count-requires c κs = search needs

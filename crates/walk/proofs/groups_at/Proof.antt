@@ -1,13 +1,13 @@
 -- Invariant: the groups that are left, added to the total so far, give the tally of all.
 use Prim.Native.Nat.{_+_, _-_, _*_, _≤_, _<_}
 use native.Mathlib.Omega.{arith}
-use mathlib.Core.Path.{_≡_, sym, _∙_}
+use mathlib.Core.Path.{sym, _∙_}
 use borrow.Author.Needs.{needs}
 use lib.ListN.{length}
 use Rattle.wire.proofs.Widths.{getD-bytes}
 use Rattle.avl.specs.Codecs.{kinds}
 use Rattle.walk.proofs.KindLaws.{kinds-few, kind-known, kind-range}
-use Rattle.walk.proofs.WalkLaws.{GroupRead, group-read, Tallying, tallying-start, tallying-stops, tallying-on, tally-done}
+use Rattle.walk.proofs.WalkLaws.{group-read, Tallying, tallying-start, tallying-stops, tallying-on, tally-done}
 use Rattle.walk.proofs.groups_at.Statement.{statement}
 use Rattle.walk.proofs.groups_at.Tie as tie
 use Rattle.walk.proofs.groups_at.Reads as reads
