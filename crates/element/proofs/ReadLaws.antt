@@ -13,7 +13,7 @@ use borrow.Author.Tests.{leb-true, leb-false, eq-eqb, ne-eqb}
 use Rattle.wire.specs.declared.Fault.{Fault}
 use Rattle.wire.specs.Numbers.{Bytes, numberAt, signed, pick}
 use Rattle.wire.specs.Reading.{Read, got, bad, Reader, _>>=_, _>>_, pure, here, require, number, bytes, upTo, repeat}
-use Rattle.wire.proofs.Accepting.{pick-true, pick-false}
+use Rattle.wire.proofs.Accepting.{by-length, pick-true, pick-false}
 use Rattle.wire.proofs.Widths.{number-lt, byte-pos}
 use Rattle.wire.proofs.Exactness.{Meets, meets-then, meets-next, meets-pure, meets-got, meets-here, meets-require}
 use Rattle.wire.proofs.Walking.{number-got, number-bad, number-there, number-missing, upTo-there, upTo-missing, upTo-over, bytes-got, bytes-bad}
@@ -40,14 +40,6 @@ meets-is {A} {Q} e h = subst (λ (x : Read A). Meets x Q) (sym e) h
 
 meets-bad : {A : Type 0} {Q : A → ℕ → Type 0} {r : Read A} {x : Fault} → r ≡ bad x → Meets r Q
 meets-bad h = record { if-got = λ a n e. absurd (let z : _≡_ {A = ℕ} 0 1 = cc in omega arith) }
-
--- it holds where the bytes are there, and where they are not
-by-length : {P : Type 0} (m n : ℕ) → (m ≤ n → P) → (n < m → P) → P
-by-length {P} m n h k = go (leb m n) refl
-  where
-    go : (b : Bool) → leb m n ≡ b → P
-    go true e = h (leb-true m n e)
-    go false e = k (leb-false m n e)
 
 module _ {B : Type 0} {Q : B → ℕ → Type 0} (f : ℕ → Reader B) (s : List ℕ) (at : ℕ) where
   meets-number : (w : ℕ) → (at + w ≤ length s → Meets (f (numberAt s at w) s (at + w)) Q) → Meets ((number w >>= f) s at) Q

@@ -1,6 +1,6 @@
 -- How the walk's functions go from one definition to the next: what each step reads, and what an answer tells of it.
-use Prim.Native.Nat.{ℕ, zero, suc, _+_, _-_, _*_, _^_, _≤_, _<_}
-use native.Mathlib.Nat.{mul-le-mul, pow-le-pow-right, zero-add, add-zero}
+use Prim.Native.Nat.{ℕ, zero, suc, _+_, _-_, _*_, _%_, _^_, _≤_, _<_}
+use native.Mathlib.Nat.{mul-le-mul, suc-mul, pow-le-pow-right, zero-add, add-zero, add-mod-right, mod-eq-of-lt}
 use native.Mathlib.Numerals.{add-one}
 use native.Mathlib.Omega.{arith}
 use mathlib.Core.Path.{_≡_, refl, sym, ap, ap₂, subst, _∙_}
@@ -19,7 +19,7 @@ use Rattle.wire.specs.Envelope.{codecOf, firstCount, lastCount, inner}
 use Rattle.wire.specs.Answers.{Answer, accepted, told, onAccepted}
 use Rattle.wire.proofs.Widths.{number-lt, byte-pos}
 use Rattle.wire.proofs.Enclosed.{bytes-inner}
-use Rattle.wire.proofs.Accepting.{pick-true, pick-false, pick-either, check-passed, check-failed}
+use Rattle.wire.proofs.Accepting.{by-length, pick-true, pick-false, pick-either, check-passed, check-failed}
 use Rattle.wire.proofs.Exactness.{Exact, then-got, here-got, require-got, repeat-sound}
 use Rattle.wire.proofs.Walking.{short, then-bad, require-bad, bytes-got, bytes-bad, number-there, number-missing, upTo-there, walked-on, walked-stopped, walked-got, walked-bad}
 use Rattle.avl.specs.declared.Widths.{Widths}
@@ -158,6 +158,43 @@ fixed-elements w kind s (suc n) at ne h =
     ∙ ap (λ (k : ℕ). walked (repeat k (element w kind) s (at + w .id + kind))) less
     ∙ fixed-elements w kind s n (at + w .id + kind) ne (omega arith)
     ∙ ap On (omega arith)
+
+-- where they are not all there, one is cut
+module _ (w : Widths) (kind : ℕ) (s : List ℕ) (some : 1 ≤ kind) (ne : kind ≡ 9 → ⊥) where
+  -- its ID or its value is the field that is missing
+  element-short : (at : ℕ) → at ≤ length s → length s < at + (w .id + kind) → element w kind s at ≡ bad (short (pick (leb (w .id) (length s - at)) (at + w .id) at))
+  unfolding element
+  element-short at inside h = go (leb (w .id) (length s - at)) refl
+    where
+      go : (b : Bool) → leb (w .id) (length s - at) ≡ b → element w kind s at ≡ bad (short (pick b (at + w .id) at))
+      go true e = element-cut w kind s at (omega (arith, leb-true (w .id) (length s - at) e)) (fixed-size s (at + w .id) kind ne) (omega arith)
+      go false e = number-missing _ s at (w .id) (omega (arith, leb-false (w .id) (length s - at) e))
+
+  -- the missing field, where `rest` bytes of the element are there
+  abbrev pub cutPlace : ℕ → ℕ
+  cutPlace rest = pick (leb (w .id) rest) (length s - rest + w .id) (length s - rest)
+
+  pub fixed-cut : (n at : ℕ) → at ≤ length s → length s < at + n * (w .id + kind)
+      → walked (repeat n (element w kind) s at) ≡ Stopped (short (cutPlace ((length s - at) % (w .id + kind))))
+  fixed-cut zero at inside h = absurd (omega arith)
+  fixed-cut (suc n) at inside h =
+      let size = w .id + kind in
+      by-length (at + size) (length s)
+      (λ k.
+      let first = element-there w kind s at (omega arith) (fixed-size s (at + w .id) kind ne) (omega arith) in
+      let less : suc n - 1 ≡ n = omega arith in
+      let further : length s - (at + w .id + kind) + size ≡ length s - at = omega arith in
+      let same : (length s - (at + w .id + kind)) % size ≡ (length s - at) % size = sym (add-mod-right (length s - (at + w .id + kind)) size) ∙ ap (λ (m : ℕ). m % size) further in
+      sym (repeat-on (element w kind) s (suc n) at (omega arith) (first .1))
+      ∙ ap (λ (m : ℕ). walked (repeat m (element w kind) s (at + w .id + kind))) less
+      ∙ fixed-cut n (at + w .id + kind) (omega arith) (omega (arith, suc-mul n size))
+      ∙ ap (λ (rest : ℕ). Stopped (short (cutPlace rest))) same)
+      (λ k.
+      let whole : (length s - at) % size ≡ length s - at = mod-eq-of-lt (omega arith) in
+      let start : length s - (length s - at) ≡ at = omega arith in
+      repeat-stops (element w kind) s (suc n) at (omega arith) (element-short at inside k)
+      ∙ ap (λ (a : ℕ). Stopped (short (pick (leb (w .id) (length s - at)) (a + w .id) a))) (sym start)
+      ∙ ap (λ (rest : ℕ). Stopped (short (cutPlace rest))) (sym whole))
 
 -- ---- a group
 

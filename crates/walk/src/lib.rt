@@ -4,7 +4,7 @@ use wire::Fault;
 use wire::Refusal;
 use wire::Walk;
 ghost use mathlib.Core.Path.{_≡_};
-ghost use Prim.Native.Nat.{suc, _+_, _≤_, _<_};
+ghost use Prim.Native.Nat.{suc, _+_, _^_, _≤_, _<_};
 ghost use lib.ListN.{length, getD};
 ghost use lib.Dec.{leb};
 ghost use Rattle.wire.specs.Numbers.{pick};
@@ -250,47 +250,38 @@ fn fixed_missing(w: Widths, s: &[u8], at: usize) -> Walk
     missing(a9)
 }
 
-// The element of a kind at `at`: its ID, the length of a variable value, the value.
-fn element_at(w: Widths, kind: usize, s: &[u8], at: usize) -> Walk
+// The variable element at `at`: its ID, the length of its value, the value.
+fn variable_at(w: Widths, s: &[u8], at: usize) -> Walk
     requires { ⌜ Narrow w ⌝ }
-    requires { ⌜ kind ≤ 9 ⌝ }
     requires { ⌜ at ≤ length (now s) ⌝ }
-    ensures { λ r. ⌜ r ≡ walked (element w kind (now (s .entry)) at) ⌝ }
+    ensures { λ r. ⌜ r ≡ walked (element w 9 (now (s .entry)) at) ⌝ }
 {
     let id = w.id;
     let a1 = at + id;
     if s.len() < a1 {
         return missing(at);
     }
-    if kind == 9 {
-        let a2 = a1 + 2;
-        if s.len() < a2 {
-            return missing(a1);
-        }
-        let end = a2 + (wire::be16(s, a1) as usize);
-        if s.len() < end {
-            return missing(a2);
-        }
-        return Walk::On(end);
-    }
-    let a2 = a1 + kind;
+    let a2 = a1 + 2;
     if s.len() < a2 {
         return missing(a1);
     }
-    Walk::On(a2)
+    let end = a2 + (wire::be16(s, a1) as usize);
+    if s.len() < end {
+        return missing(a2);
+    }
+    Walk::On(end)
 }
 
-// `n` elements of a kind, one behind another.
-fn elements_at(w: Widths, kind: usize, s: &[u8], at: usize, n: usize) -> Walk
+// `n` variable elements, one behind another.
+fn variables_at(w: Widths, s: &[u8], at: usize, n: usize) -> Walk
     requires { ⌜ Narrow w ⌝ }
-    requires { ⌜ kind ≤ 9 ⌝ }
     requires { ⌜ at ≤ length (now s) ⌝ }
-    ensures { λ r. ⌜ r ≡ walked (repeat n (element w kind) (now (s .entry)) at) ⌝ }
+    ensures { λ r. ⌜ r ≡ walked (repeat n (element w 9) (now (s .entry)) at) ⌝ }
 {
     let mut next = at;
     let mut left = n;
     while 0 < left {
-        match element_at(w, kind, s, next) {
+        match variable_at(w, s, next) {
             Walk::On(to) => next = to,
             Walk::Stopped(x) => return Walk::Stopped(x),
         }
@@ -299,10 +290,21 @@ fn elements_at(w: Widths, kind: usize, s: &[u8], at: usize, n: usize) -> Walk
     Walk::On(next)
 }
 
-// A group: its count and its elements. Values of a fixed width are stepped over at once where they are all there.
+// The field that is missing of an element at `at` of which only `rest` bytes are there: its ID or its value.
+fn cut(at: usize, rest: usize, id: usize) -> usize
+    requires { ⌜ at + id < 2 ^ 64 ⌝ }
+    ensures { λ r. ⌜ r ≡ pick (leb id rest) (at + id) at ⌝ }
+{
+    if id <= rest {
+        return at + id;
+    }
+    at
+}
+
+// A group: its count and its elements. Values of one size are stepped over at once; where they are not all there, a division tells which is cut.
 fn group_at(w: Widths, kind: usize, s: &[u8], at: usize) -> Counted
     requires { ⌜ Narrow w ⌝ }
-    requires { ⌜ kind ≤ 9 ⌝ }
+    requires { ⌜ (1 ≤ kind) × (kind ≤ 9) ⌝ }
     requires { ⌜ at ≤ length (now s) ⌝ }
     ensures { λ r. ⌜ r ≡ counted (group w kind (now (s .entry)) at) ⌝ }
 {
@@ -318,12 +320,19 @@ fn group_at(w: Widths, kind: usize, s: &[u8], at: usize) -> Counted
     }
     let n = wire::short_number(s, at, count) as usize;
     if kind < 9 {
-        let end = start + n * (id + kind);
+        let size = id + kind;
+        let end = start + n * size;
         if end <= s.len() {
             return Counted::Of(n, end);
         }
+        let rest = (s.len() - start) % size;
+        return Counted::Stopped(Fault {
+            number: 8,
+            index: 0,
+            place: cut(s.len() - rest, rest, id),
+        });
     }
-    match elements_at(w, kind, s, start, n) {
+    match variables_at(w, s, start, n) {
         Walk::On(next) => Counted::Of(n, next),
         Walk::Stopped(x) => Counted::Stopped(x),
     }

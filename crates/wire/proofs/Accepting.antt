@@ -1,8 +1,10 @@
 -- Which way a test goes, and what an accepted answer tells of the tests on the way.
-use Prim.Native.Nat.{ℕ}
+use Prim.Native.Nat.{ℕ, _≤_, _<_}
 use native.Mathlib.Omega.{arith}
 use mathlib.Core.Path.{_≡_, refl, ap}
 use mathlib.Core.Bool.{Bool, true, false}
+use lib.Dec.{leb}
+use borrow.Author.Tests.{leb-true, leb-false}
 use Rattle.wire.specs.declared.Fault.{Fault}
 use Rattle.wire.specs.Numbers.{pick}
 use Rattle.wire.specs.Reading.{Read, got, bad}
@@ -60,3 +62,11 @@ told-bad r e = ap told e
 pub told-got : {A : Type 0} (r : Read A) {a : A} {n : ℕ} → r ≡ got a n → told r ≡ accepted a
 unfolding told
 told-got r e = ap told e
+
+-- it holds where the bytes are there, and where they are not
+pub by-length : {P : Type 0} (m n : ℕ) → (m ≤ n → P) → (n < m → P) → P
+by-length {P} m n h k = go (leb m n) refl
+  where
+    go : (b : Bool) → leb m n ≡ b → P
+    go true e = h (leb-true m n e)
+    go false e = k (leb-false m n e)

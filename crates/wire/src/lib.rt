@@ -117,13 +117,9 @@ fn unread(number: usize, place: usize) -> Decimal
 }
 
 fn text_digit(s: &[u8], at: usize) -> Decimal
-    requires { ⌜ at ≤ length (now s) ⌝ }
+    requires { ⌜ at < length (now s) ⌝ }
     ensures { λ r. ⌜ r ≡ numbered (textDigit (now (s .entry)) at) ⌝ }
 {
-    let end = at + 1;
-    if s.len() < end {
-        return unread(8, at);
-    }
     let c = s[at];
     if c < 48 {
         return unread(15, at);
@@ -131,23 +127,19 @@ fn text_digit(s: &[u8], at: usize) -> Decimal
     if 57 < c {
         return unread(15, at);
     }
-    Decimal::Of((c - 48) as u64, end)
+    Decimal::Of((c - 48) as u64, at + 1)
 }
 
-// An IMEI as text: its length, 15, and its digits.
+// An IMEI as text: its length, 15, and its digits. Its 17 bytes are there.
 pub fn read_imei(s: &[u8], at: usize) -> Decimal
-    requires { ⌜ at ≤ length (now s) ⌝ }
+    requires { ⌜ at + 17 ≤ length (now s) ⌝ }
     ensures { λ r. ⌜ r ≡ numbered (readImei (now (s .entry)) at) ⌝ }
 {
-    let start = at + 2;
-    if s.len() < start {
-        return unread(8, at);
-    }
     let size = be16(s, at);
     if size != 15 {
         return unread(15, at);
     }
-    text_number(15, s, start)
+    text_number(15, s, at + 2)
 }
 
 // Two digits in a byte, the first at most `most`.
@@ -204,9 +196,9 @@ pub fn read_packed(s: &[u8], at: usize, w: usize) -> Decimal
     }
 }
 
-// The value of `n` ASCII digits.
+// The value of `n` ASCII digits, which are there.
 pub fn text_number(n: usize, s: &[u8], at: usize) -> Decimal
-    requires { ⌜ (n ≤ 15) × (at ≤ length (now s)) ⌝ }
+    requires { ⌜ (n ≤ 15) × (at + n ≤ length (now s)) ⌝ }
     ensures { λ r. ⌜ r ≡ numbered (bind (repeat n textDigit) (λ ds. pure (valueFrom 10 0 ds)) (now (s .entry)) at) ⌝ }
 {
     let mut value: u64 = 0;

@@ -37,7 +37,7 @@ group-at-requires c κs =
     let start = c .before .before .before .before .before in
     let k = c .before .before .loop .k in
     let h : k < length (kinds (start .args .w)) = omega (arith, c .before .loop-test .taken, c .before .before .before .kind-count .ensures) in
-    (start .pre .0, (kind-range (start .args .w) k h (c .kind-at .ensures ∙ kind-known (start .args .w) k h) .1, c .before .before .loop .inv .inside))
+    (start .pre .0, (kind-range (start .args .w) k h (c .kind-at .ensures ∙ kind-known (start .args .w) k h), c .before .before .loop .inv .inside))
 
 enum-known-count : tie.Need-enum-known-count Inv-loop μ-loop
 enum-known-count c = search needs

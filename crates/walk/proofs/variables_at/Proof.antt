@@ -7,22 +7,22 @@ use Rattle.wire.specs.Reading.{walked, repeat}
 use Rattle.wire.proofs.Widths.{getD-bytes}
 use Rattle.wire.proofs.Walking.{walked-on, walked-stopped}
 use Rattle.avl.specs.RecordReader.{element}
-use Rattle.walk.proofs.elements_at.Tie as tie
+use Rattle.walk.proofs.variables_at.Tie as tie
 use Rattle.walk.proofs.WalkLaws.{walked-inside, repeat-none, repeat-on, repeat-stops}
 use Rattle.avl.proofs.RecordLaws.{element-exact}
-use Rattle.walk.proofs.elements_at.Statement.{statement}
+use Rattle.walk.proofs.variables_at.Statement.{statement}
 
 abbrev Inv-loop : tie.InvT-loop
-Inv-loop w kind s at n next₀ left₀ next left = (next ≤ length s) × (walked (repeat left (element w kind) s next) ≡ walked (repeat n (element w kind) s at))
+Inv-loop w s at n next₀ left₀ next left = (next ≤ length s) × (walked (repeat left (element w 9) s next) ≡ walked (repeat n (element w 9) s at))
 
 abbrev μ-loop : tie.MeasureT-loop
-μ-loop w kind s at n next₀ left₀ next left = left
+μ-loop w s at n next₀ left₀ next left = left
 
 loop-holds : tie.Need-loop-holds Inv-loop μ-loop
 loop-holds c = search needs
 
-element-at-requires : tie.Need-element-at-requires Inv-loop μ-loop
-element-at-requires c κs = search needs
+variable-at-requires : tie.Need-variable-at-requires Inv-loop μ-loop
+variable-at-requires c κs = search needs
 
 enum-known-to : tie.Need-enum-known-to Inv-loop μ-loop
 enum-known-to c = search needs
@@ -34,8 +34,8 @@ returns : tie.Need-returns Inv-loop μ-loop
 returns c =
     let args = c .before .before .before .before .before .before .before .args in
     let loop = c .before .before .before .before .before .loop in
-    let stop = walked-stopped _ (sym (c .before .before .before .element-at .ensures) ∙ c .before .x .given .1) in
-    sym (repeat-stops (element (args .w) (args .kind)) (args .s .now) (loop .left) (loop .next) (c .before .before .before .before .loop-test .taken) stop) ∙ loop .inv .1
+    let stop = walked-stopped _ (sym (c .before .before .before .variable-at .ensures) ∙ c .before .x .given .1) in
+    sym (repeat-stops (element (args .w) 9) (args .s .now) (loop .left) (loop .next) (c .before .before .before .before .loop-test .taken) stop) ∙ loop .inv .1
 
 sub-left : tie.Need-sub-left Inv-loop μ-loop
 sub-left c = search needs
@@ -48,25 +48,25 @@ loop-again c =
     let args = c .before .before .before .before .before .before .before .args in
     let loop = c .before .before .before .before .before .loop in
     let s = args .s .now in
-    let on = sym (c .before .before .before .element-at .ensures) ∙ c .before .to .given .1 in (
-      walked-inside (element-exact (args .w) (args .kind)) s (loop .next) (getD-bytes s (λ k. c .before .before .before .before .before .before .shared-slice-known .given k .fits)) (loop .inv .0) on,
-      repeat-on (element (args .w) (args .kind)) s (loop .left) (loop .next) (c .before .before .before .before .loop-test .taken) (walked-on _ on .1) ∙ loop .inv .1,
+    let on = sym (c .before .before .before .variable-at .ensures) ∙ c .before .to .given .1 in (
+      walked-inside (element-exact (args .w) 9) s (loop .next) (getD-bytes s (λ k. c .before .before .before .before .before .before .shared-slice-known .given k .fits)) (loop .inv .0) on,
+      repeat-on (element (args .w) 9) s (loop .left) (loop .next) (c .before .before .before .before .loop-test .taken) (walked-on _ on .1) ∙ loop .inv .1,
     )
 
 returns-2 : tie.Need-returns-2 Inv-loop μ-loop
 returns-2 c =
     let args = c .before .before .before .args in
     let loop = c .before .loop in
-    sym (repeat-none (element (args .w) (args .kind)) (args .s .now) (loop .left) (loop .next) (c .loop-test .left)) ∙ loop .inv .1
+    sym (repeat-none (element (args .w) 9) (args .s .now) (loop .left) (loop .next) (c .loop-test .left)) ∙ loop .inv .1
 
-pub elements-at-spec : {M : Type 1} → statement M
-elements-at-spec =
+pub variables-at-spec : {M : Type 1} → statement M
+variables-at-spec =
     tie.close
     (tie.spec
     Inv-loop
     μ-loop
     loop-holds
-    element-at-requires
+    variable-at-requires
     enum-known-to
     enum-known-x
     returns
