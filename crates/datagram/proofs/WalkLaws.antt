@@ -3,26 +3,27 @@ use Prim.Native.Nat.{ℕ, _+_, _-_, _/_, _%_, _≤_, _<_}
 use native.Mathlib.Omega.{arith}
 use mathlib.Core.Path.{_≡_, refl, sym, ap, ap₂, subst, _∙_}
 use mathlib.Core.List.{List, [], _∷_}
-use lib.ListN.{length, take, drop, length-drop}
+use lib.ListN.{length, take, drop, length-drop, getD}
 use lib.Seq.{take-all}
 use lib.Dec.{leb, eqb}
 use borrow.Author.Tests.{le-leb, lt-leb, leb-true, eq-eqb, ne-eqb}
 use Rattle.wire.specs.declared.Fault.{Fault}
 use Rattle.wire.specs.declared.Refusal.{Refusal}
-use Rattle.wire.specs.Numbers.{numberAt, digits}
+use Rattle.wire.specs.Numbers.{Bytes, numberAt, digits}
 use Rattle.wire.specs.Reading.{got, bad, pure}
 use Rattle.wire.specs.Answers.{Answer, accepted, refused, told, onAccepted}
 use Rattle.wire.specs.Imei.{readImei}
 use Rattle.wire.proofs.Walking.{number-there, then-bad}
 use Rattle.wire.proofs.Exactness.{then-got}
-use Rattle.wire.proofs.Accepting.{check-accepted, check-passed, check-failed, onAccepted-passed, onAccepted-refused, told-got, told-bad}
+use Rattle.wire.proofs.Accepting.{check-accepted, check-passed, check-failed, onAccepted-passed, onAccepted-refused, told-got, told-bad, onAccepted-accepted}
 use Rattle.avl.specs.DataField.{AvlData, readData, dataResult}
 use Rattle.walk.specs.declared.Span.{Span}
 use Rattle.walk.specs.declared.DataWalk.{DataWalk}
 use Rattle.walk.specs.Walks.{dataWalk}
 use Rattle.walk.proofs.TakenLaws.{taken, not-taken}
 use Rattle.datagram.specs.declared.Header.{Header}
-use Rattle.datagram.specs.Datagrams.{Datagram, DatagramResult, readHeader, judgeHeader, acknowledgementBytes, udpAcknowledgement, readDatagram, payloadOf, answerDatagram}
+use Rattle.datagram.specs.Datagrams.{Datagram, headerBytes, contentBytes, datagramBytes, readHeader, judgeHeader, acknowledgementBytes, answerBytes, udpAcknowledgement, readDatagram, payloadOf, answerDatagram}
+use Rattle.datagram.proofs.DatagramLaws.{datagram-exact}
 
 -- the header that stands at 2, with this IMEI
 abbrev pub headerAt : List ℕ → ℕ → Header
@@ -120,23 +121,6 @@ module _ (largest longest : ℕ) (p : List ℕ) where
     unfolding answerDatagram
     answer-stopped k = onAccepted-refused (readDatagram largest longest p) _ (behind ∙ onAccepted-refused _ _ (not-taken 0 _ k))
 
-  -- ---- and of the acknowledgement
-
-  acknowledged : udpAcknowledgement largest longest p ≡ onAccepted (answerDatagram largest longest p) (λ r. accepted (acknowledgementBytes (r .header) (r .payload .count)))
-  unfolding udpAcknowledgement answerDatagram dataResult onAccepted
-  acknowledged = go (readDatagram largest longest p)
-    where
-      go : (r : Answer Datagram) → onAccepted r (λ g. accepted (acknowledgementBytes (g .header) (length (g .payload .records))))
-          ≡ onAccepted (onAccepted r (λ g. accepted (record { payload = dataResult (g .payload); header = g .header }))) (λ (r : DatagramResult). accepted (acknowledgementBytes (r .header) (r .payload .count)))
-      go (accepted g) = refl
-      go (refused n i) = refl
-
-  pub acknowledged-taken : {x : DatagramResult} → accepted x ≡ answerDatagram largest longest p → udpAcknowledgement largest longest p ≡ accepted (acknowledgementBytes (x .header) (x .payload .count))
-  acknowledged-taken e = acknowledged ∙ onAccepted-passed _ _ (sym e)
-
-  pub acknowledged-refused : {n i : ℕ} → refused n i ≡ answerDatagram largest longest p → udpAcknowledgement largest longest p ≡ refused n i
-  acknowledged-refused e = acknowledged ∙ onAccepted-refused _ _ (sym e)
-
 -- ---- what the walk tells of the judge
 
 pub carried : (want : ℕ) (r : Answer Datagram) {codec count : ℕ} {span : Span} → dataWalk want (payloadOf r) ≡ DataWalk.Taken codec count span → (g : Datagram) × (r ≡ accepted g)
@@ -149,17 +133,32 @@ unfolding payloadOf onAccepted
 not-carried want (accepted g) {x} e = absurd (let k = not-taken want (accepted (g .payload)) {x = x} e in let z : _≡_ {A = ℕ} 0 1 = cc in omega arith)
 not-carried want (refused n i) e = let k = not-taken want (refused n i) e in ap₂ refused (cc) (cc)
 
-pub length-acknowledgement : (h : Header) (count : ℕ) → length (acknowledgementBytes h count) ≡ 7
-unfolding acknowledgementBytes digits
-length-acknowledgement h count = refl
+-- ---- the acknowledgement
 
--- of numbers that fit, its bytes are these
-pub seven-bytes : (h : Header) (count : ℕ) → h .packet < 65536 → h .unused < 256 → h .avl < 256 → count < 256
-    → acknowledgementBytes h count ≡ 0 ∷ 5 ∷ h .packet / 256 ∷ h .packet % 256 ∷ h .unused ∷ h .avl ∷ count ∷ []
-unfolding acknowledgementBytes digits
-seven-bytes h count h₁ h₂ h₃ h₄ =
-    let high : h .packet / 256 % 256 ≡ h .packet / 256 = omega arith in
-    let unused : h .unused % 256 ≡ h .unused = omega arith in
-    let avl : h .avl % 256 ≡ h .avl = omega arith in
-    let number : count % 256 ≡ count = omega arith in
-    λ i. 0 ∷ 5 ∷ high i ∷ h .packet % 256 ∷ unused i ∷ avl i ∷ number i ∷ []
+module _ (p : List ℕ) (h : Bytes p) where
+  -- its bytes stand in the datagram, but for the count, which is the number of records
+  answer-bytes : (largest longest : ℕ) (g : Datagram) {count : ℕ} → readDatagram largest longest p ≡ accepted g → length (g .payload .records) ≡ count → count < 256
+      → acknowledgementBytes (g .header) (length (g .payload .records)) ≡ answerBytes p count
+  unfolding acknowledgementBytes datagramBytes contentBytes headerBytes digits
+  answer-bytes largest longest g {count} e is few =
+      let whole = sym (datagram-exact largest longest p g h .0 e .whole) in
+      let number : count % 256 ≡ count = omega arith in
+      let last = ap (λ (n : ℕ). n % 256) is ∙ number in
+      λ i. 0 ∷ 5 ∷ getD (whole i) 2 0 ∷ getD (whole i) 3 0 ∷ getD (whole i) 4 0 ∷ getD (whole i) 5 0 ∷ last i ∷ []
+
+  pub acknowledged-taken : {codec count : ℕ} {span : Span} → dataWalk 0 (payloadOf (readDatagram 1280 255 p)) ≡ DataWalk.Taken codec count span → count < 256
+      → (26 ≤ length p) × (udpAcknowledgement 1280 255 p ≡ accepted (answerBytes p count))
+  unfolding udpAcknowledgement readDatagram payloadOf onAccepted
+  acknowledged-taken walk few =
+      let c = carried 0 (readDatagram 1280 255 p) walk in
+      let g = c .0 in
+      let e = c .1 in
+      let t = taken 0 (accepted (g .payload)) (sym (ap (λ r. dataWalk 0 (payloadOf r)) e) ∙ walk) in
+      let same : _≡_ {A = AvlData} (g .payload) (t .content) = cc (t .accepts) in
+      let count = ap (λ (a : AvlData). length (a .records)) same ∙ t .countIs in
+      let header = onAccepted-accepted (judgeHeader 1280 p) _ e in
+      (payload-long 1280 p (header .1) .0, onAccepted-passed (readDatagram 1280 255 p) _ e ∙ ap accepted (answer-bytes 1280 255 g e count few))
+
+  pub acknowledged-refused : {x : Refusal} → dataWalk 0 (payloadOf (readDatagram 1280 255 p)) ≡ DataWalk.Refused x → udpAcknowledgement 1280 255 p ≡ refused (x .number) (x .index)
+  unfolding udpAcknowledgement
+  acknowledged-refused walk = onAccepted-refused (readDatagram 1280 255 p) _ (not-carried 0 (readDatagram 1280 255 p) walk)

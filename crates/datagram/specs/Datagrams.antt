@@ -2,7 +2,7 @@
 use Prim.Native.Nat.{ℕ, _+_, _^_, _≤_, _<_}
 use mathlib.Core.Path.{_≡_}
 use mathlib.Core.List.{List, [], _∷_}
-use lib.ListN.{length, drop}
+use lib.ListN.{length, drop, getD}
 use lib.Dec.{eqb, leb}
 use Rattle.wire.specs.Numbers.{numberAt, be}
 use Rattle.wire.specs.Sequences.{fields}
@@ -97,3 +97,7 @@ datagramAs (Refused r) = refused (r .number) (r .index)
 unfoldable pub headerAs : HeaderAnswer → Answer Header
 headerAs (HeaderAnswer.Of h) = accepted h
 headerAs (HeaderAnswer.Refused r) = refused (r .number) (r .index)
+
+-- the same bytes as they stand in the datagram
+abbrev pub answerBytes : List ℕ → ℕ → List ℕ
+answerBytes p count = 0 ∷ 5 ∷ getD p 2 0 ∷ getD p 3 0 ∷ getD p 4 0 ∷ getD p 5 0 ∷ count ∷ []

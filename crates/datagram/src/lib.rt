@@ -8,7 +8,7 @@ ghost use Prim.Native.Nat.{_+_, _≤_};
 ghost use mathlib.Core.List.{_++_};
 ghost use lib.ListN.{length, drop};
 ghost use Rattle.wire.specs.Buffers.{writing, leaving, writtenAs};
-ghost use Rattle.datagram.specs.Datagrams.{judgeHeader, readDatagram, answerDatagram, payloadOf, headerAs, datagramAs, acknowledgementBytes, udpAcknowledgement};
+ghost use Rattle.datagram.specs.Datagrams.{judgeHeader, readDatagram, answerDatagram, payloadOf, headerAs, datagramAs, answerBytes, udpAcknowledgement};
 ghost use Rattle.walk.specs.Walks.{dataWalk};
 
 // The most bytes of a datagram, and of a record.
@@ -105,17 +105,17 @@ pub fn read_datagram(p: &[u8]) -> DatagramAnswer
     }
 }
 
-// The seven bytes of an acknowledgement, at the buffer's start.
-fn put_acknowledgement(header: Header, count: u8, out: &mut [u8])
-    requires { ⌜ 7 ≤ length (now out) ⌝ }
-    ensures { λ _. ⌜ now (out .exit) ≡ acknowledgementBytes header count ++ drop 7 (now (out .entry)) ⌝ }
+// The seven bytes of an acknowledgement, at the buffer's start: the IDs and the unused byte as the datagram has them.
+fn put_acknowledgement(p: &[u8], count: u8, out: &mut [u8])
+    requires { ⌜ (26 ≤ length (now p)) × (7 ≤ length (now out)) ⌝ }
+    ensures { λ _. ⌜ now (out .exit) ≡ answerBytes (now (p .entry)) count ++ drop 7 (now (out .entry)) ⌝ }
 {
     out[0] = 0;
     out[1] = 5;
-    out[2] = (header.packet / 256) as u8;
-    out[3] = (header.packet % 256) as u8;
-    out[4] = header.unused;
-    out[5] = header.avl;
+    out[2] = p[2];
+    out[3] = p[3];
+    out[4] = p[4];
+    out[5] = p[5];
     out[6] = count;
 }
 
@@ -124,12 +124,12 @@ pub fn acknowledge_datagram(p: &[u8], out: &mut [u8]) -> Written
     ensures answer { λ r. ⌜ writtenAs r ≡ writing (udpAcknowledgement 1280 255 (now (p .entry))) (now (out .entry)) ⌝ }
     ensures buffer { λ r. ⌜ now (out .exit) ≡ leaving (udpAcknowledgement 1280 255 (now (p .entry))) (now (out .entry)) ⌝ }
 {
-    match read_datagram(p) {
-        DatagramAnswer::Refused(r) => Written::Refused(r),
-        DatagramAnswer::Accepted {
+    match judge_datagram(LARGEST, LONGEST, p, 0) {
+        DataWalk::Refused(r) => Written::Refused(r),
+        DataWalk::Taken {
             codec: _,
             count,
-            header,
+            span: _,
         } => {
             if out.len() < 7 {
                 return Written::Refused(Refusal {
@@ -137,7 +137,7 @@ pub fn acknowledge_datagram(p: &[u8], out: &mut [u8]) -> Written
                     index: 0,
                 });
             }
-            put_acknowledgement(header, count, out);
+            put_acknowledgement(p, count, out);
             Written::Bytes(7)
         }
     }

@@ -1,19 +1,17 @@
-use Prim.Native.Nat.{ℕ}
 use native.Mathlib.Omega.{arith}
-use mathlib.Core.Path.{refl, sym, ap, _∙_}
-use mathlib.Core.List.{_++_}
-use lib.ListN.{drop}
+use mathlib.Core.Path.{refl, sym, _∙_}
 use borrow.Author.Needs.{needs}
-use Rattle.datagram.specs.Datagrams.{datagramAs, acknowledgementBytes}
+use Rattle.datagram.specs.Datagrams.{answerBytes}
 use Rattle.wire.proofs.BufferLaws.{writing-done, writing-short, leaving-done, leaving-short}
-use Rattle.wire.specs.Answers.{accepted, onAccepted}
+use Rattle.wire.proofs.Widths.{getD-bytes}
+use Rattle.wire.specs.Answers.{onAccepted}
 use Rattle.wire.specs.Buffers.{writing, leaving, writtenAs}
-use Rattle.datagram.proofs.WalkLaws.{acknowledged-taken, acknowledged-refused, length-acknowledgement}
+use Rattle.datagram.proofs.WalkLaws.{acknowledged-taken, acknowledged-refused}
 use Rattle.datagram.proofs.acknowledge_datagram.Statement.{statement}
 use Rattle.datagram.proofs.acknowledge_datagram.Tie as tie
 
-read-datagram-requires : tie.Need-read-datagram-requires
-read-datagram-requires c κs = search needs
+judge-datagram-requires : tie.Need-judge-datagram-requires
+judge-datagram-requires c κs = search needs
 
 enum-known-r : tie.Need-enum-known-r
 enum-known-r c = search needs
@@ -22,39 +20,38 @@ enum-known-count : tie.Need-enum-known-count
 enum-known-count c = search needs
 
 returns : tie.Need-returns
-unfolding writtenAs datagramAs
-returns c = let header = c .before .before .count .given .0 .1 .1 .0 in
-    let count = c .before .before .count .given .0 .1 .0 in
-    let b = acknowledgementBytes header count in
+unfolding writtenAs
+returns c = let p = c .before .before .before .before .before .before .before .args .p .now in
+    let b = answerBytes p (c .before .before .count .given .0 .1 .0) in
     let out = c .before .before .before .before .before .before .before .args .out .now in
-    rw (acknowledged-taken 1280 255 (c .before .before .before .before .before .before .before .args .p .now) (sym (ap datagramAs (c .before .before .count .given .1)) ∙ c .before .before .before .before .read-datagram .ensures))
-    (sym (writing-short b out (omega (arith, length-acknowledgement header count))), sym (leaving-short b out (omega (arith, length-acknowledgement header count))))
+    rw (acknowledged-taken p (getD-bytes p (λ k. c .before .before .before .before .before .before .shared-slice-known .given k .fits)) (sym (c .before .before .before .before .judge-datagram .ensures) ∙ c .before .before .count .given .1) (omega arith) .1)
+    (sym (writing-short b out (omega arith)), sym (leaving-short b out (omega arith)))
 
 put-acknowledgement-requires : tie.Need-put-acknowledgement-requires
-put-acknowledgement-requires c κs = search needs
+put-acknowledgement-requires c κs = let p = c .before .before .before .before .before .before .before .before .args .p .now in
+    (acknowledged-taken p (getD-bytes p (λ k. c .before .before .before .before .before .before .before .shared-slice-known .given k .fits)) (sym (c .before .before .before .before .before .judge-datagram .ensures) ∙ c .before .before .before .count .given .1) (omega arith) .0, omega arith)
 
 returns-2 : tie.Need-returns-2
-unfolding writtenAs datagramAs writing leaving onAccepted
-returns-2 c = rw (acknowledged-refused 1280 255 (c .before .before .before .before .before .before .args .p .now) (sym (ap datagramAs (c .before .r .given .1)) ∙ c .before .before .before .read-datagram .ensures)) (refl, refl)
+unfolding writtenAs writing leaving onAccepted
+returns-2 c = let p = c .before .before .before .before .before .before .args .p .now in
+    rw (acknowledged-refused p (getD-bytes p (λ k. c .before .before .before .before .before .shared-slice-known .given k .fits)) (sym (c .before .before .before .judge-datagram .ensures) ∙ c .before .r .given .1)) (refl, refl)
 
 same-length : tie.Need-same-length
 same-length c = search needs
 
 returns-3 : tie.Need-returns-3
-unfolding writtenAs datagramAs
-returns-3 c = let header = c .before .before .before .before .before .before .count .given .0 .1 .1 .0 in
-    let count = c .before .before .before .before .before .before .count .given .0 .1 .0 in
-    let b = acknowledgementBytes header count in
+unfolding writtenAs
+returns-3 c = let p = c .before .before .before .before .before .before .before .before .before .before .before .args .p .now in
+    let b = answerBytes p (c .before .before .before .before .before .before .count .given .0 .1 .0) in
     let out = c .before .before .before .before .before .before .before .before .before .before .before .args .out .now in
-    let size = length-acknowledgement header count in
-    rw (acknowledged-taken 1280 255 (c .before .before .before .before .before .before .before .before .before .before .before .args .p .now) (sym (ap datagramAs (c .before .before .before .before .before .before .count .given .1)) ∙ c .before .before .before .before .before .before .before .before .read-datagram .ensures))
-    (ap accepted (sym size) ∙ sym (writing-done b out (omega arith)), c .before .before .put-acknowledgement .ensures ∙ ap (λ (k : ℕ). b ++ drop k out) (sym size) ∙ sym (leaving-done b out (omega arith)))
+    rw (acknowledged-taken p (getD-bytes p (λ k. c .before .before .before .before .before .before .before .before .before .before .shared-slice-known .given k .fits)) (sym (c .before .before .before .before .before .before .before .before .judge-datagram .ensures) ∙ c .before .before .before .before .before .before .count .given .1) (omega arith) .1)
+    (sym (writing-done b out (omega arith)), c .before .before .put-acknowledgement .ensures ∙ sym (leaving-done b out (omega arith)))
 
 pub acknowledge-datagram-spec : {M : Type 1} → statement M
 acknowledge-datagram-spec =
     tie.close
     (tie.spec
-    read-datagram-requires
+    judge-datagram-requires
     enum-known-r
     enum-known-count
     returns
