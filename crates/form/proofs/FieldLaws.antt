@@ -1,5 +1,5 @@
 -- The form of a data field.
-use Prim.Native.Nat.{ℕ, _+_, _-_, _≤_, _<_}
+use Prim.Native.Nat.{ℕ, _+_, _-_, _*_, _≤_, _<_}
 use native.Mathlib.Omega.{arith}
 use mathlib.Core.Path.{_≡_, refl, sym, ap, ap₂, _∙_, subst}
 use mathlib.Core.List.{List, [], _∷_, _++_}
@@ -27,6 +27,7 @@ use Rattle.form.specs.declared.Moved.{Moved}
 use Rattle.form.specs.Moves.{Ready, Copies, dataEntries, Field, Writes}
 use Rattle.form.proofs.Inversion.{meets-self}
 use Rattle.form.proofs.MoveLaws.{moved, laid}
+use Rattle.form.proofs.FormSize.{form-size}
 
 -- the entry of the codec, then the records'
 pub form-copied : (codec count : ℕ) {w : Widths} {s before mid after : List ℕ} {r : Moved} → w ≡ widthsOf codec → mid ≡ sets before 0 (1 ∷ 0 ∷ 100 ∷ 0 ∷ codec ∷ [])
@@ -117,6 +118,19 @@ module _ (d : List ℕ) where
       let entries = ap (λ (x : AvlData). laid (formEntries x)) (sym (k .is)) in
       (omega (arith, size, ap length entries), c .stores _ _ (k .reads) ∙ ap (sets before 0) entries)
 
+  -- a run over a buffer that is long enough
+  writes-whole : {out after : List ℕ} {r : Moved} {n : ℕ} → Formed out after r → ((a : AvlData) → readData 255 d ≡ accepted a → (n ≡ length (form a)) × (length (form a) ≤ length out))
+      → Writes d out after (Written.Bytes n)
+  unfolding writtenAs
+  writes-whole {out} c h =
+      record {
+        answer = λ a e. ap accepted (h a e .0) ∙ sym (writing-done (form a) out (h a e .1));
+        buffer = λ a e. formed c a e .1 ∙ sets-front (form a) out (h a e .1) ∙ sym (leaving-done (form a) out (h a e .1));
+      }
+
+  pub writes-room : {out after : List ℕ} {r : Moved} → Bytes d → Field d → 4 * length d ≤ length out → Formed out after r → Writes d out after (Written.Bytes (r .to))
+  writes-room b k h c = writes-whole c (λ a e. (formed c a e .0, omega (arith, h, form-size 255 d a b (k .long) e)))
+
   -- a run over no buffer changes nothing
   module _ {none last out : List ℕ} {r : Moved} (run : Formed none last r) (empty : length last ≡ 0) where
     unchanged : last ++ out ≡ out
@@ -131,14 +145,5 @@ module _ (d : List ℕ) where
         }
 
     pub writes-done : {after : List ℕ} {q : Moved} → r .to ≤ length (last ++ out) → Formed (last ++ out) after q → Writes d out after (Written.Bytes (r .to))
-    unfolding writtenAs
-    writes-done h c =
-        record {
-          answer = λ a e. ap accepted (formed run a e .0) ∙ sym (writing-done (form a) out (omega (arith, formed run a e .0, ap length unchanged)));
-          buffer = λ a e.
-              let fits : length (form a) ≤ length out = omega (arith, formed run a e .0, ap length unchanged) in
-              formed c a e .1
-              ∙ ap (λ (l : List ℕ). sets l 0 (form a)) unchanged
-              ∙ sets-front (form a) out fits
-              ∙ sym (leaving-done (form a) out fits);
-        }
+    writes-done {after} {q} h c =
+        writes-whole (subst (λ (l : List ℕ). Formed l after q) unchanged c) (λ a e. (formed run a e .0, omega (arith, formed run a e .0, ap length unchanged)))

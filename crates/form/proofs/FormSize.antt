@@ -1,37 +1,94 @@
--- How long the form of an accepted packet is.
-use Prim.Native.Nat.{ℕ, zero, suc, _-_, _≤_}
+-- A form is at most four times as long as its data field.
+use Prim.Native.Nat.{ℕ, _+_, _*_, _^_, _≤_, _<_}
 use native.Mathlib.Omega.{arith}
-use mathlib.Core.Path.{_≡_, refl, ap}
-use mathlib.Core.List.{List, []}
-use lib.ListN.{length, take, drop, length-take}
-use Rattle.wire.specs.Numbers.{Bytes, le}
+use mathlib.Core.Path.{_≡_, ap}
+use mathlib.Core.Bool.{Bool, true, false}
+use mathlib.Core.List.{List, [], _∷_}
+use lib.ListN.{length, length-append}
+use lib.Dec.{eqb, lit≤}
+use Rattle.wire.specs.Numbers.{Bytes, digits, be, le, pick}
+use Rattle.wire.specs.Sequences.{joined, All}
 use Rattle.wire.specs.Answers.{accepted}
-use Rattle.wire.proofs.Exactness.{meets-pure}
+use Rattle.wire.proofs.Widths.{length-digits}
+use Rattle.wire.proofs.Accepting.{pick-either}
+use Rattle.wire.proofs.Enclosed.{length-enclosed}
 use Rattle.avl.specs.declared.Widths.{Widths}
-use Rattle.avl.specs.Codecs.{widthsOf, kinds}
-use Rattle.avl.specs.RecordReader.{avlRecord, inRecord, avlRecords}
-use Rattle.avl.specs.DataField.{AvlData}
-use Rattle.packet.specs.DataPackets.{readPacket}
+use Rattle.avl.specs.Codecs.{widthsOf, kinds, codec8, codec8E, codec16}
+use Rattle.avl.specs.Records.{Element, Fixed, AvlRecord, ElementRules, GroupsRules, RecordRules, lengthBytes, elementBytes, groupBytes, groupsBytes, fixedBytes, recordBytes}
+use Rattle.avl.specs.DataField.{AvlData, DataRules, dataBytes, readData}
+use Rattle.avl.proofs.DataLaws.{data-exact}
+use Rattle.walk.proofs.KindLaws.{KindRange, kinds-range}
 use Rattle.tlv.specs.Entries.{entryBytes}
-use Rattle.tlv.specs.Form.{recordsEntries, formEntries, form}
-use Rattle.form.proofs.MoveLaws.{Paced, paced-list, paced-record}
-use Rattle.form.proofs.LoopLaws.{paced-tagged}
-use Rattle.form.proofs.FieldLaws.{codec, count, body, field-read}
-use Rattle.form.proofs.WholeLaws.{packet-field}
+use Rattle.tlv.specs.Form.{fixedEntry, elementEntry, groupEntries, groupsEntries, recordsEntries, formEntries, form}
+use Rattle.form.proofs.MoveLaws.{laid, length-laid}
 
-paced-records : (w : Widths) (index n : ℕ) → Paced (avlRecords 255 w index n) (recordsEntries (kinds w))
-unfolding avlRecords recordsEntries
-paced-records w index zero = record { pace = λ s at i. meets-pure [] s at (i, omega arith) }
-paced-records w index (suc n) =
-    paced-list (inRecord index (avlRecord 255 w)) (avlRecords 255 w (suc index) n) (λ r rs. refl) (paced-tagged index (avlRecord 255 w) (paced-record w 255)) (paced-records w (suc index) n)
+pub length-fixedBytes : (w : Widths) (x : Fixed) → length (fixedBytes w x) ≡ 24 + w .event + w .generation
+unfolding fixedBytes
+length-fixedBytes w x = simp (length-append, length-digits) (omega arith)
 
-pub form-size : (p : List ℕ) {a : AvlData} → readPacket 1280 255 p ≡ accepted a → Bytes p → length (form a) ≤ 12288
-unfolding form formEntries entryBytes le
-form-size p {a} e b =
-    let k = packet-field p e b in
-    let d = take (length p - 4 - 8) (drop 8 p) in
-    let r = field-read d a (k .accepts) in
-    let q = paced-records (widthsOf (codec d)) 0 (count d) .pace (body d) 0 (omega arith) .if-got _ _ (r .reads) in
-    let most : length (body d) ≤ 1280 = omega (arith, k .small, length-take (length d - 1 - 2) (drop 2 d)) in
-    let whole = ap (λ (x : AvlData). length (form x)) (r .is) in
-    omega (arith, q .0, q .1, most, whole)
+pub length-recordBytes : (w : Widths) (r : AvlRecord) → length (recordBytes w r) ≡ 24 + w .event + w .generation + w .count + length (groupsBytes w (kinds w) (r .groups))
+unfolding recordBytes
+length-recordBytes w r = simp (length-append, length-digits, length-fixedBytes) (omega arith)
+
+module _ (w : Widths) (named : 1 ≤ w .id) where
+  -- an ID and a value of at least a byte, or the length of a variable one
+  element-size : (kind : ℕ) (e : Element) → 1 ≤ kind → ElementRules w kind e → 6 + length (e .value) ≤ 4 * length (elementBytes w kind e)
+  unfolding elementBytes lengthBytes
+  element-size kind e h r = simp (length-append, length-digits) (go (eqb kind 9) (r .size))
+    where
+      go : (b : Bool) → pick b (length (e .value) < 256 ^ 2) (length (e .value) ≡ kind) → 6 + length (e .value) ≤ 4 * (w .id + (length (pick b (be 2 (length (e .value))) []) + length (e .value)))
+      go true k = simp length-digits (omega (arith, named))
+      go false k = omega (arith, named, h)
+
+  group-size : (kind : ℕ) (g : List Element) → 1 ≤ kind → All (ElementRules w kind) g → length (laid (groupEntries kind g)) ≤ 4 * length (joined (elementBytes w kind) g)
+  unfolding groupEntries elementEntry entryBytes le
+  group-size kind [] h r = omega arith
+  group-size kind (e ∷ g) h r =
+      let entries = length-laid (elementEntry kind e ∷ []) (groupEntries kind g) in
+      omega (arith, element-size kind e h (r .0), group-size kind g h (r .1), length-append (elementBytes w kind e) (joined (elementBytes w kind) g), length-append (e .value) (laid (groupEntries kind g)))
+
+  groups-size : (ks : List ℕ) (gs : List (List Element)) → All KindRange ks → GroupsRules w ks gs → length (laid (groupsEntries ks gs)) ≤ 4 * length (groupsBytes w ks gs)
+  unfolding groupsEntries groupsBytes groupBytes
+  groups-size [] gs h r = omega arith
+  groups-size (k ∷ ks) [] h r = omega arith
+  groups-size (k ∷ ks) (g ∷ gs) h r =
+      let sum = be (w .count) (length g) in
+      omega (
+        arith,
+        length-laid (groupEntries k g) (groupsEntries ks gs),
+        group-size k g (h .0 .0) (r .0 .each),
+        groups-size ks gs (h .1) (r .1),
+        length-append sum (joined (elementBytes w k) g),
+        length-append (groupBytes w k g) (groupsBytes w ks gs),
+      )
+
+  records-size : (longest : ℕ) (rs : List AvlRecord) → All (RecordRules longest w) rs → length (laid (recordsEntries (kinds w) rs)) ≤ 4 * length (joined (recordBytes w) rs)
+  unfolding recordsEntries fixedEntry entryBytes le
+  records-size longest [] h = omega arith
+  records-size longest (r ∷ rs) h =
+      omega (
+        arith,
+        length-laid (groupsEntries (kinds w) (r .groups)) (recordsEntries (kinds w) rs),
+        groups-size (kinds w) (r .groups) (kinds-range w) (h .0 .groupsKeep),
+        records-size longest rs (h .1),
+        length-recordBytes w r,
+        length-append (recordBytes w r) (joined (recordBytes w) rs),
+      )
+
+named : (codec : ℕ) → 1 ≤ widthsOf codec .id
+unfolding widthsOf
+named codec =
+    pick-either (λ (w : Widths). 1 ≤ w .id) (eqb codec 0x08) codec8 (pick (eqb codec 0x8E) codec8E codec16) (lit≤ tt)
+    (pick-either (λ (w : Widths). 1 ≤ w .id) (eqb codec 0x8E) codec8E codec16 (lit≤ tt) (lit≤ tt))
+
+pub form-size : (longest : ℕ) (d : List ℕ) (a : AvlData) → Bytes d → 3 ≤ length d → readData longest d ≡ accepted a → length (form a) ≤ 4 * length d
+unfolding form formEntries entryBytes dataBytes le
+form-size longest d a b l e =
+    let k = data-exact longest d a b l .0 e in
+    let w = widthsOf (a .codec) in
+    omega (
+      arith,
+      records-size w (named (a .codec)) longest (a .records) (k .0 .each),
+      length-enclosed (a .codec) (length (a .records)) (joined (recordBytes w) (a .records)),
+      ap length (k .1),
+    )

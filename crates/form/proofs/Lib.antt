@@ -3,6 +3,6 @@ pub mod Inversion
 pub mod MoveLaws
 pub mod LeafLaws
 pub mod LoopLaws
+pub mod FormSize
 pub mod FieldLaws
 pub mod WholeLaws
-pub mod FormSize

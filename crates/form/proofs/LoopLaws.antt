@@ -16,12 +16,13 @@ use Rattle.avl.specs.declared.Widths.{Widths}
 use Rattle.avl.specs.Codecs.{kinds}
 use Rattle.avl.specs.Records.{Element, AvlRecord}
 use Rattle.avl.specs.RecordReader.{element, group, groups, fixedFields, avlRecord, tagged, inRecord, avlRecords}
+use Rattle.walk.proofs.KindLaws.{next-kind}
 use Rattle.tlv.specs.Entries.{Entry}
 use Rattle.tlv.specs.Form.{groupEntries, groupsEntries, recordsEntries}
 use Rattle.form.specs.declared.Moved.{Moved}
-use Rattle.form.specs.Moves.{Ready, Copies, fixedEntries, elementEntries, recordEntries, allKinds}
+use Rattle.form.specs.Moves.{Ready, Copies, fixedEntries, elementEntries, recordEntries}
 use Rattle.form.proofs.Inversion.{listed, group-read, RecordRead, record-read}
-use Rattle.form.proofs.MoveLaws.{KindRange, kinds-range, moved, laid, length-laid, sets-laid, paced-fixed, copies-of, Paced, paced-element, paced-group, paced-record, copies-is, copies-none, copies-list, ready-first, ready-others}
+use Rattle.form.proofs.MoveLaws.{moved, laid, length-laid, sets-laid, paced-fixed, copies-of, Paced, paced-element, paced-group, paced-record, copies-is, copies-none, copies-list, ready-first, ready-others}
 
 -- `m` is left, to be read at `from` and stored at `dest`, of `whole`, which began at `at` and `to`
 pub record Left {A : Type 0} (m : Reader A) (entries : A → List Entry) (whole : Reader A) (all : A → List Entry)
@@ -112,39 +113,11 @@ abbrev pub GroupsLeft : Widths → List ℕ → ℕ → ℕ → List ℕ → ℕ
 GroupsLeft w s at to before from dest out k =
     Left (groups w (drop k (kinds w))) (groupsEntries (drop k (kinds w))) (groups w (kinds w)) (groupsEntries (kinds w)) s at to before from dest out
 
-all-getD : (P : ℕ → Type 0) (l : List ℕ) (k : ℕ) → All P l → k < length l → P (getD l k 0)
-all-getD P [] k h i = absurd (omega arith)
-all-getD P (x ∷ l) zero h i = h .0
-all-getD P (x ∷ l) (suc k) h i = all-getD P l k (h .1) (omega arith)
-
-module _ (w : Widths) where
-  pub kinds-few : length (kinds w) ≤ 5
-  unfolding kinds
-  kinds-few = pick-either (λ (ks : List ℕ). length (1 ∷ 2 ∷ 4 ∷ 8 ∷ ks) ≤ 5) (w .variable) (9 ∷ []) [] (omega arith) (omega arith)
-
-  module _ (k : ℕ) (h : k < length (kinds w)) where
-    pub kind-range : {kind : ℕ} → kind ≡ getD (kinds w) k 0 → KindRange kind
-    kind-range e = subst KindRange (sym e) (all-getD KindRange (kinds w) k (kinds-range w) h)
-
-    pub kind-known : getD allKinds k 0 ≡ getD (kinds w) k 0
-    unfolding kinds
-    kind-known = go (w .variable) h
-      where
-        given : Bool → List ℕ
-        given b = 1 ∷ 2 ∷ 4 ∷ 8 ∷ pick b (9 ∷ []) []
-
-        go : (b : Bool) → k < length (given b) → getD allKinds k 0 ≡ getD (given b) k 0
-        go true i = refl
-        go false i = sym (getD-take 4 allKinds k 0 i)
-
 module _ (w : Widths) {s : List ℕ} {at to : ℕ} {before : List ℕ} {from dest : ℕ} {out : List ℕ} (k : ℕ) (l : GroupsLeft w s at to before from dest out k) where
   module _ {kind : ℕ} (h : k < length (kinds w)) (e : kind ≡ getD (kinds w) k 0) where
-    next-kind : drop k (kinds w) ≡ kind ∷ drop (k + 1) (kinds w)
-    next-kind = drop-cons (kinds w) k 0 h ∙ ap₂ (λ (x y : ℕ). x ∷ drop y (kinds w)) (sym e) (sym (add-one k))
-
     groups-more : groups w (drop k (kinds w)) ≡ listed (group w kind) (groups w (drop (k + 1) (kinds w)))
     unfolding groups
-    groups-more = ap (groups w) next-kind
+    groups-more = ap (groups w) (next-kind w k h e)
 
     pub groups-first : Ready (group w kind) s from dest
     groups-first = left-first (group w kind) (groups w (drop (k + 1) (kinds w))) groups-more l
@@ -153,7 +126,7 @@ module _ (w : Widths) {s : List ℕ} {at to : ℕ} {before : List ℕ} {from des
         → GroupsLeft w s at to before (r .from) (r .to) mid (k + 1)
     unfolding groupsEntries
     groups-on i c m =
-        left-on (group w kind) (groups w (drop (k + 1) (kinds w))) groups-more l (λ g gs. ap (λ (ks : List ℕ). groupsEntries ks (g ∷ gs)) next-kind) (paced-group w kind i) c m
+        left-on (group w kind) (groups w (drop (k + 1) (kinds w))) groups-more l (λ g gs. ap (λ (ks : List ℕ). groupsEntries ks (g ∷ gs)) (next-kind w k h e)) (paced-group w kind i) c m
 
   pub groups-done : length (kinds w) ≤ k → Copies (groups w (kinds w)) (groupsEntries (kinds w)) s at to before out (moved from dest)
   unfolding groups pure groupsEntries

@@ -18,6 +18,7 @@ use Rattle.avl.specs.declared.Widths.{Widths}
 use Rattle.avl.specs.Codecs.{kinds}
 use Rattle.avl.specs.Records.{Element, Fixed, AvlRecord}
 use Rattle.avl.specs.RecordReader.{element, group, groups, fixedFields, avlRecord, tagged, inRecord, avlRecords, atEnd, allRecords}
+use Rattle.walk.proofs.KindLaws.{KindRange, kinds-range}
 use Rattle.tlv.specs.Entries.{Entry, entryBytes}
 use Rattle.tlv.specs.Form.{fixedEntry, elementEntry, groupEntries, groupsEntries, recordsEntries}
 use Rattle.form.specs.declared.Moved.{Moved}
@@ -130,9 +131,6 @@ module _ {A : Type 0} (m : Reader A) (rest : Reader (List A)) {s : List ℕ} {fr
 
 -- ---- the pace of each reader
 
-abbrev pub KindRange : ℕ → Type 0
-KindRange k = (1 ≤ k) × (k ≤ 9)
-
 pub paced-list : {A : Type 0} (m : Reader A) (rest : Reader (List A)) {one : A → List Entry} {many whole : List A → List Entry}
     → ((a : A) (l : List A) → whole (a ∷ l) ≡ one a ++ many l) → Paced m one → Paced rest many → Paced (listed m rest) whole
 paced-list m rest {one} {many} {whole} joins p q =
@@ -175,16 +173,12 @@ module _ (w : Widths) where
   paced-fixed =
       record { pace = λ s at i. meets-weaken (fixed-read w s at) (λ f n k. (k .inside, omega (arith, k .end))) }
 
-  pub kinds-range : All KindRange (kinds w)
-  unfolding kinds
-  kinds-range = (omega arith, (omega arith, (omega arith, (omega arith, pick-either (All KindRange) (w .variable) (9 ∷ []) [] (omega arith, tt) tt))))
-
   pub paced-record : (longest : ℕ) → Paced (avlRecord longest w) (recordEntries (kinds w))
   paced-record longest =
       record {
         pace = λ s at i. meets-weaken (record-read longest w s at) (λ r n k.
             let p = paced-fixed .pace s at i .if-got _ _ (k .fixed) in
-            let q = paced-groups (kinds w) kinds-range .pace s _ (k .inside) .if-got _ _ (k .groupsRead) in
+            let q = paced-groups (kinds w) (kinds-range w) .pace s _ (k .inside) .if-got _ _ (k .groupsRead) in
             let size = length-laid (fixedEntries (r .fixed)) (groupsEntries (kinds w) (r .groups)) in
             (q .0, omega (arith, p .1, q .1, size)));
       }

@@ -21,7 +21,7 @@ use Rattle.datagram.specs.Datagrams.{Datagram, judgeHeader, readDatagram}
 use Rattle.datagram.proofs.WalkLaws.{payload-part}
 use Rattle.tlv.specs.Form.{form}
 use Rattle.tlv.specs.PacketOf.{formOfPacket, formOfDatagram}
-use Rattle.form.specs.Moves.{Field, Writes}
+use Rattle.form.specs.Moves.{formOfField, Field, Writes}
 
 -- a data field whose content is known
 pub record FieldOf (d : List ℕ) (a : AvlData) : Type 0 where
@@ -33,7 +33,7 @@ pub field-of : {d : List ℕ} {a : AvlData} → FieldOf d a → Field d
 field-of {d} {a} k = record { long = k .long; small = k .small; content = a; accepts = k .accepts }
 
 -- what a writer of `result` answers and leaves
-abbrev Answers : Answer (List ℕ) → List ℕ → List ℕ → Written → Type 0
+abbrev pub Answers : Answer (List ℕ) → List ℕ → List ℕ → Written → Type 0
 Answers result before after r = (writtenAs r ≡ writing result before) × (after ≡ leaving result before)
 
 written-field : {d : List ℕ} {a : AvlData} {result : Answer (List ℕ)} {before after : List ℕ} {r : Written} → FieldOf d a → result ≡ accepted (form a)
@@ -41,9 +41,24 @@ written-field : {d : List ℕ} {a : AvlData} {result : Answer (List ℕ)} {befor
 written-field {a = a} {before = before} k e w =
     (w .answer a (k .accepts) ∙ ap (λ x. writing x before) (sym e), w .buffer a (k .accepts) ∙ ap (λ x. leaving x before) (sym e))
 
-refused-whole : {result : Answer (List ℕ)} {before : List ℕ} {x : Refusal} → result ≡ refused (x .number) (x .index) → Answers result before before (Written.Refused x)
+pub refused-whole : {result : Answer (List ℕ)} {before : List ℕ} {x : Refusal} → result ≡ refused (x .number) (x .index) → Answers result before before (Written.Refused x)
 unfolding writtenAs writing leaving onAccepted
 refused-whole {before = before} e = (ap (λ y. writing y before) (sym e), ap (λ y. leaving y before) (sym e))
+
+-- ---- a data field
+
+module _ (d : List ℕ) where
+  module _ {a : AvlData} (long : 3 ≤ length d) (small : length d ≤ 1280) (e : readData 255 d ≡ accepted a) where
+    pub field-taken : FieldOf d a
+    field-taken = record { long = long; small = small; accepts = e }
+
+    pub field-written : {before after : List ℕ} {r : Written} → Writes d before after r → Answers (formOfField 255 d) before after r
+    unfolding formOfField
+    field-written w = written-field field-taken (onAccepted-passed (readData 255 d) _ e) w
+
+  pub field-refused : {x : Refusal} {before : List ℕ} → readData 255 d ≡ refused (x .number) (x .index) → Answers (formOfField 255 d) before before (Written.Refused x)
+  unfolding formOfField
+  field-refused e = refused-whole (onAccepted-refused (readData 255 d) _ e)
 
 -- ---- a packet
 

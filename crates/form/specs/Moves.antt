@@ -8,7 +8,7 @@ use Rattle.wire.specs.Numbers.{Bytes}
 use Rattle.wire.specs.Sequences.{joined}
 use Rattle.wire.specs.Reading.{got, Reader}
 use Rattle.wire.specs.declared.Written.{Written}
-use Rattle.wire.specs.Answers.{accepted}
+use Rattle.wire.specs.Answers.{Answer, accepted, onAccepted}
 use Rattle.wire.specs.Buffers.{writing, leaving, writtenAs}
 use Rattle.avl.specs.Records.{Element, Fixed, AvlRecord}
 use Rattle.avl.specs.DataField.{AvlData, readData}
@@ -45,9 +45,9 @@ recordEntries ks r = fixedEntry (r .fixed) ∷ groupsEntries ks (r .groups)
 abbrev pub dataEntries : ℕ → List AvlRecord → List Entry
 dataEntries codec rs = formEntries (record { codec = codec; records = rs })
 
--- all kinds, of which records without variable values have the first four
-abbrev pub allKinds : List ℕ
-allKinds = 1 ∷ 2 ∷ 4 ∷ 8 ∷ 9 ∷ []
+-- the form of a data field of at least three bytes
+unfoldable pub formOfField : ℕ → List ℕ → Answer (List ℕ)
+formOfField longest d = onAccepted (readData longest d) (λ a. accepted (form a))
 
 -- a data field of this length that is accepted
 pub record Field (d : List ℕ) : Type 0 where

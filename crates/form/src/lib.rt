@@ -4,8 +4,9 @@ use walk::DataWalk;
 use wire::Refusal;
 use wire::Written;
 ghost use mathlib.Core.Path.{_≡_};
-ghost use Prim.Native.Nat.{_+_, _≤_, _<_};
-ghost use lib.ListN.{length, getD};
+ghost use Prim.Native.Nat.{_+_, _^_, _≤_, _<_};
+ghost use mathlib.Core.List.{_++_};
+ghost use lib.ListN.{length};
 ghost use lib.Seq.{sets};
 ghost use Rattle.wire.specs.Numbers.{numberAt, le};
 ghost use Rattle.wire.specs.Reading.{got};
@@ -15,7 +16,7 @@ ghost use Rattle.avl.specs.Codecs.{widthsOf, kinds};
 ghost use Rattle.walk.specs.Walks.{Narrow};
 ghost use Rattle.tlv.specs.Form.{groupEntries, groupsEntries, recordsEntries};
 ghost use Rattle.tlv.specs.PacketOf.{formOfPacket, formOfDatagram};
-ghost use Rattle.form.specs.Moves.{Ready, Copies, elementEntries, fixedEntries, recordEntries, dataEntries, allKinds, Field, Writes};
+ghost use Rattle.form.specs.Moves.{Ready, Copies, elementEntries, fixedEntries, recordEntries, dataEntries, formOfField, Field, Writes};
 
 // Where reading and storing go on.
 struct Moved {
@@ -38,8 +39,8 @@ fn store_le(out: &mut [u8], at: usize, w: usize, n: u64)
 }
 
 // Stores the bytes of `src`, as far as the buffer reaches.
-fn store_bytes(out: &mut [u8], at: usize, src: &[u8])
-    requires { ⌜ (at ≤ 65536) × (length (now src) ≤ 65536) ⌝ }
+pub fn store_bytes(out: &mut [u8], at: usize, src: &[u8])
+    requires { ⌜ at + length (now src) < 2 ^ 64 ⌝ }
     ensures { λ _. ⌜ now (out .exit) ≡ sets (now (out .entry)) at (now (src .entry)) ⌝ }
 {
     if at + src.len() <= out.len() {
@@ -119,6 +120,22 @@ fn value_at(kind: usize, s: &[u8], at: usize) -> Value
     }
 }
 
+// The first six bytes of an element's entry: its length, its kind, its ID. One test of the room serves all three.
+fn put_head(out: &mut [u8], to: usize, size: u64, kind: u64, id: u64)
+    requires { ⌜ to ≤ 16384 ⌝ }
+    ensures { λ _. ⌜ now (out .exit) ≡ sets (now (out .entry)) to ((le 2 size ++ le 2 kind) ++ le 2 id) ⌝ }
+{
+    if to + 6 <= out.len() {
+        wire::put_le(out, to, 2, size);
+        wire::put_le(out, to + 2, 2, kind);
+        wire::put_le(out, to + 4, 2, id);
+        return;
+    }
+    store_le(out, to, 2, size);
+    store_le(out, to + 2, 2, kind);
+    store_le(out, to + 4, 2, id);
+}
+
 // The entry of an element: its kind, its ID, its value as it stands.
 fn put_element(w: Widths, kind: usize, s: &[u8], at: usize, out: &mut [u8], to: usize) -> Moved
     requires { ⌜ Narrow w ⌝ }
@@ -131,9 +148,8 @@ fn put_element(w: Widths, kind: usize, s: &[u8], at: usize, out: &mut [u8], to: 
     let start = value.start;
     let size = value.size;
     let end = start + size;
-    store_le(out, to, 2, (2 + size) as u64);
-    store_le(out, to + 2, 2, kind as u64);
-    store_number(s, at, id, out, to + 4, 2);
+    let number = wire::short_number(s, at, id);
+    put_head(out, to, (2 + size) as u64, kind as u64, number);
     store_bytes(out, to + 6, &s[start..end]);
     Moved {
         from: end,
@@ -149,7 +165,7 @@ fn put_group(w: Widths, kind: usize, s: &[u8], at: usize, out: &mut [u8], to: us
     ensures { λ r. ⌜ Copies (group w kind) (groupEntries kind) (now (s .entry)) at to (now (out .entry)) (now (out .exit)) r ⌝ }
 {
     let count = w.count;
-    let mut left = wire::number(s, at, count);
+    let mut left = wire::short_number(s, at, count);
     let mut from = at + count;
     let mut dest = to;
     while 0 < left {
@@ -161,38 +177,18 @@ fn put_group(w: Widths, kind: usize, s: &[u8], at: usize, out: &mut [u8], to: us
     Moved { from, to: dest }
 }
 
-// How many groups a record has.
-fn kind_count(w: Widths) -> usize
-    ensures { λ r. ⌜ r ≡ length (kinds w) ⌝ }
-{
-    let variable = w.variable;
-    if variable {
-        return 5;
-    }
-    4
-}
-
-// The kind of the group with number `k`.
-fn kind_at(k: usize) -> usize
-    requires { ⌜ k < 5 ⌝ }
-    ensures { λ r. ⌜ r ≡ getD allKinds k 0 ⌝ }
-{
-    let kinds: [usize; 5] = [1, 2, 4, 8, 9];
-    kinds[k]
-}
-
 // The entries of a record's groups, in the order of their kinds.
 fn put_groups(w: Widths, s: &[u8], at: usize, out: &mut [u8], to: usize) -> Moved
     requires { ⌜ Narrow w ⌝ }
     requires { ⌜ Ready (groups w (kinds w)) (now s) at to ⌝ }
     ensures { λ r. ⌜ Copies (groups w (kinds w)) (groupsEntries (kinds w)) (now (s .entry)) at to (now (out .entry)) (now (out .exit)) r ⌝ }
 {
-    let n = kind_count(w);
+    let n = walk::kind_count(w);
     let mut from = at;
     let mut dest = to;
     let mut k: usize = 0;
     while k < n {
-        let kind = kind_at(k);
+        let kind = walk::kind_at(k);
         let moved = put_group(w, kind, s, from, out, dest);
         from = moved.from;
         dest = moved.to;
@@ -240,7 +236,7 @@ fn put_form(codec: u8, count: usize, s: &[u8], out: &mut [u8]) -> Moved
     put_records(walk::widths_of(codec), count, s, out, 5)
 }
 
-// The form of the data field `d`. A run over no buffer gives its length; 18 where it is longer than `out`.
+// The form of the data field `d`, which is at most four times as long. Where `out` is shorter than that, a run over no buffer gives the form's length first: 18 where it is longer than `out`.
 fn write_field(d: &[u8], out: &mut [u8]) -> Written
     requires { ⌜ Field (now d) ⌝ }
     ensures { λ r. ⌜ Writes (now (d .entry)) (now (out .entry)) (now (out .exit)) r ⌝ }
@@ -248,6 +244,10 @@ fn write_field(d: &[u8], out: &mut [u8]) -> Written
     let codec = d[0];
     let count = d[1] as usize;
     let last = d.len() - 1;
+    if 4 * d.len() <= out.len() {
+        let done = put_form(codec, count, &d[2..last], out);
+        return Written::Bytes(done.to);
+    }
     let size = put_form(codec, count, &d[2..last], &mut out[0..0]).to;
     if out.len() < size {
         return Written::Refused(Refusal {
@@ -257,6 +257,22 @@ fn write_field(d: &[u8], out: &mut [u8]) -> Written
     }
     put_form(codec, count, &d[2..last], out);
     Written::Bytes(size)
+}
+
+// The form of a data field, which is judged first.
+pub fn form_of_field(d: &[u8], out: &mut [u8]) -> Written
+    requires { ⌜ (3 ≤ length (now d)) × (length (now d) ≤ 1280) ⌝ }
+    ensures answer { λ r. ⌜ writtenAs r ≡ writing (formOfField 255 (now (d .entry))) (now (out .entry)) ⌝ }
+    ensures buffer { λ r. ⌜ now (out .exit) ≡ leaving (formOfField 255 (now (d .entry))) (now (out .entry)) ⌝ }
+{
+    match walk::read_data(packet::LONGEST, d, 0) {
+        DataWalk::Refused(r) => Written::Refused(r),
+        DataWalk::Taken {
+            codec: _,
+            count: _,
+            span: _,
+        } => write_field(d, out),
+    }
 }
 
 // The form of a TCP data packet.

@@ -1,21 +1,23 @@
 -- What is decoded of a form is not much longer than the form.
 use Prim.Native.Nat.{ℕ, zero, suc, _+_, _*_, _^_, _≤_}
 use native.Mathlib.Omega.{arith}
+use mathlib.Core.Bool.{Bool, true, false}
 use mathlib.Core.List.{List, [], _∷_}
-use lib.ListN.{length, drop, length-append, length-take, length-drop}
+use lib.ListN.{length, take, drop, length-append, length-take, length-drop}
 use lib.Dec.{eqb}
-use Rattle.wire.specs.Numbers.{be, digits, littleAt}
+use Rattle.wire.specs.Numbers.{be, digits, littleAt, pick}
 use Rattle.wire.specs.Sequences.{joined}
 use Rattle.wire.proofs.Widths.{length-digits}
 use Rattle.wire.proofs.Accepting.{pick-either}
 use Rattle.avl.specs.declared.Widths.{Widths}
 use Rattle.avl.specs.Codecs.{kinds}
-use Rattle.avl.specs.Records.{AvlRecord, lengthBytes, elementBytes, groupBytes, groupsBytes, recordBytes}
+use Rattle.avl.specs.Records.{Element, AvlRecord, elementCount, total, lengthBytes, elementBytes, groupBytes, groupsBytes, recordBytes}
 use Rattle.walk.specs.Walks.{Narrow}
+use Rattle.walk.proofs.KindLaws.{kinds-few}
 use Rattle.tlv.specs.Entries.{Entry, entriesFrom, entriesOf}
-use Rattle.tlv.specs.Decoding.{entryElement, ofKind, groupsOf, fixedOf, beforeNext, recordsOf}
-use Rattle.rebuild.proofs.LayoutLaws.{length-recordBytes}
-use Rattle.rebuild.specs.FormPlaces.{entriesAt, elementsAt, groupAt}
+use Rattle.tlv.specs.Decoding.{entryElement, run, behind, groupsOf, fixedOf, recordsOf}
+use Rattle.form.proofs.FormSize.{length-recordBytes}
+use Rattle.rebuild.specs.FormPlaces.{entriesAt}
 
 -- ---- the bytes that entries take
 
@@ -31,11 +33,6 @@ weight-from (suc n) (b ∷ s) =
     let size = littleAt (b ∷ s) 0 2 in
     omega (arith, weight-from n (drop (4 + size) (b ∷ s)), length-drop (4 + size) (b ∷ s), length-take size (drop 4 (b ∷ s)), length-drop 4 (b ∷ s))
 
-weight-next : (es : List Entry) → weight (beforeNext es) ≤ weight es
-unfolding beforeNext
-weight-next [] = omega arith
-weight-next (e ∷ es) = pick-either (λ l. weight l ≤ weight (e ∷ es)) (eqb (e .kind) 101) [] (e ∷ beforeNext es) (omega arith) (omega (arith, weight-next es))
-
 -- a form of at most 65,536 bytes
 weight-at : (f : List ℕ) (at : ℕ) → length f ≤ 65536 → weight (entriesAt f at) ≤ 262144
 unfolding entriesAt entriesOf
@@ -45,16 +42,33 @@ length-weight : (es : List Entry) → length es ≤ weight es
 length-weight [] = omega arith
 length-weight (e ∷ es) = omega (arith, length-weight es)
 
--- ---- the elements of a kind
+-- ---- how many elements there are
 
-few-of : (k : ℕ) (es : List Entry) → length (ofKind k es) ≤ weight es
-unfolding ofKind
-few-of k [] = omega arith
-few-of k (e ∷ es) = pick-either (λ l. length l ≤ weight (e ∷ es)) (eqb (e .kind) k) (entryElement e ∷ ofKind k es) (ofKind k es) (omega (arith, few-of k es)) (omega (arith, few-of k es))
+count-run : (k : ℕ) (es : List Entry) → length (run k es) + weight (behind k es) ≤ weight es
+unfolding run behind
+count-run k [] = omega arith
+count-run k (e ∷ es) = go (count-run k es) (eqb (e .kind) k)
+  where
+    go : length (run k es) + weight (behind k es) ≤ weight es → (b : Bool) → length (pick b (entryElement e ∷ run k es) []) + weight (pick b (behind k es) (e ∷ es)) ≤ weight (e ∷ es)
+    go h true = omega arith
+    go h false = omega arith
 
-pub few : (k : ℕ) (f : List ℕ) (at : ℕ) → length f ≤ 65536 → length (groupAt k f at) ≤ 262144
-unfolding elementsAt
-few k f at h = omega (arith, few-of k (beforeNext (entriesAt f at)), weight-next (entriesAt f at), weight-at f at h)
+count-groups : (ks : List ℕ) (es : List Entry) → elementCount (groupsOf ks es) ≤ weight es
+unfolding elementCount groupsOf
+count-groups [] es = omega arith
+count-groups (k ∷ ks) es = omega (arith, count-run k es, count-groups ks (behind k es))
+
+count-take : (n : ℕ) (gs : List (List Element)) → elementCount (take n gs) ≤ elementCount gs
+unfolding elementCount
+count-take zero gs = omega arith
+count-take (suc n) [] = omega arith
+count-take (suc n) (g ∷ gs) = omega (arith, count-take n gs)
+
+pub few : (ks f : List ℕ) (at : ℕ) → length f ≤ 65536 → total (groupsOf ks (entriesAt f at)) ≤ 262144
+unfolding total
+few ks f at h = omega (arith, count-take 4 (groupsOf ks (entriesAt f at)), count-groups ks (entriesAt f at), weight-at f at h)
+
+-- ---- how long they are
 
 module _ (w : Widths) (narrow : Narrow w) where
   length-lengthBytes : (k : ℕ) (v : List ℕ) → length (lengthBytes k v) ≤ 2
@@ -65,37 +79,30 @@ module _ (w : Widths) (narrow : Narrow w) where
   unfolding elementBytes entryElement
   length-element k e = simp (length-append, length-digits) (omega (arith, narrow .id, length-lengthBytes k (drop 2 (e .body)), length-drop 2 (e .body)))
 
-  length-kind : (k : ℕ) (es : List Entry) → length (joined (elementBytes w k) (ofKind k es)) ≤ weight es
-  unfolding ofKind
-  length-kind k [] = omega arith
-  length-kind k (e ∷ es) =
-      let rest = length-kind k es in
-      pick-either (λ l. length (joined (elementBytes w k) l) ≤ weight (e ∷ es)) (eqb (e .kind) k) (entryElement e ∷ ofKind k es) (ofKind k es)
-      (omega (arith, length-append (elementBytes w k (entryElement e)) (joined (elementBytes w k) (ofKind k es)), length-element k e)) (omega arith)
+  length-run : (k : ℕ) (es : List Entry) → length (joined (elementBytes w k) (run k es)) + weight (behind k es) ≤ weight es
+  unfolding run behind
+  length-run k [] = omega arith
+  length-run k (e ∷ es) = go (length-run k es) (eqb (e .kind) k)
+    where
+      go : length (joined (elementBytes w k) (run k es)) + weight (behind k es) ≤ weight es → (b : Bool)
+          → length (joined (elementBytes w k) (pick b (entryElement e ∷ run k es) [])) + weight (pick b (behind k es) (e ∷ es)) ≤ weight (e ∷ es)
+      go h true = omega (arith, length-append (elementBytes w k (entryElement e)) (joined (elementBytes w k) (run k es)), length-element k e)
+      go h false = omega arith
 
-  length-groups : (ks : List ℕ) (es : List Entry) → weight es ≤ 262144 → length (groupsBytes w ks (groupsOf ks es)) ≤ length ks * 262146
+  length-groups : (ks : List ℕ) (es : List Entry) → length (groupsBytes w ks (groupsOf ks es)) ≤ 2 * length ks + weight es
   unfolding groupsBytes groupsOf groupBytes
-  length-groups [] es h = omega arith
-  length-groups (k ∷ ks) es h =
-      simp (length-append, length-digits) (omega (arith, narrow .count, length-kind k es, length-groups ks es h))
+  length-groups [] es = omega arith
+  length-groups (k ∷ ks) es = simp (length-append, length-digits) (omega (arith, narrow .count, length-run k es, length-groups ks (behind k es)))
 
-  length-kinds : length (kinds w) ≤ 5
-  unfolding kinds
-  length-kinds = pick-either (λ (l : List ℕ). length (1 ∷ 2 ∷ 4 ∷ 8 ∷ l) ≤ 5) (w .variable) (9 ∷ []) [] (omega arith) (omega arith)
-
-  length-record : (b : List ℕ) (es : List Entry) → weight es ≤ 262144 → length (recordBytes w (record { fixed = fixedOf b; groups = groupsOf (kinds w) es })) ≤ 1400000
-  length-record b es h =
-      omega (arith, narrow .event, narrow .generation, narrow .count, length-recordBytes w (record { fixed = fixedOf b; groups = groupsOf (kinds w) es }), length-groups (kinds w) es h, length-kinds)
-
-  length-records : (es : List Entry) → weight es ≤ 262144 → length (joined (recordBytes w) (recordsOf (kinds w) es)) ≤ 1400000 * length es
+  length-records : (es : List Entry) → weight es ≤ 262144 → length (joined (recordBytes w) (recordsOf (kinds w) es)) ≤ 300000 * length es
   unfolding recordsOf
   length-records [] h = omega arith
   length-records (e ∷ es) h =
-      let r : AvlRecord = record { fixed = fixedOf (e .body); groups = groupsOf (kinds w) (beforeNext es) } in
+      let r : AvlRecord = record { fixed = fixedOf (e .body); groups = groupsOf (kinds w) es } in
       let rs = recordsOf (kinds w) es in
       let rest = length-records es (omega (arith, h)) in
-      pick-either (λ l. length (joined (recordBytes w) l) ≤ 1400000 * length (e ∷ es)) (eqb (e .kind) 101) (r ∷ rs) rs
-      (omega (arith, length-append (recordBytes w r) (joined (recordBytes w) rs), length-record (e .body) (beforeNext es) (omega (arith, h, weight-next es)))) (omega arith)
+      pick-either (λ l. length (joined (recordBytes w) l) ≤ 300000 * length (e ∷ es)) (eqb (e .kind) 101) (r ∷ rs) rs
+      (omega (arith, h, length-append (recordBytes w r) (joined (recordBytes w) rs), narrow .event, narrow .generation, narrow .count, length-recordBytes w r, length-groups (kinds w) es, kinds-few w)) (omega arith)
 
   pub records-room : (f : List ℕ) (at : ℕ) → length f ≤ 65536 → length (joined (recordBytes w) (recordsOf (kinds w) (entriesAt f at))) ≤ 2 ^ 39
   records-room f at h = let es = entriesAt f at in omega (arith, length-records es (weight-at f at h), length-weight es, weight-at f at h)

@@ -1,79 +1,60 @@
--- The packet of a form is found by writing one and comparing its form.
-use Prim.Native.Nat.{ℕ, suc, _+_, _-_, _≤_, _<_}
+-- The packet of a form is found by writing its data field and comparing that field's form.
+use Prim.Native.Nat.{ℕ, _+_, _-_, _*_, _≤_, _<_}
+use native.Mathlib.Numerals.{add-one}
 use native.Mathlib.Omega.{arith}
-use mathlib.Core.Path.{_≡_, refl, sym, ap, ap₂, _∙_}
+use mathlib.Core.Path.{_≡_, refl, sym, ap, ap₂, _∙_, subst}
 use mathlib.Core.Bool.{Bool, true, false}
-use mathlib.Core.List.{List, [], _∷_, _++_, append-nil}
-use lib.ListN.{length, take, drop, getD, length-append, length-drop, drop-of-length-le}
-use lib.Seq.{sets, length-sets, length-take-le, take-all, take-at, drop-at, drop-cons}
+use mathlib.Core.List.{List, [], _∷_, _++_}
+use lib.ListN.{length, take, drop, getD, drop-of-length-le}
+use lib.Seq.{sets, length-sets, take-at, drop-cons}
 use lib.Dec.{leb, eqb, lit<}
-use borrow.Rule.Slice.PartMut.{putMid}
-use borrow.Author.Tests.{le-leb, lt-leb, leb-true}
+use borrow.Author.Tests.{leb-true, eq-eqb, ne-eqb}
 use Rattle.wire.specs.Numbers.{Bytes, pick}
+use Rattle.wire.specs.Sequences.{joined}
 use Rattle.wire.specs.Answers.{Answer, accepted, refused, onAccepted}
 use Rattle.wire.specs.Buffers.{writing, leaving, writtenAs}
+use Rattle.wire.specs.declared.Refusal.{Refusal}
 use Rattle.wire.specs.declared.Written.{Written}
 use Rattle.wire.proofs.BufferLaws.{sets-front, writing-done, writing-short, leaving-done, leaving-short}
+use Rattle.wire.proofs.Storing.{drop-sets, drop-at-sets}
+use Rattle.wire.proofs.Enclosed.{length-enclosed}
 use Rattle.wire.proofs.Accepting.{pick-true, pick-false, pick-either, check-accepted, check-passed, onAccepted-accepted, onAccepted-passed}
-use Rattle.avl.specs.DataField.{AvlData, dataBytes}
-use Rattle.frame.specs.Frame.{framed}
-use Rattle.frame.proofs.FrameLaws.{length-framed}
+use Rattle.avl.specs.Codecs.{widthsOf}
+use Rattle.avl.specs.Records.{recordBytes}
+use Rattle.avl.specs.DataField.{AvlData, dataBytes, readData}
+use Rattle.avl.proofs.DataLaws.{data-complete}
+use Rattle.frame.specs.Frame.{framed, unframe}
+use Rattle.frame.proofs.FrameLaws.{length-framed, frame-complete}
 use Rattle.packet.specs.DataPackets.{packetBytes, readPacket}
-use Rattle.packet.proofs.PacketLaws.{packet-exact, packet-complete}
+use Rattle.packet.proofs.PacketLaws.{packet-exact}
 use Rattle.tlv.specs.Form.{form}
 use Rattle.tlv.specs.Decoding.{decoded}
-use Rattle.tlv.specs.PacketOf.{same, or17, formOfPacket, readForm, packetOfForm}
-use Rattle.tlv.proofs.DecodedBytes.{bytes-decoded}
+use Rattle.tlv.specs.PacketOf.{same, or17, readForm, packetOfForm}
+use Rattle.tlv.proofs.DecodedBytes.{bytes-field, bytes-decoded}
 use Rattle.tlv.proofs.FormLaws.{form-decoded}
 use Rattle.tlv.proofs.PacketOfLaws.{form-exact, form-refusal}
-use Rattle.form.proofs.WholeLaws.{packet-long}
+use Rattle.form.specs.Moves.{formOfField}
+use Rattle.form.proofs.WholeLaws.{Answers, refused-whole}
 use Rattle.form.proofs.FormSize.{form-size}
-use Rattle.rebuild.specs.Candidates.{fitting, hasForm}
+use Rattle.rebuild.specs.Candidates.{hasForm}
 
 -- ---- the candidate
 
-fitting-short : (p : List ℕ) → length p ≤ 1280 → fitting p ≡ p
-unfolding fitting
-fitting-short p h = pick-true _ p [] (le-leb (length p) 1280 h)
+pub data-long : (a : AvlData) → 3 ≤ length (dataBytes a)
+unfolding dataBytes
+data-long a = omega (arith, length-enclosed (a .codec) (length (a .records)) (joined (recordBytes (widthsOf (a .codec))) (a .records)))
 
-fitting-long : (p : List ℕ) → 1280 < length p → fitting p ≡ []
-unfolding fitting
-fitting-long p h = pick-false _ p [] (lt-leb (length p) 1280 h)
+-- a packet is judged by its data field
+packet-read : (a : AvlData) → Bytes (dataBytes a) → length (dataBytes a) ≤ 1268 → readPacket 1280 255 (packetBytes a) ≡ readData 255 (dataBytes a)
+unfolding readPacket packetBytes
+packet-read a b h =
+    onAccepted-passed (unframe 1280 (framed (dataBytes a))) (readData 255)
+    (frame-complete 1280 (dataBytes a) (record { bytes = b; least = data-long a; most = omega arith; counted = omega arith }))
 
-fitting-some : (p : List ℕ) → 1 ≤ length (fitting p) → fitting p ≡ p
-unfolding fitting
-fitting-some p = pick-either (λ l. 1 ≤ length l → l ≡ p) (leb (length p) 1280) p [] (λ h. refl) (λ h. absurd (omega arith))
-
-bytes-fitting : (p : List ℕ) → Bytes p → Bytes (fitting p)
-unfolding fitting
-bytes-fitting p h = pick-either Bytes (leb (length p) 1280) p [] h tt
-
-module _ (a : AvlData) (n : ℕ) (size : n ≡ length (dataBytes a)) where
-  pub candidate-long : (l : List ℕ) → 1268 < n → take 0 l ≡ fitting (packetBytes a)
-  unfolding packetBytes
-  candidate-long l h = sym (fitting-long (framed (dataBytes a)) (omega (arith, size, length-framed (dataBytes a))))
-
-  -- the field stands behind the first eight bytes, then the frame around it
-  pub candidate-framed : (l last : List ℕ) → length l ≡ 1280 → n ≤ 1268 → last ≡ sets (take (length l - 8) (drop 8 l)) 0 (dataBytes a)
-      → let m = putMid 8 (length l - 8) l last in
-      take (n + 12) (sets m 0 (framed (take n (drop 8 m)))) ≡ fitting (packetBytes a)
-  unfolding packetBytes
-  candidate-framed l last h k stored =
-      let m = putMid 8 (length l - 8) l last in
-      let mid : m ≡ take 8 l ++ last = ap (λ (x : List ℕ). take 8 l ++ (last ++ x)) (drop-of-length-le (drop 8 l) {i = length l - 8} (omega (arith, length-drop 8 l))) ∙ ap (λ (x : List ℕ). take 8 l ++ x) (append-nil last) in
-      let rest : take (length l - 8) (drop 8 l) ≡ drop 8 l = take-all (length l - 8) (drop 8 l) (omega (arith, length-drop 8 l)) in
-      let e : m ≡ take 8 l ++ sets (drop 8 l) 0 (dataBytes a) = mid ∙ ap (λ (x : List ℕ). take 8 l ++ x) (stored ∙ ap (λ (x : List ℕ). sets x 0 (dataBytes a)) rest) in
-      let d = dataBytes a in
-      let room : length d ≤ length (drop 8 l) = omega (arith, size, length-drop 8 l) in
-      let head = length-take-le 8 l (omega arith) in
-      let behind : drop 8 m ≡ d ++ drop (length d) (drop 8 l) = ap (drop 8) e ∙ drop-at (take 8 l) (sets (drop 8 l) 0 d) 8 head ∙ sets-front d (drop 8 l) room in
-      let field : take n (drop 8 m) ≡ d = ap (take n) behind ∙ take-at d (drop (length d) (drop 8 l)) n (sym size) in
-      let long : length m ≡ 1280 = omega (arith, ap length e, length-append (take 8 l) (sets (drop 8 l) 0 d), head, length-sets (drop 8 l) 0 d, length-drop 8 l) in
-      let whole = length-framed d in
-      ap (λ (x : List ℕ). take (n + 12) (sets m 0 (framed x))) field
-      ∙ ap (take (n + 12)) (sets-front (framed d) m (omega arith))
-      ∙ take-at (framed d) (drop (length (framed d)) m) (n + 12) (omega arith)
-      ∙ sym (fitting-short (framed d) (omega arith))
+-- the data field at the start of an array
+pub field-front : (z field : List ℕ) {d : List ℕ} (n : ℕ) → d ≡ sets z 0 field → n ≡ length field → n ≤ length z → take (n - 0) (drop 0 d) ≡ field
+field-front z field n e size h =
+    ap (take (n - 0)) (e ∙ sets-front field z (omega arith)) ∙ take-at field (drop (length field) z) (n - 0) (omega arith)
 
 -- ---- the comparison
 
@@ -89,61 +70,60 @@ none (accepted a) only h = absurd (h a refl)
 none (refused n i) only h = ap₂ refused (only n i refl .0) (only n i refl .1)
 
 module _ (f : List ℕ) (b : Bytes f) where
-  abbrev packet : List ℕ
-  packet = packetBytes (decoded f)
+  abbrev field : List ℕ
+  field = dataBytes (decoded f)
 
-  reads : (a : AvlData) → readForm 1280 255 f ≡ accepted a → (readPacket 1280 255 packet ≡ accepted a) × (f ≡ form a) × (length packet ≤ 1280)
-  unfolding packetBytes
+  -- what an accepted form stands for
+  reads : (a : AvlData) → readForm 1280 255 f ≡ accepted a → (readData 255 field ≡ accepted a) × (f ≡ form a) × (length field ≤ 1268)
   reads a e =
       let k = form-exact 1280 255 f a b (lit< tt) .0 e in
       let again : decoded f ≡ a = ap decoded (k .form) ∙ form-decoded 255 a (lit< tt) (k .packet .rules) in
-      let is = ap packetBytes again in (
-        ap (readPacket 1280 255) is ∙ packet-complete 1280 255 (packetBytes a) a (k .packet),
-        k .form,
-        omega (arith, ap length is, length-framed (dataBytes a), k .packet .frame .most),
-      )
+      let is = ap dataBytes again in (ap (readData 255) is ∙ data-complete 255 a (k .packet .rules), k .form, omega (arith, ap length is, k .packet .frame .most))
 
-  pub long-refused : 12288 < length f → packetOfForm 1280 255 f ≡ refused 17 0
+  refused-form : ((a : AvlData) → readForm 1280 255 f ≡ accepted a → ⊥) → packetOfForm 1280 255 f ≡ refused 17 0
   unfolding packetOfForm
-  long-refused h =
-      none (readForm 1280 255 f) (form-refusal 1280 255 f) (λ a e.
-      let k = reads a e in
-      omega (arith, form-size packet (k .0) (bytes-decoded f b), ap length (k .1)))
+  refused-form h = none (readForm 1280 255 f) (form-refusal 1280 255 f) h
 
-  pub other-refused : hasForm (formOfPacket 1280 255 (fitting packet)) f ≡ false → packetOfForm 1280 255 f ≡ refused 17 0
-  unfolding packetOfForm formOfPacket hasForm readForm
-  other-refused h =
-      none (readForm 1280 255 f) (form-refusal 1280 255 f) (λ a e.
+  pub long-refused : 5120 < length f → packetOfForm 1280 255 f ≡ refused 17 0
+  long-refused h =
+      refused-form (λ a e.
       let k = reads a e in
-      let i = onAccepted-accepted (or17 (readPacket 1280 255 packet)) _ e in
+      omega (arith, h, form-size 255 field a (bytes-field f b) (data-long (decoded f)) (k .0), ap length (k .1), k .2))
+
+  pub over-refused : 1268 < length field → packetOfForm 1280 255 f ≡ refused 17 0
+  over-refused h = refused-form (λ a e. omega (arith, h, reads a e .2))
+
+  pub other-refused : hasForm (formOfField 255 field) f ≡ false → packetOfForm 1280 255 f ≡ refused 17 0
+  unfolding formOfField hasForm readForm
+  other-refused h =
+      refused-form (λ a e.
+      let k = reads a e in
+      let i = onAccepted-accepted (or17 (readPacket 1280 255 (packetBytes (decoded f)))) _ e in
       let c = check-accepted (same (form (i .0)) f) 17 (accepted (i .0)) (i .2) in
       let is : i .0 ≡ a = cc in
       let equal : same (form a) f ≡ true = ap (λ (x : AvlData). same (form x) f) (sym is) ∙ c .0 in
-      let formed = ap (formOfPacket 1280 255) (fitting-short packet (k .2)) ∙ onAccepted-passed (readPacket 1280 255 packet) _ (k .0) in
-      let yes : true ≡ false = sym (ap (λ r. hasForm r f) formed ∙ equal) ∙ h in
+      let yes : true ≡ false = sym (ap (λ r. hasForm r f) (onAccepted-passed (readData 255 field) _ (k .0)) ∙ equal) ∙ h in
       let z : _≡_ {A = ℕ} 0 1 = cc in
       omega arith)
 
-  pub found : hasForm (formOfPacket 1280 255 (fitting packet)) f ≡ true → packetOfForm 1280 255 f ≡ accepted (fitting packet)
-  unfolding packetOfForm formOfPacket readForm or17
-  found h =
-      let g = hasForm-true (formOfPacket 1280 255 (fitting packet)) f h in
-      let i = onAccepted-accepted (readPacket 1280 255 (fitting packet)) _ (g .1) in
+  pub found : length field ≤ 1268 → hasForm (formOfField 255 field) f ≡ true → packetOfForm 1280 255 f ≡ accepted (framed field)
+  unfolding packetOfForm packetBytes formOfField readForm or17
+  found short h =
+      let g = hasForm-true (formOfField 255 field) f h in
+      let i = onAccepted-accepted (readData 255 field) _ (g .1) in
       let a = i .0 in
-      let bytes = bytes-decoded f b in
-      let long = packet-long (fitting packet) (i .1) (bytes-fitting packet bytes) in
-      let whole = fitting-some packet (omega arith) in
-      let accepts : readPacket 1280 255 packet ≡ accepted a = ap (readPacket 1280 255) (sym whole) ∙ i .1 in
+      let packet = packetBytes (decoded f) in
+      let accepts : readPacket 1280 255 packet ≡ accepted a = packet-read (decoded f) (bytes-field f b) short ∙ i .1 in
       let formed : form a ≡ g .0 = cc in
       let equal = ap (λ (x : List ℕ). same x f) formed ∙ g .2 in
       onAccepted-passed (readForm 1280 255 f) _
       (onAccepted-passed (or17 (readPacket 1280 255 packet)) _ (ap or17 accepts) ∙ check-passed (same (form a) f) 17 (accepted a) equal)
-      ∙ ap accepted (sym (whole ∙ packet-exact 1280 255 packet a bytes .0 accepts .whole))
+      ∙ ap accepted (sym (packet-exact 1280 255 packet a (bytes-decoded f b) .0 accepts .whole))
+
+pub seen : (f : List ℕ) {x field : List ℕ} {r t : Bool} → r ≡ hasForm (formOfField 255 x) f → x ≡ field → r ≡ t → hasForm (formOfField 255 field) f ≡ t
+seen f e is k = sym (ap (λ (y : List ℕ). hasForm (formOfField 255 y) f) is) ∙ sym e ∙ k
 
 -- ---- bytes compared one by one
-
-pub same-ends : (p q : List ℕ) (i : ℕ) → i < length p → length p ≡ length q → same (drop i p) (drop i q) ≡ pick (eqb (getD p i 0) (getD q i 0)) (same (drop (suc i) p) (drop (suc i) q)) false
-same-ends p q i h e = ap₂ same (drop-cons p i 0 h) (drop-cons q i 0 (omega arith))
 
 pub same-length : (p q : List ℕ) → (length p ≡ length q → ⊥) → same p q ≡ false
 same-length [] [] h = absurd (h refl)
@@ -151,19 +131,46 @@ same-length [] (b ∷ q) h = refl
 same-length (a ∷ p) [] h = refl
 same-length (a ∷ p) (b ∷ q) h = pick-either (λ (x : Bool). x ≡ false) (eqb a b) (same p q) false (same-length p q (λ e. h (omega (arith, e)))) refl
 
-pub same-done : (p q : List ℕ) (i : ℕ) → length p ≡ length q → length p ≤ i → same (drop i p) (drop i q) ≡ true
-same-done p q i e h = ap₂ same (drop-of-length-le p h) (drop-of-length-le q {i = i} (omega arith))
+-- the bytes before number `i` are alike or not, and what follows decides only if they are
+module _ (p q : List ℕ) (long : length p ≡ length q) (alike : Bool) (i : ℕ) where
+  abbrev pub Compared : Type 0
+  Compared = pick alike (same (drop i p) (drop i q)) false ≡ same p q
+
+  module _ (c : Compared) where
+    same-ends : i < length p → same (drop i p) (drop i q) ≡ pick (eqb (getD p i 0) (getD q i 0)) (same (drop (i + 1) p) (drop (i + 1) q)) false
+    same-ends h = rw add-one (ap₂ same (drop-cons p i 0 h) (drop-cons q i 0 (omega arith)))
+
+    pub same-on : i < length p → getD p i 0 ≡ getD q i 0 → pick alike (same (drop (i + 1) p) (drop (i + 1) q)) false ≡ same p q
+    same-on h e = sym (ap (λ (x : Bool). pick alike x false) (same-ends h ∙ pick-true _ _ _ (eq-eqb _ _ e))) ∙ c
+
+    pub same-off : i < length p → (getD p i 0 ≡ getD q i 0 → ⊥) → false ≡ same p q
+    same-off h n =
+        sym (pick-either (λ (x : Bool). x ≡ false) alike false false refl refl) ∙ sym (ap (λ (x : Bool). pick alike x false) (same-ends h ∙ pick-false _ _ _ (ne-eqb _ _ n))) ∙ c
+
+    pub same-done : length p ≤ i → alike ≡ same p q
+    same-done h =
+        let ends : same (drop i p) (drop i q) ≡ true = ap₂ same (drop-of-length-le p h) (drop-of-length-le q {i = i} (omega arith)) in
+        whole alike ∙ sym (ap (λ (x : Bool). pick alike x false) ends) ∙ c
+      where
+        whole : (b : Bool) → b ≡ pick b true false
+        whole true = refl
+        whole false = refl
 
 -- ---- what a writer's answer tells
 
-pub form-refused : (result : Answer (List ℕ)) (before f : List ℕ) {n i : ℕ} → length f ≤ length before → refused n i ≡ writing result before → false ≡ hasForm result f
-unfolding hasForm
-form-refused (accepted g) before f h e =
-    sym (same-length g f (λ k.
-    let done = e ∙ writing-done g before (omega arith) in
-    let z : _≡_ {A = ℕ} 0 1 = cc in
-    omega arith))
-form-refused (refused m j) before f h e = refl
+-- an array of four times the field's length is never too short
+pub form-refused : (d g f : List ℕ) {n i : ℕ} → Bytes d → 3 ≤ length d → 4 * length d ≤ length g → refused n i ≡ writing (formOfField 255 d) g → false ≡ hasForm (formOfField 255 d) f
+unfolding formOfField hasForm
+form-refused d g f {n} {i} b l room e = go (formOfField 255 d) refl
+  where
+    go : (r : Answer (List ℕ)) → formOfField 255 d ≡ r → false ≡ hasForm (formOfField 255 d) f
+    go (accepted x) is =
+        let k = onAccepted-accepted (readData 255 d) _ is in
+        let whole : form (k .0) ≡ x = cc in
+        let fits : length x ≤ length g = omega (arith, room, form-size 255 d (k .0) b l (k .1), ap length whole) in
+        let done = e ∙ ap (λ r. writing r g) is ∙ writing-done x g fits in
+        absurd (let z : _≡_ {A = ℕ} 0 1 = cc in omega arith)
+    go (refused m j) is = sym (ap (λ r. hasForm r f) is)
 
 pub form-fits : (result : Answer (List ℕ)) (before : List ℕ) {n : ℕ} → accepted n ≡ writing result before → (g : List ℕ) × (result ≡ accepted g) × (length g ≡ n) × (n ≤ length before)
 unfolding writing onAccepted
@@ -182,32 +189,36 @@ form-written result before after f {n} e k =
     let left = k ∙ ap (λ r. leaving r before) (g .1) ∙ leaving-done (g .0) before (omega (arith, g .2, g .3)) in
     ap (λ (x : List ℕ). same (take (n - 0) x) f) left ∙ ap (λ (x : List ℕ). same x f) (take-at (g .0) _ (n - 0) (omega (arith, g .2))) ∙ sym (ap (λ r. hasForm r f) (g .1))
 
--- what a writer of `result` answers and leaves
-abbrev pub Answers : Answer (List ℕ) → List ℕ → List ℕ → Written → Type 0
-Answers result before after r = (writtenAs r ≡ writing result before) × (after ≡ leaving result before)
+-- ---- the answer
 
 pub answers-refused : {result : Answer (List ℕ)} {out : List ℕ} {r : Written} → result ≡ refused 17 0 → r ≡ Written.Refused (record { number = 17; index = 0 }) → Answers result out out r
-unfolding writtenAs writing leaving onAccepted
-answers-refused {out = out} e k = (ap writtenAs k ∙ ap (λ y. writing y out) (sym e), ap (λ y. leaving y out) (sym e))
+answers-refused {result} {out} e k = subst (λ (x : Written). Answers result out out x) (sym k) (refused-whole e)
 
-module _ (result : Answer (List ℕ)) (d p out : List ℕ) (n : ℕ) (e : result ≡ accepted p) (front : take n d ≡ p) (inside : n ≤ length d) where
-  size : length p ≡ n
-  size = ap length (sym front) ∙ length-take-le n d inside
-
-  pub answers-short : {r : Written} → length out < n → r ≡ Written.Refused (record { number = 18; index = 0 }) → Answers result out out r
+module _ (result : Answer (List ℕ)) (field out : List ℕ) (n : ℕ) (e : result ≡ accepted (framed field)) (size : n ≡ length field) where
+  pub answers-short : {r : Written} → length out < n + 12 → r ≡ Written.Refused (record { number = 18; index = 0 }) → Answers result out out r
   unfolding writtenAs
-  answers-short h k = (ap writtenAs k ∙ sym (ap (λ y. writing y out) e ∙ writing-short p out (omega (arith, size))), sym (ap (λ y. leaving y out) e ∙ leaving-short p out (omega (arith, size))))
-
-  pub answers-done : {after : List ℕ} → n ≤ length out → after ≡ sets out 0 (take (n - 0) (drop 0 d)) → Answers result out after (Written.Bytes n)
-  unfolding writtenAs
-  answers-done h k =
-      let fits : length p ≤ length out = omega (arith, size) in
-      let same : n - 0 ≡ n = omega arith in (
-        ap accepted (sym size) ∙ sym (ap (λ y. writing y out) e ∙ writing-done p out fits),
-        k ∙ ap (λ (x : List ℕ). sets out 0 x) (ap (λ (x : ℕ). take x d) same ∙ front) ∙ sets-front p out fits ∙ sym (ap (λ y. leaving y out) e ∙ leaving-done p out fits),
+  answers-short h k =
+      let long : length out < length (framed field) = omega (arith, size, length-framed field) in (
+        ap writtenAs k ∙ sym (ap (λ y. writing y out) e ∙ writing-short (framed field) out long),
+        sym (ap (λ y. leaving y out) e ∙ leaving-short (framed field) out long),
       )
 
-pub seen : (d f : List ℕ) (n : ℕ) {p : List ℕ} {r t : Bool} → r ≡ hasForm (formOfPacket 1280 255 (take (n - 0) (drop 0 d))) f → take n d ≡ p → r ≡ t → hasForm (formOfPacket 1280 255 p) f ≡ t
-seen d f n e front k =
-    let same : n - 0 ≡ n = omega arith in
-    sym (ap (λ (x : List ℕ). hasForm (formOfPacket 1280 255 x) f) (ap (λ (x : ℕ). take x d) same ∙ front)) ∙ sym e ∙ k
+  -- the field behind the first eight bytes, then the frame around it
+  pub answers-done : {mid after : List ℕ} → n + 12 ≤ length out → mid ≡ sets out 8 field → after ≡ sets mid 0 (framed (take n (drop 8 mid))) → Answers result out after (Written.Bytes (n + 12))
+  unfolding writtenAs
+  answers-done {mid} h m k =
+      let p = framed field in
+      let whole = length-framed field in
+      let fits : length p ≤ length out = omega arith in
+      let room : 8 + length field ≤ length out = omega arith in
+      let behind : drop 8 mid ≡ field ++ drop (8 + length field) out = ap (drop 8) m ∙ drop-at-sets out 8 field room in
+      let content : take n (drop 8 mid) ≡ field = ap (take n) behind ∙ take-at field (drop (8 + length field) out) n (sym size) in
+      let long : length mid ≡ length out = ap length m ∙ length-sets out 8 field in
+      let rest : drop (length p) mid ≡ drop (length p) out = ap (drop (length p)) m ∙ drop-sets out 8 field (length p) (omega arith) in (
+        ap accepted (omega arith) ∙ sym (ap (λ y. writing y out) e ∙ writing-done p out fits),
+        k
+            ∙ ap (λ (x : List ℕ). sets mid 0 (framed x)) content
+            ∙ sets-front p mid (omega arith)
+            ∙ ap (λ (x : List ℕ). p ++ x) rest
+            ∙ sym (ap (λ y. leaving y out) e ∙ leaving-done p out fits),
+      )

@@ -1,5 +1,6 @@
-pub mod OffsetLaws
 pub mod StoredLaws
+pub mod OffsetLaws
 pub mod LayoutLaws
 pub mod Bounds
+pub mod RunLaws
 pub mod CandidateLaws

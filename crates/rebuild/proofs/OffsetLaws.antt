@@ -2,20 +2,21 @@
 use Prim.Native.Nat.{ℕ, zero, suc, _+_, _-_, _*_, _≤_, _<_, _^_, min}
 use native.Mathlib.Nat.{pow-suc, lt-of-lt-of-le, pow-le-pow-right, add-zero, not-suc-le-zero, le-refl, zero-min, min-zero, suc-min-suc, suc-sub-suc, zero-add, sub-zero, suc-add}
 use native.Mathlib.Omega.{arith}
-use mathlib.Core.Path.{_≡_, refl, ap, ap₂, _∙_}
+use mathlib.Core.Path.{_≡_, refl, sym, ap, ap₂, _∙_}
 use mathlib.Core.Bool.{Bool, true, false}
 use mathlib.Core.List.{List, [], _∷_}
 use lib.ListN.{length, take, drop, getD, length-drop, drop-of-length-le}
 use lib.Dec.{eqb, lit<}
 use lib.Seq.{getD-drop, drop-drop, take-all, take-nil}
-use borrow.Author.Tests.{eq-eqb, ne-eqb}
+use borrow.Author.Tests.{eq-eqb, ne-eqb, eqb-true}
 use Rattle.wire.specs.Numbers.{Bytes, littleAt, pick}
+use Rattle.wire.specs.Sequences.{All}
 use Rattle.wire.proofs.Widths.{bytes-getD}
+use Rattle.wire.proofs.Accepting.{pick-false}
 use Rattle.avl.specs.Codecs.{widthsOf, kinds}
-use Rattle.avl.specs.Records.{AvlRecord}
 use Rattle.tlv.specs.Entries.{Entry, entriesFrom, entriesOf}
-use Rattle.tlv.specs.Decoding.{entryElement, ofKind, beforeNext, recordsOf, dataOf, decoded}
-use Rattle.rebuild.specs.FormPlaces.{kindAt, bodyAt, nextAt, entryAt, entriesAt, elementsAt, groupAt, recordAt}
+use Rattle.tlv.specs.Decoding.{entryElement, run, behind, recordsOf, dataOf, decoded}
+use Rattle.rebuild.specs.FormPlaces.{kindAt, bodyAt, nextAt, entryAt, entriesAt, behindAll, recordAt}
 
 -- ---- little-endian numbers
 
@@ -82,24 +83,28 @@ pub entries-end : (f : List ℕ) (at : ℕ) → length f ≤ at → entriesAt f 
 unfolding entriesAt entriesOf entriesFrom
 entries-end f at h = ap entriesOf (drop-of-length-le f {i = at} h)
 
--- ---- the elements of a kind, from an offset on
+-- ---- a run of a kind, from an offset on
 
 module _ (k : ℕ) (f : List ℕ) (at : ℕ) where
-  pub group-end : length f ≤ at → groupAt k f at ≡ []
-  unfolding elementsAt beforeNext ofKind
-  group-end h = simp (entries-end f at h)
+  -- there is none here
+  abbrev pub NoRun : Type 0
+  NoRun = (run k (entriesAt f at) ≡ []) × (behind k (entriesAt f at) ≡ entriesAt f at)
 
-  pub group-stop : at < length f → kindAt f at ≡ 101 → groupAt k f at ≡ []
-  unfolding elementsAt beforeNext ofKind
-  group-stop h e = simp (entries-on f at h, eq-eqb _ _ e)
+  pub run-end : length f ≤ at → NoRun
+  unfolding run behind
+  run-end h = (simp (entries-end f at h), simp (entries-end f at h))
 
-  pub group-own : at < length f → (kindAt f at ≡ 101 → ⊥) → kindAt f at ≡ k → groupAt k f at ≡ entryElement (entryAt f at) ∷ groupAt k f (nextAt f at)
-  unfolding elementsAt beforeNext ofKind
-  group-own h n e = simp (entries-on f at h, ne-eqb _ _ n, eq-eqb _ _ e)
+  pub run-stop : at < length f → (kindAt f at ≡ k → ⊥) → NoRun
+  unfolding run behind
+  run-stop h n = (simp (entries-on f at h, ne-eqb _ _ n), simp (entries-on f at h, ne-eqb _ _ n))
 
-  pub group-other : at < length f → (kindAt f at ≡ 101 → ⊥) → (kindAt f at ≡ k → ⊥) → groupAt k f at ≡ groupAt k f (nextAt f at)
-  unfolding elementsAt beforeNext ofKind
-  group-other h n e = simp (entries-on f at h, ne-eqb _ _ n, ne-eqb _ _ e)
+  pub run-on : at < length f → kindAt f at ≡ k → run k (entriesAt f at) ≡ entryElement (entryAt f at) ∷ run k (entriesAt f (nextAt f at))
+  unfolding run
+  run-on h e = simp (entries-on f at h, eq-eqb _ _ e)
+
+  pub behind-on : at < length f → kindAt f at ≡ k → behind k (entriesAt f at) ≡ behind k (entriesAt f (nextAt f at))
+  unfolding behind
+  behind-on h e = simp (entries-on f at h, eq-eqb _ _ e)
 
 -- ---- the records from an offset on
 
@@ -109,27 +114,32 @@ module _ (ks f : List ℕ) (at : ℕ) where
   records-end h = simp (entries-end f at h)
 
   pub records-own : at < length f → kindAt f at ≡ 101 → recordsOf ks (entriesAt f at) ≡ recordAt ks f at ∷ recordsOf ks (entriesAt f (nextAt f at))
-  unfolding recordsOf elementsAt
+  unfolding recordsOf
   records-own h e = simp (entries-on f at h, eq-eqb _ _ e)
 
   pub records-other : at < length f → (kindAt f at ≡ 101 → ⊥) → recordsOf ks (entriesAt f at) ≡ recordsOf ks (entriesAt f (nextAt f at))
   unfolding recordsOf
   records-other h e = simp (entries-on f at h, ne-eqb _ _ e)
 
+-- a run of elements has no record in it
+records-behind : (ks : List ℕ) (k : ℕ) (es : List Entry) → (101 ≡ k → ⊥) → recordsOf ks (behind k es) ≡ recordsOf ks es
+unfolding recordsOf behind
+records-behind ks k [] n = refl
+records-behind ks k (e ∷ es) n = go (records-behind ks k es n) (eqb (e .kind) k) refl
+  where
+    go : recordsOf ks (behind k es) ≡ recordsOf ks es → (b : Bool) → eqb (e .kind) k ≡ b → recordsOf ks (pick b (behind k es) (e ∷ es)) ≡ recordsOf ks (e ∷ es)
+    go rest true h = rest ∙ sym (pick-false (eqb (e .kind) 101) _ _ (ne-eqb _ _ (λ i. n (sym i ∙ eqb-true _ _ h))))
+    go rest false h = refl
+
+pub records-behind-all : (ks js : List ℕ) (es : List Entry) → All (λ k. (101 ≡ k → ⊥)) js → recordsOf ks (behindAll js es) ≡ recordsOf ks es
+unfolding behindAll
+records-behind-all ks [] es h = refl
+records-behind-all ks (j ∷ js) es h = records-behind-all ks js (behind j es) (h .1) ∙ records-behind ks j es (h .0)
+
 pub decoded-at : (f : List ℕ) → decoded f ≡ record { codec = getD (bodyAt f 0) 0 0; records = recordsOf (kinds (widthsOf (getD (bodyAt f 0) 0 0))) (entriesAt f (nextAt f 0)) }
 unfolding decoded dataOf entriesAt entriesOf entriesFrom recordsOf
 decoded-at [] = simp (take-nil, entries-end [] (nextAt [] 0) (omega arith))
 decoded-at (b ∷ s) = ap dataOf (entries-on (b ∷ s) 0 (omega arith))
-
--- as many for any kinds
-pub records-alike : (ks js : List ℕ) (es : List Entry) → length (recordsOf ks es) ≡ length (recordsOf js es)
-unfolding recordsOf
-records-alike ks js [] = refl
-records-alike ks js (e ∷ es) = same-pick (eqb (e .kind) 101) _ _ _ _ (records-alike ks js es)
-  where
-    same-pick : (test : Bool) (r q : AvlRecord) (rs qs : List AvlRecord) → length rs ≡ length qs → length (pick test (r ∷ rs) rs) ≡ length (pick test (q ∷ qs) qs)
-    same-pick true r q rs qs h = ap suc h
-    same-pick false r q rs qs h = h
 
 -- ---- a part that is clipped to the list
 

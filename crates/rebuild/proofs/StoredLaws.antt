@@ -1,13 +1,13 @@
 -- Blocks stored one behind another are one block.
-use Prim.Native.Nat.{ℕ, _+_}
+use Prim.Native.Nat.{ℕ, suc, _+_, _<_}
 use native.Mathlib.Omega.{arith}
 use mathlib.Core.Path.{_≡_, refl, sym, ap, ap₂, _∙_, subst}
-use mathlib.Core.List.{List, [], _++_}
-use lib.ListN.{length, length-append}
-use lib.Seq.{sets, length-sets}
+use mathlib.Core.List.{List, [], _∷_, _++_, append-nil, append-assoc}
+use lib.ListN.{length, length-append, set}
+use lib.Seq.{sets, length-sets, set-comm}
 use Rattle.wire.specs.Numbers.{be}
 use Rattle.wire.proofs.Widths.{length-digits}
-use Rattle.wire.proofs.Storing.{sets-append}
+use Rattle.wire.proofs.Storing.{sets-append, sets-snoc}
 use Rattle.rebuild.specs.FormPlaces.{Stored}
 
 pub stored-then : {a b l m n : List ℕ} {to mid end : ℕ} → Stored a l m to mid → Stored b m n mid end → Stored (a ++ b) l n to end
@@ -18,6 +18,28 @@ stored-then {a} {b} {l} {m} {n} {to} {mid} {end} s t = record {
 
 pub stored-be : (w n to : ℕ) {l m : List ℕ} {next : ℕ} → next ≡ to + w → m ≡ sets l to (be w n) → Stored (be w n) l m to next
 stored-be w n to e s = record { place = omega (arith, e, length-digits 256 w n); buffer = s }
+
+-- ---- a block in front of one that stands already
+
+set-before : (l : List ℕ) (j x at : ℕ) (b : List ℕ) → j < at → set (sets l at b) j x ≡ sets (set l j x) at b
+set-before l j x at [] h = refl
+set-before l j x at (y ∷ b) h = set-before (set l at y) j x (suc at) b (omega arith) ∙ ap (λ (m : List ℕ). sets m (suc at) b) (set-comm l at j y x (λ e. omega arith))
+
+sets-before : (l : List ℕ) (to : ℕ) (a b : List ℕ) → sets (sets l (to + length a) b) to a ≡ sets l to (a ++ b)
+sets-before l to a [] = ap (sets l to) (sym (append-nil a))
+sets-before l to a (x ∷ b) =
+    let place : to + length (a ++ (x ∷ [])) ≡ suc (to + length a) = omega (arith, length-append a (x ∷ [])) in
+    ap (λ (m : List ℕ). sets m to a) (sym (set-before l (to + length a) x (suc (to + length a)) b (omega arith)))
+    ∙ sym (sets-snoc (sets l (suc (to + length a)) b) to a x)
+    ∙ ap (λ (k : ℕ). sets (sets l k b) to (a ++ (x ∷ []))) (sym place)
+    ∙ sets-before l to (a ++ (x ∷ [])) b
+    ∙ ap (sets l to) (append-assoc a (x ∷ []) b)
+
+pub stored-before : {a b l m n : List ℕ} {to mid end : ℕ} → Stored a m n to mid → Stored b l m mid end → Stored (a ++ b) l n to end
+stored-before {a} {b} {l} {m} {n} {to} {mid} {end} s t = record {
+  place = omega (arith, s .place, t .place, length-append a b);
+  buffer = s .buffer ∙ ap (λ (k : List ℕ). sets k to a) (t .buffer ∙ ap (λ (j : ℕ). sets l j b) (s .place)) ∙ sets-before l to a b;
+}
 
 pub stored-length : {a l m : List ℕ} {to next : ℕ} → Stored a l m to next → length m ≡ length l
 stored-length {a} {l} {m} {to} {next} s = ap length (s .buffer) ∙ length-sets l to a
@@ -46,6 +68,5 @@ left-more {a} {more} {whole} {start} {l} {m} {to} {next} {end} s t = record {
 pub left-done : {whole start l : List ℕ} {to next : ℕ} → Left [] whole start l to next → Stored whole start l to next
 left-done {whole} {start} {l} {to} {next} s = record { place = omega (arith, s .place); buffer = s .buffer }
 
--- a branch hands its buffer and its offset on
-pub left-met : {rest whole start l m : List ℕ} {to next end : ℕ} → m ≡ l → end ≡ next → Left rest whole start l to next → Left rest whole start m to end
-left-met {rest} {whole} {start} {l} {m} {to} {next} {end} e k s = subst (λ (x : List ℕ). Left rest whole start x to end) (sym e) (subst (λ (n : ℕ). Left rest whole start l to n) (sym k) s)
+pub left-length : {rest whole start l : List ℕ} {to next : ℕ} → Left rest whole start l to next → length l ≡ length start
+left-length {rest} {whole} {start} {l} {to} {next} s = sym (length-sets l next rest) ∙ ap length (s .buffer) ∙ length-sets start to whole

@@ -1,24 +1,31 @@
-// The data field that a TLV form stands for: entries are read leniently, bytes are stored as far as the buffer goes.
+// The TCP data packet of a TLV form: entries are read leniently, bytes are stored as far as the buffer goes, and what comes of it is judged.
 use avl::Widths;
 use wire::Refusal;
 use wire::Written;
 ghost use mathlib.Core.Path.{_≡_};
-ghost use Prim.Native.Nat.{_+_, _^_, _≤_, _<_, min};
-ghost use mathlib.Core.List.{[], _∷_};
-ghost use lib.ListN.{length, getD, set, take};
+ghost use Prim.Native.Nat.{_+_, _*_, _^_, _≤_, _<_, min};
+ghost use mathlib.Core.List.{[]};
+ghost use lib.ListN.{length, getD, set};
 ghost use lib.Seq.{sets};
 ghost use Rattle.wire.specs.Numbers.{be, littleAt};
 ghost use Rattle.wire.specs.Sequences.{joined};
+ghost use Rattle.wire.specs.Buffers.{writing, leaving, writtenAs};
 ghost use Rattle.avl.specs.Codecs.{kinds};
 ghost use Rattle.avl.specs.Records.{elementBytes, groupBytes, groupsBytes, fixedBytes, recordBytes, total};
 ghost use Rattle.avl.specs.DataField.{dataBytes};
 ghost use Rattle.walk.specs.Walks.{Narrow};
-ghost use Rattle.tlv.specs.Decoding.{entryElement, fixedOf, groupsOf, recordsOf, decoded};
-ghost use Rattle.wire.specs.Buffers.{writing, leaving, writtenAs};
-ghost use Rattle.packet.specs.DataPackets.{packetBytes};
-ghost use Rattle.tlv.specs.PacketOf.{same, formOfPacket, packetOfForm};
-ghost use Rattle.rebuild.specs.Candidates.{fitting, hasForm};
-ghost use Rattle.rebuild.specs.FormPlaces.{kindAt, nextAt, entryAt, entriesAt, elementsAt, groupAt, recordAt, Stored};
+ghost use Rattle.tlv.specs.Decoding.{entryElement, run, behind, fixedOf, groupsOf, recordsOf, decoded};
+ghost use Rattle.tlv.specs.PacketOf.{same, packetOfForm};
+ghost use Rattle.form.specs.Moves.{formOfField};
+ghost use Rattle.rebuild.specs.Candidates.{hasForm};
+ghost use Rattle.rebuild.specs.FormPlaces.{kindAt, nextAt, entryAt, entriesAt, recordAt, behindAll, Stored, Goes, RecordFrom};
+
+// Where reading and storing go on, and how many elements or records were stored.
+struct Run {
+    from: usize,
+    to: usize,
+    count: usize,
+}
 
 // Stores a byte; past the buffer's end it does nothing.
 fn put(out: &mut [u8], at: usize, b: u8)
@@ -29,11 +36,10 @@ fn put(out: &mut [u8], at: usize, b: u8)
     }
 }
 
-// Stores the `w` lowest bytes of `n`, the highest first.
-fn store_be(out: &mut [u8], to: usize, w: usize, n: u64) -> usize
+// The same where the buffer ends before them.
+fn cut_be(out: &mut [u8], to: usize, w: usize, n: u64)
     requires { ⌜ to + w < 2 ^ 64 ⌝ }
-    ensures { λ r. ⌜ r ≡ to + w ⌝ }
-    ensures { λ r. ⌜ Stored (be w n) (now (out .entry)) (now (out .exit)) to r ⌝ }
+    ensures { λ r. ⌜ now (out .exit) ≡ sets (now (out .entry)) to (be w n) ⌝ }
 {
     let mut rest = n;
     let mut left = w;
@@ -42,19 +48,29 @@ fn store_be(out: &mut [u8], to: usize, w: usize, n: u64) -> usize
         put(out, to + left, (rest % 256) as u8);
         rest = rest / 256;
     }
-    to + w
+}
+
+// Stores the `w` lowest bytes of `n`, the highest first.
+fn store_be(out: &mut [u8], to: usize, w: usize, n: u64) -> usize
+    requires { ⌜ to + w < 2 ^ 64 ⌝ }
+    ensures { λ r. ⌜ r ≡ to + w ⌝ }
+    ensures { λ r. ⌜ Stored (be w n) (now (out .entry)) (now (out .exit)) to r ⌝ }
+{
+    let end = to + w;
+    if end <= out.len() {
+        wire::put_be(out, to, w, n);
+        return end;
+    }
+    cut_be(out, to, w, n);
+    end
 }
 
 fn store_bytes(out: &mut [u8], to: usize, src: &[u8]) -> usize
     requires { ⌜ to + length (now src) < 2 ^ 64 ⌝ }
     ensures { λ r. ⌜ Stored (now (src .entry)) (now (out .entry)) (now (out .exit)) to r ⌝ }
 {
-    let mut i: usize = 0;
-    while i < src.len() {
-        put(out, to + i, src[i]);
-        i += 1;
-    }
-    to + i
+    form::store_bytes(out, to, src);
+    to + src.len()
 }
 
 fn byte_or_zero(f: &[u8], at: usize) -> u8
@@ -66,8 +82,23 @@ fn byte_or_zero(f: &[u8], at: usize) -> u8
     0
 }
 
-// The little-endian number of `w` bytes; those past the end are 0.
-fn little(f: &[u8], at: usize, w: usize) -> u64
+// The little-endian number of `w` bytes where they are all there.
+fn whole_little(f: &[u8], at: usize, w: usize) -> u64
+    requires { ⌜ (at + w ≤ length (now f)) × (w ≤ 8) ⌝ }
+    ensures { λ r. ⌜ r ≡ littleAt (now (f .entry)) at w ⌝ }
+{
+    let mut n: u64 = 0;
+    let mut i = w;
+    while 0 < i {
+        i -= 1;
+        let b = f[at + i];
+        n = n * 256 + (b as u64);
+    }
+    n
+}
+
+// The same where some are not there: those are 0.
+fn cut_little(f: &[u8], at: usize, w: usize) -> u64
     requires { ⌜ (at + w < 2 ^ 64) × (w ≤ 8) ⌝ }
     ensures { λ r. ⌜ r ≡ littleAt (now (f .entry)) at w ⌝ }
 {
@@ -80,12 +111,23 @@ fn little(f: &[u8], at: usize, w: usize) -> u64
     n
 }
 
+// The little-endian number of `w` bytes; those past the end are 0.
+fn little(f: &[u8], at: usize, w: usize) -> u64
+    requires { ⌜ (at + w < 2 ^ 64) × (w ≤ 8) ⌝ }
+    ensures { λ r. ⌜ r ≡ littleAt (now (f .entry)) at w ⌝ }
+{
+    if at + w <= f.len() {
+        return whole_little(f, at, w);
+    }
+    cut_little(f, at, w)
+}
+
 // The kind of the entry at `at`.
-fn kind_at(f: &[u8], at: usize) -> u64
+fn entry_kind(f: &[u8], at: usize) -> usize
     requires { ⌜ at ≤ 65536 ⌝ }
     ensures { λ r. ⌜ r ≡ kindAt (now (f .entry)) at ⌝ }
 {
-    little(f, at + 2, 2)
+    little(f, at + 2, 2) as usize
 }
 
 // Where the entry behind the one at `at` starts.
@@ -133,7 +175,7 @@ fn put_fixed(w: Widths, b: &[u8], out: &mut [u8], to: usize) -> usize
 }
 
 // An element of a kind, from the body of its entry.
-fn put_element(w: Widths, kind: u64, b: &[u8], out: &mut [u8], to: usize) -> usize
+fn put_element(w: Widths, kind: usize, b: &[u8], out: &mut [u8], to: usize) -> usize
     requires { ⌜ Narrow w ⌝ }
     requires { ⌜ length (now b) ≤ 65536 ⌝ }
     requires { ⌜ to ≤ 2 ^ 40 ⌝ }
@@ -150,7 +192,7 @@ fn put_element(w: Widths, kind: u64, b: &[u8], out: &mut [u8], to: usize) -> usi
 }
 
 // The element of a kind whose entry is at `at`.
-fn put_entry(w: Widths, kind: u64, f: &[u8], at: usize, out: &mut [u8], to: usize) -> usize
+fn put_entry(w: Widths, kind: usize, f: &[u8], at: usize, out: &mut [u8], to: usize) -> usize
     requires { ⌜ Narrow w ⌝ }
     requires { ⌜ (length (now f) ≤ 65536) × (at ≤ 65536) ⌝ }
     requires { ⌜ to ≤ 2 ^ 40 ⌝ }
@@ -161,137 +203,127 @@ fn put_entry(w: Widths, kind: u64, f: &[u8], at: usize, out: &mut [u8], to: usiz
     put_element(w, kind, &f[start..end], out, to)
 }
 
-// How many elements of a kind there are from `from` on up to the next entry 101.
-fn count_kind(kind: u64, f: &[u8], from: usize) -> usize
-    requires { ⌜ length (now f) ≤ 65536 ⌝ }
-    ensures { λ r. ⌜ r ≡ length (groupAt kind (now (f .entry)) from) ⌝ }
-{
-    let mut at = from;
-    let mut n: usize = 0;
-    while at < f.len() {
-        let k = kind_at(f, at);
-        if k == 101 {
-            return n;
-        }
-        if k == kind {
-            n += 1;
-        }
-        at = next_at(f, at);
-    }
-    n
-}
-
-// The same elements, stored.
-fn put_kind(w: Widths, kind: u64, f: &[u8], from: usize, out: &mut [u8], to: usize) -> usize
+// The elements of a kind from `from` on.
+fn put_run(w: Widths, kind: usize, f: &[u8], from: usize, out: &mut [u8], to: usize) -> Run
     requires { ⌜ Narrow w ⌝ }
     requires { ⌜ length (now f) ≤ 65536 ⌝ }
-    requires { ⌜ to + length (joined (elementBytes w kind) (groupAt kind (now f) from)) ≤ 2 ^ 40 ⌝ }
-    ensures { λ r. ⌜ Stored (joined (elementBytes w kind) (groupAt kind (now (f .entry)) from)) (now (out .entry)) (now (out .exit)) to r ⌝ }
+    requires { ⌜ to + length (joined (elementBytes w kind) (run kind (entriesAt (now f) from))) ≤ 2 ^ 40 ⌝ }
+    ensures { λ r. ⌜ Goes (now (f .entry)) from (behind kind (entriesAt (now (f .entry)) from)) (joined (elementBytes w kind) (run kind (entriesAt (now (f .entry)) from))) (now (out .entry)) (now (out .exit)) to (length (run kind (entriesAt (now (f .entry)) from))) r ⌝ }
 {
     let mut at = from;
     let mut next = to;
-    while at < f.len() {
-        let k = kind_at(f, at);
-        if k == 101 {
-            return next;
-        }
-        if k == kind {
-            next = put_entry(w, kind, f, at, out, next);
-        }
-        at = next_at(f, at);
-    }
-    next
-}
-
-// A group: its count and its elements.
-fn put_group(w: Widths, kind: u64, f: &[u8], from: usize, out: &mut [u8], to: usize) -> usize
-    requires { ⌜ Narrow w ⌝ }
-    requires { ⌜ length (now f) ≤ 65536 ⌝ }
-    requires { ⌜ to + length (groupBytes w kind (groupAt kind (now f) from)) ≤ 2 ^ 40 ⌝ }
-    ensures { λ r. ⌜ Stored (groupBytes w kind (groupAt kind (now (f .entry)) from)) (now (out .entry)) (now (out .exit)) to r ⌝ }
-{
-    let n = count_kind(kind, f, from);
-    let start = store_be(out, to, w.count, n as u64);
-    put_kind(w, kind, f, from, out, start)
-}
-
-// The groups of the elements from `from` on, in the order of their kinds.
-fn put_groups(w: Widths, f: &[u8], from: usize, out: &mut [u8], to: usize) -> usize
-    requires { ⌜ Narrow w ⌝ }
-    requires { ⌜ length (now f) ≤ 65536 ⌝ }
-    requires { ⌜ to + length (groupsBytes w (kinds w) (groupsOf (kinds w) (elementsAt (now f) from))) ≤ 2 ^ 40 ⌝ }
-    ensures { λ r. ⌜ Stored (groupsBytes w (kinds w) (groupsOf (kinds w) (elementsAt (now (f .entry)) from))) (now (out .entry)) (now (out .exit)) to r ⌝ }
-{
-    let a1 = put_group(w, 1, f, from, out, to);
-    let a2 = put_group(w, 2, f, from, out, a1);
-    let a4 = put_group(w, 4, f, from, out, a2);
-    let a8 = put_group(w, 8, f, from, out, a4);
-    let variable = w.variable;
-    if variable {
-        return put_group(w, 9, f, from, out, a8);
-    }
-    a8
-}
-
-// The total: how many elements of the kinds 1, 2, 4 and 8 there are.
-fn total_from(f: &[u8], from: usize) -> usize
-    requires { ⌜ length (now f) ≤ 65536 ⌝ }
-    ensures { λ r. ⌜ r ≡ total (groupsOf (1 ∷ 2 ∷ 4 ∷ 8 ∷ []) (elementsAt (now (f .entry)) from)) ⌝ }
-{
-    count_kind(1, f, from)
-        + count_kind(2, f, from)
-        + count_kind(4, f, from)
-        + count_kind(8, f, from)
-}
-
-// How many records there are from `from` on.
-fn count_records(f: &[u8], from: usize) -> usize
-    requires { ⌜ length (now f) ≤ 65536 ⌝ }
-    ensures { λ r. ⌜ r ≡ length (recordsOf [] (entriesAt (now (f .entry)) from)) ⌝ }
-{
-    let mut at = from;
     let mut n: usize = 0;
     while at < f.len() {
-        if kind_at(f, at) == 101 {
-            n += 1;
+        if entry_kind(f, at) != kind {
+            return Run {
+                from: at,
+                to: next,
+                count: n,
+            };
         }
+        next = put_entry(w, kind, f, at, out, next);
         at = next_at(f, at);
+        n += 1;
     }
-    n
+    Run {
+        from: at,
+        to: next,
+        count: n,
+    }
 }
 
-// The record whose entry 101 is at `at`.
-fn put_record(w: Widths, f: &[u8], at: usize, out: &mut [u8], to: usize) -> usize
+// A group: its elements, and their count in front of them.
+fn put_group(w: Widths, kind: usize, f: &[u8], from: usize, out: &mut [u8], to: usize) -> Run
+    requires { ⌜ Narrow w ⌝ }
+    requires { ⌜ length (now f) ≤ 65536 ⌝ }
+    requires { ⌜ to + length (groupBytes w kind (run kind (entriesAt (now f) from))) ≤ 2 ^ 40 ⌝ }
+    ensures { λ r. ⌜ Goes (now (f .entry)) from (behind kind (entriesAt (now (f .entry)) from)) (groupBytes w kind (run kind (entriesAt (now (f .entry)) from))) (now (out .entry)) (now (out .exit)) to (length (run kind (entriesAt (now (f .entry)) from))) r ⌝ }
+{
+    let count = w.count;
+    let elements = put_run(w, kind, f, from, out, to + count);
+    store_be(out, to, count, elements.count as u64);
+    elements
+}
+
+// The groups from `from` on, in the order of their kinds, and the total of the first four.
+fn put_groups(w: Widths, f: &[u8], from: usize, out: &mut [u8], to: usize) -> Run
+    requires { ⌜ Narrow w ⌝ }
+    requires { ⌜ length (now f) ≤ 65536 ⌝ }
+    requires { ⌜ to + length (groupsBytes w (kinds w) (groupsOf (kinds w) (entriesAt (now f) from))) ≤ 2 ^ 40 ⌝ }
+    ensures { λ r. ⌜ Goes (now (f .entry)) from (behindAll (kinds w) (entriesAt (now (f .entry)) from)) (groupsBytes w (kinds w) (groupsOf (kinds w) (entriesAt (now (f .entry)) from))) (now (out .entry)) (now (out .exit)) to (total (groupsOf (kinds w) (entriesAt (now (f .entry)) from))) r ⌝ }
+{
+    let n = walk::kind_count(w);
+    let mut at = from;
+    let mut next = to;
+    let mut sum: usize = 0;
+    let mut k: usize = 0;
+    while k < n {
+        let group = put_group(w, walk::kind_at(k), f, at, out, next);
+        at = group.from;
+        next = group.to;
+        sum += walk::share(k, group.count);
+        k += 1;
+    }
+    Run {
+        from: at,
+        to: next,
+        count: sum,
+    }
+}
+
+// The record whose entry 101 is at `at`: its fixed fields, its groups, and the total in front of these.
+fn put_record(w: Widths, f: &[u8], at: usize, out: &mut [u8], to: usize) -> Run
     requires { ⌜ Narrow w ⌝ }
     requires { ⌜ (length (now f) ≤ 65536) × (at ≤ 65536) ⌝ }
     requires { ⌜ to + length (recordBytes w (recordAt (kinds w) (now f) at)) ≤ 2 ^ 40 ⌝ }
-    ensures { λ r. ⌜ Stored (recordBytes w (recordAt (kinds w) (now (f .entry)) at)) (now (out .entry)) (now (out .exit)) to r ⌝ }
+    ensures { λ r. ⌜ Goes (now (f .entry)) (nextAt (now (f .entry)) at) (behindAll (kinds w) (entriesAt (now (f .entry)) (nextAt (now (f .entry)) at))) (recordBytes w (recordAt (kinds w) (now (f .entry)) at)) (now (out .entry)) (now (out .exit)) to (total (groupsOf (kinds w) (entriesAt (now (f .entry)) (nextAt (now (f .entry)) at)))) r ⌝ }
 {
     let from = next_at(f, at);
     let start = clipped(at + 4, f.len());
     let end = clipped(from, f.len());
+    let count = w.count;
     let a1 = put_fixed(w, &f[start..end], out, to);
-    let sum = total_from(f, from);
-    let a2 = store_be(out, a1, w.count, sum as u64);
-    put_groups(w, f, from, out, a2)
+    let groups = put_groups(w, f, from, out, a1 + count);
+    store_be(out, a1, count, groups.count as u64);
+    groups
 }
 
-// The records from `from` on.
-fn put_records(w: Widths, f: &[u8], from: usize, out: &mut [u8], to: usize) -> usize
-    requires { ⌜ Narrow w ⌝ }
+// The first entry 101 from `from` on, or the end.
+fn next_record(f: &[u8], from: usize) -> usize
     requires { ⌜ length (now f) ≤ 65536 ⌝ }
-    requires { ⌜ to + length (joined (recordBytes w) (recordsOf (kinds w) (entriesAt (now f) from))) ≤ 2 ^ 40 ⌝ }
-    ensures { λ r. ⌜ Stored (joined (recordBytes w) (recordsOf (kinds w) (entriesAt (now (f .entry)) from))) (now (out .entry)) (now (out .exit)) to r ⌝ }
+    ensures { λ r. ⌜ RecordFrom (now (f .entry)) from r ⌝ }
 {
     let mut at = from;
-    let mut next = to;
     while at < f.len() {
-        if kind_at(f, at) == 101 {
-            next = put_record(w, f, at, out, next);
+        if entry_kind(f, at) == 101 {
+            return at;
         }
         at = next_at(f, at);
     }
-    next
+    at
+}
+
+// The records from `from` on.
+fn put_records(w: Widths, f: &[u8], from: usize, out: &mut [u8], to: usize) -> Run
+    requires { ⌜ Narrow w ⌝ }
+    requires { ⌜ length (now f) ≤ 65536 ⌝ }
+    requires { ⌜ to + length (joined (recordBytes w) (recordsOf (kinds w) (entriesAt (now f) from))) ≤ 2 ^ 40 ⌝ }
+    ensures { λ r. ⌜ Goes (now (f .entry)) from [] (joined (recordBytes w) (recordsOf (kinds w) (entriesAt (now (f .entry)) from))) (now (out .entry)) (now (out .exit)) to (length (recordsOf (kinds w) (entriesAt (now (f .entry)) from))) r ⌝ }
+{
+    let mut at = next_record(f, from);
+    let mut next = to;
+    let mut n: usize = 0;
+    while at < f.len() {
+        let stored = put_record(w, f, at, out, next);
+        at = next_record(f, stored.from);
+        next = stored.to;
+        n += 1;
+    }
+    Run {
+        from: at,
+        to: next,
+        count: n,
+    }
 }
 
 // The data field of a form, and how long it is; a buffer that is too short gets its first bytes.
@@ -304,54 +336,60 @@ fn decode_form(f: &[u8], out: &mut [u8]) -> usize
     let start = clipped(4, f.len());
     let end = clipped(from, f.len());
     let codec = byte_or_zero(&f[start..end], 0);
-    let count = count_records(f, from) as u64;
     let a1 = store_be(out, 0, 1, codec as u64);
-    let a2 = store_be(out, a1, 1, count);
-    let a3 = put_records(walk::widths_of(codec), f, from, out, a2);
-    store_be(out, a3, 1, count)
+    let records = put_records(walk::widths_of(codec), f, from, out, a1 + 1);
+    let count = records.count as u64;
+    store_be(out, a1, 1, count);
+    store_be(out, records.to, 1, count)
 }
 
-// Whether two sequences of bytes are the same.
+// Whether two sequences of bytes are the same. No early exit, so that many bytes are compared at once.
 fn equal(a: &[u8], b: &[u8]) -> bool
     ensures { λ r. ⌜ r ≡ same (now (a .entry)) (now (b .entry)) ⌝ }
 {
     if a.len() != b.len() {
         return false;
     }
+    let mut alike = true;
     let mut i: usize = 0;
     while i < a.len() {
         if a[i] != b[i] {
-            return false;
+            alike = false;
         }
         i += 1;
     }
-    true
+    alike
 }
 
-// The packet of what a form stands for, at the buffer's start, and its length; 0 where it has more than 1,280 bytes.
-fn candidate(f: &[u8], d: &mut [u8]) -> usize
-    requires { ⌜ (length (now f) ≤ 65536) × (length (now d) ≡ 1280) ⌝ }
-    ensures size { λ r. ⌜ r ≤ 1280 ⌝ }
-    ensures front { λ r. ⌜ take r (now (d .exit)) ≡ fitting (packetBytes (decoded (now (f .entry)))) ⌝ }
+// Whether `d` is an accepted data field that has the form `f`; its form is written into `g`.
+fn same_form(d: &[u8], f: &[u8], g: &mut [u8]) -> bool
+    requires { ⌜ (3 ≤ length (now d)) × (length (now d) ≤ 1280) × (4 * length (now d) ≤ length (now g)) ⌝ }
+    ensures { λ r. ⌜ r ≡ hasForm (formOfField 255 (now (d .entry))) (now (f .entry)) ⌝ }
 {
-    let n = decode_form(f, &mut d[8..]);
-    if 1268 < n {
-        return 0;
-    }
-    frame::put_frame(d, n);
-    n + 12
-}
-
-// Whether `p` is an accepted packet that has the form `f`.
-fn has_form(p: &[u8], f: &[u8]) -> bool
-    requires { ⌜ length (now f) ≤ 12288 ⌝ }
-    ensures { λ r. ⌜ r ≡ hasForm (formOfPacket 1280 255 (now (p .entry))) (now (f .entry)) ⌝ }
-{
-    let mut g = [0u8; 12288];
-    match form::form_of_packet(p, &mut g) {
+    match form::form_of_field(d, g) {
         Written::Refused(_) => false,
         Written::Bytes(n) => equal(&g[0..n], f),
     }
+}
+
+// The same of a short field, whose form needs a shorter array: clearing a long one costs time.
+fn short_has_form(d: &[u8], f: &[u8]) -> bool
+    requires { ⌜ (3 ≤ length (now d)) × (length (now d) ≤ 128) ⌝ }
+    ensures { λ r. ⌜ r ≡ hasForm (formOfField 255 (now (d .entry))) (now (f .entry)) ⌝ }
+{
+    let mut g = [0u8; 512];
+    same_form(d, f, &mut g)
+}
+
+fn has_form(d: &[u8], f: &[u8]) -> bool
+    requires { ⌜ (3 ≤ length (now d)) × (length (now d) ≤ 1268) ⌝ }
+    ensures { λ r. ⌜ r ≡ hasForm (formOfField 255 (now (d .entry))) (now (f .entry)) ⌝ }
+{
+    if d.len() <= 128 {
+        return short_has_form(d, f);
+    }
+    let mut g = [0u8; 5120];
+    same_form(d, f, &mut g)
 }
 
 fn refused(number: usize) -> Written
@@ -365,17 +403,21 @@ pub fn packet_of_form(f: &[u8], out: &mut [u8]) -> Written
     ensures answer { λ r. ⌜ writtenAs r ≡ writing (packetOfForm 1280 255 (now (f .entry))) (now (out .entry)) ⌝ }
     ensures buffer { λ r. ⌜ now (out .exit) ≡ leaving (packetOfForm 1280 255 (now (f .entry))) (now (out .entry)) ⌝ }
 {
-    if 12288 < f.len() {
+    if 5120 < f.len() {
         return refused(17);
     }
-    let mut d = [0u8; 1280];
-    let n = candidate(f, &mut d);
+    let mut d = [0u8; 1268];
+    let n = decode_form(f, &mut d);
+    if 1268 < n {
+        return refused(17);
+    }
     if has_form(&d[0..n], f) {
-        if out.len() < n {
+        if out.len() < n + 12 {
             return refused(18);
         }
-        wire::put_bytes(out, 0, &d[0..n]);
-        return Written::Bytes(n);
+        wire::put_bytes(out, 8, &d[0..n]);
+        frame::put_frame(out, n);
+        return Written::Bytes(n + 12);
     }
     refused(17)
 }

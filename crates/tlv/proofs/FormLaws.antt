@@ -4,7 +4,7 @@ use native.Mathlib.Nat.{lt-of-lt-of-le, pow-le-pow-right}
 use native.Mathlib.Omega.{arith}
 use mathlib.Core.Path.{_≡_, refl, sym, ap, ap₂, _∙_, subst}
 use mathlib.Core.Bool.{Bool, true, false}
-use mathlib.Core.List.{List, [], _∷_, _++_, append-nil, append-assoc}
+use mathlib.Core.List.{List, [], _∷_, _++_, append-assoc}
 use lib.ListN.{length, take, drop, getD, length-append}
 use lib.Dec.{eqb, lit<, lit≤}
 use borrow.Author.Tests.{eq-eqb, ne-eqb, eqb-false}
@@ -18,7 +18,7 @@ use Rattle.avl.specs.Records.{Element, Fixed, AvlRecord, FixedRules, ElementRul
 use Rattle.avl.specs.DataField.{AvlData, DataRules, dataBytes}
 use Rattle.tlv.specs.Entries.{Entry, entryBytes, entriesOf}
 use Rattle.tlv.specs.Form.{fixedEntry, elementEntry, groupEntries, groupsEntries, recordsEntries, formEntries, form}
-use Rattle.tlv.specs.Decoding.{entryElement, ofKind, groupsOf, fixedOf, beforeNext, recordsOf, dataOf, decoded}
+use Rattle.tlv.specs.Decoding.{entryElement, run, behind, groupsOf, fixedOf, recordsOf, dataOf, decoded}
 use Rattle.tlv.proofs.EntryLaws.{EntryFits, entries-written}
 
 -- ---- the elements of a record
@@ -29,19 +29,33 @@ element-again kind e h =
     let id : littleAt (le 2 (e .id) ++ e .value) 0 2 ≡ e .id = little-le 2 (e .id) (le 2 (e .id) ++ e .value) 0 (e .value) h refl in
     λ i. record { id = id i; value = e .value }
 
--- the entries of a group are found by its kind, before whatever follows
-own-kind : (kind : ℕ) (g : List Element) (es : List Entry) → All (λ e. e .id < 256 ^ 2) g → ofKind kind (groupEntries kind g ++ es) ≡ g ++ ofKind kind es
-unfolding groupEntries ofKind elementEntry
-own-kind kind [] es h = refl
-own-kind kind (e ∷ g) es h =
-    pick-true (eqb kind kind) _ _ (eq-eqb kind kind refl)
-    ∙ ap₂ (λ (x : Element) (l : List Element). x ∷ l) (element-again kind e (h .0)) (own-kind kind g es (h .1))
+-- the first entry, if there is one, has another kind
+abbrev Other : ℕ → List Entry → Type 0
+Other kind [] = Unit {0}
+Other kind (e ∷ es) = (e .kind ≡ kind → ⊥)
 
--- and by no other kind
-other-kind : (kind other : ℕ) (g : List Element) (es : List Entry) → (other ≡ kind → ⊥) → ofKind kind (groupEntries other g ++ es) ≡ ofKind kind es
-unfolding groupEntries ofKind elementEntry
-other-kind kind other [] es h = refl
-other-kind kind other (e ∷ g) es h = pick-false (eqb other kind) _ _ (ne-eqb other kind h) ∙ other-kind kind other g es h
+-- a group's entries are a run, before whatever starts with another kind
+run-done : (kind : ℕ) (es : List Entry) → Other kind es → run kind es ≡ []
+unfolding run
+run-done kind [] o = refl
+run-done kind (e ∷ es) o = pick-false (eqb (e .kind) kind) _ _ (ne-eqb (e .kind) kind o)
+
+own-run : (kind : ℕ) (g : List Element) (es : List Entry) → All (λ e. e .id < 256 ^ 2) g → Other kind es → run kind (groupEntries kind g ++ es) ≡ g
+unfolding groupEntries run elementEntry
+own-run kind [] es h o = run-done kind es o
+own-run kind (e ∷ g) es h o =
+    pick-true (eqb kind kind) _ _ (eq-eqb kind kind refl)
+    ∙ ap₂ (λ (x : Element) (l : List Element). x ∷ l) (element-again kind e (h .0)) (own-run kind g es (h .1) o)
+
+behind-done : (kind : ℕ) (es : List Entry) → Other kind es → behind kind es ≡ es
+unfolding behind
+behind-done kind [] o = refl
+behind-done kind (e ∷ es) o = pick-false (eqb (e .kind) kind) _ _ (ne-eqb (e .kind) kind o)
+
+behind-run : (kind : ℕ) (g : List Element) (es : List Entry) → Other kind es → behind kind (groupEntries kind g ++ es) ≡ es
+unfolding groupEntries behind elementEntry
+behind-run kind [] es o = behind-done kind es o
+behind-run kind (e ∷ g) es o = pick-true (eqb kind kind) _ _ (eq-eqb kind kind refl) ∙ behind-run kind g es o
 
 -- no kind of a list is this one
 abbrev Apart : ℕ → List ℕ → Type 0
@@ -55,16 +69,17 @@ Distinct (k ∷ ks) = Apart k ks × Distinct ks
 abbrev SmallIds : List (List Element) → Type 0
 SmallIds gs = All (λ g. All (λ e. e .id < 256 ^ 2) g) gs
 
-none-of-kind : (kind : ℕ) (ks : List ℕ) (gs : List (List Element)) → Apart kind ks → ofKind kind (groupsEntries ks gs) ≡ []
-unfolding groupsEntries ofKind
-none-of-kind kind [] gs h = refl
-none-of-kind kind (k ∷ ks) [] h = refl
-none-of-kind kind (k ∷ ks) (g ∷ gs) h = other-kind kind k g (groupsEntries ks gs) (λ e. h .0 (sym e)) ∙ none-of-kind kind ks gs (h .1)
+other-group : (kind other : ℕ) (g : List Element) (es : List Entry) → (other ≡ kind → ⊥) → Other kind es → Other kind (groupEntries other g ++ es)
+unfolding groupEntries elementEntry
+other-group kind other [] es h o = o
+other-group kind other (e ∷ g) es h o = h
 
-skip-group : (ks : List ℕ) (k : ℕ) (g : List Element) (es : List Entry) → Apart k ks → groupsOf ks (groupEntries k g ++ es) ≡ groupsOf ks es
-unfolding groupsOf
-skip-group [] k g es h = refl
-skip-group (j ∷ ks) k g es h = ap₂ (λ (x : List Element) (l : List (List Element)). x ∷ l) (other-kind j k g es (h .0)) (skip-group ks k g es (h .1))
+other-groups : (kind : ℕ) (ks : List ℕ) (gs : List (List Element)) (es : List Entry) → Apart kind ks → Other kind es → Other kind (groupsEntries ks gs ++ es)
+unfolding groupsEntries
+other-groups kind [] gs es h o = o
+other-groups kind (k ∷ ks) [] es h o = o
+other-groups kind (k ∷ ks) (g ∷ gs) es h o =
+    rw append-assoc (other-group kind k g (groupsEntries ks gs ++ es) (λ e. h .0 (sym e)) (other-groups kind ks gs es (h .1) o))
 
 -- as many groups as kinds
 abbrev Parallel : List ℕ → List (List Element) → Type 0
@@ -73,17 +88,18 @@ Parallel [] (g ∷ gs) = ⊥
 Parallel (k ∷ ks) [] = ⊥
 Parallel (k ∷ ks) (g ∷ gs) = Parallel ks gs
 
-groups-again : (ks : List ℕ) (gs : List (List Element)) → Distinct ks → Parallel ks gs → SmallIds gs → groupsOf ks (groupsEntries ks gs) ≡ gs
+groups-again : (ks : List ℕ) (gs : List (List Element)) (es : List Entry) → Distinct ks → Parallel ks gs → SmallIds gs → All (λ k. Other k es) ks
+    → groupsOf ks (groupsEntries ks gs ++ es) ≡ gs
 unfolding groupsOf groupsEntries
-groups-again [] [] d p h = refl
-groups-again [] (g ∷ gs) d p h = absurd p
-groups-again (k ∷ ks) [] d p h = absurd p
-groups-again (k ∷ ks) (g ∷ gs) d p h =
-    let own : ofKind k (groupEntries k g ++ groupsEntries ks gs) ≡ g =
-    own-kind k g (groupsEntries ks gs) (h .0) ∙ ap (λ (l : List Element). g ++ l) (none-of-kind k ks gs (d .0)) ∙ append-nil g
-    in
-    let rest = skip-group ks k g (groupsEntries ks gs) (d .0) ∙ groups-again ks gs (d .1) p (h .1) in
-    ap₂ (λ (x : List Element) (l : List (List Element)). x ∷ l) own rest
+groups-again [] [] es d p h o = refl
+groups-again [] (g ∷ gs) es d p h o = absurd p
+groups-again (k ∷ ks) [] es d p h o = absurd p
+groups-again (k ∷ ks) (g ∷ gs) es d p h o =
+    let rest = groupsEntries ks gs ++ es in
+    let apart = other-groups k ks gs es (d .0) (o .0) in
+    let own : run k (groupEntries k g ++ rest) ≡ g = own-run k g rest (h .0) apart in
+    let more : groupsOf ks (behind k (groupEntries k g ++ rest)) ≡ gs = ap (groupsOf ks) (behind-run k g rest apart) ∙ groups-again ks gs es (d .1) p (h .1) (o .1) in
+    rw append-assoc (ap₂ (λ (x : List Element) (l : List (List Element)). x ∷ l) own more)
 
 -- ---- the fixed fields
 
@@ -132,20 +148,19 @@ no-record-groups (k ∷ ks) [] h = tt
 no-record-groups (k ∷ ks) (g ∷ gs) h =
     all-append (λ e. (e .kind ≡ 101 → ⊥)) (groupEntries k g) (groupsEntries ks gs) (no-record-group k g (λ e. h .0 (sym e))) (no-record-groups ks gs (h .1))
 
-before-next : (es rest : List Entry) → NoRecord es → beforeNext rest ≡ [] → beforeNext (es ++ rest) ≡ es
-unfolding beforeNext
-before-next [] rest h e = e
-before-next (x ∷ es) rest h e = pick-false (eqb (x .kind) 101) _ _ (ne-eqb (x .kind) 101 (h .0)) ∙ ap (λ (l : List Entry). x ∷ l) (before-next es rest (h .1) e)
-
 skip-elements : (ks : List ℕ) (es rest : List Entry) → NoRecord es → recordsOf ks (es ++ rest) ≡ recordsOf ks rest
 unfolding recordsOf
 skip-elements ks [] rest h = refl
 skip-elements ks (x ∷ es) rest h = pick-false (eqb (x .kind) 101) _ _ (ne-eqb (x .kind) 101 (h .0)) ∙ skip-elements ks es rest (h .1)
 
-starts-record : (ks : List ℕ) (rs : List AvlRecord) → beforeNext (recordsEntries ks rs) ≡ []
-unfolding beforeNext recordsEntries fixedEntry
-starts-record ks [] = refl
-starts-record ks (r ∷ rs) = refl
+starts-record : (kind : ℕ) (ks : List ℕ) (rs : List AvlRecord) → (101 ≡ kind → ⊥) → Other kind (recordsEntries ks rs)
+unfolding recordsEntries fixedEntry
+starts-record kind ks [] h = tt
+starts-record kind ks (r ∷ rs) h = h
+
+start-others : (js ks : List ℕ) (rs : List AvlRecord) → Apart 101 js → All (λ k. Other k (recordsEntries ks rs)) js
+start-others [] ks rs h = tt
+start-others (j ∷ js) ks rs h = (starts-record j ks rs (h .0), start-others js ks rs (h .1))
 
 parallel : (w : Widths) (ks : List ℕ) (gs : List (List Element)) → GroupsRules w ks gs → Parallel ks gs
 parallel w [] [] h = tt
@@ -178,12 +193,11 @@ records-again w longest (r ∷ rs) p h =
     let es = groupsEntries ks (r .groups) in
     let rest = recordsEntries ks rs in
     let plain = no-record-groups ks (r .groups) (p .noRecord) in
-    let own : groupsOf ks (beforeNext (es ++ rest)) ≡ r .groups =
-    ap (groupsOf ks) (before-next es rest plain (starts-record ks rs))
-    ∙ groups-again ks (r .groups) (p .distinct) (parallel w ks (r .groups) (h .0 .groupsKeep)) (small-ids w ks (r .groups) (p .id) (h .0 .groupsKeep))
+    let own : groupsOf ks (es ++ rest) ≡ r .groups =
+    groups-again ks (r .groups) rest (p .distinct) (parallel w ks (r .groups) (h .0 .groupsKeep)) (small-ids w ks (r .groups) (p .id) (h .0 .groupsKeep)) (start-others ks ks rs (p .noRecord))
     in
     let fixed = fixed-again w (r .fixed) (p .event) (h .0 .fixedKeep) in
-    let whole : _≡_ {A = AvlRecord} (record { fixed = fixedOf (fixedEntry (r .fixed) .body); groups = groupsOf ks (beforeNext (es ++ rest)) }) r = λ i. record { fixed = fixed i; groups = own i } in
+    let whole : _≡_ {A = AvlRecord} (record { fixed = fixedOf (fixedEntry (r .fixed) .body); groups = groupsOf ks (es ++ rest) }) r = λ i. record { fixed = fixed i; groups = own i } in
     ap₂ (λ (x : AvlRecord) (l : List AvlRecord). x ∷ l) whole (skip-elements ks es rest plain ∙ records-again w longest rs p (h .1))
 
 plain : (w : Widths) → w .event ≤ 2 → w .id ≤ 2 → Plain w

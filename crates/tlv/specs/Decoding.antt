@@ -12,14 +12,19 @@ use Rattle.tlv.specs.Entries.{Entry, entriesOf}
 unfoldable pub entryElement : Entry → Element
 entryElement e = record { id = littleAt (e .body) 0 2; value = drop 2 (e .body) }
 
--- the elements of one kind
-unfoldable pub ofKind : ℕ → List Entry → List Element
-ofKind kind [] = []
-ofKind kind (e ∷ es) = pick (eqb (e .kind) kind) (entryElement e ∷ ofKind kind es) (ofKind kind es)
+-- the elements of a kind at the front
+unfoldable pub run : ℕ → List Entry → List Element
+run kind [] = []
+run kind (e ∷ es) = pick (eqb (e .kind) kind) (entryElement e ∷ run kind es) []
+
+-- the entries behind them
+unfoldable pub behind : ℕ → List Entry → List Entry
+behind kind [] = []
+behind kind (e ∷ es) = pick (eqb (e .kind) kind) (behind kind es) (e ∷ es)
 
 unfoldable pub groupsOf : List ℕ → List Entry → List (List Element)
 groupsOf [] es = []
-groupsOf (k ∷ ks) es = ofKind k es ∷ groupsOf ks es
+groupsOf (k ∷ ks) es = run k es ∷ groupsOf ks (behind k es)
 
 -- the fixed fields of an entry 101
 unfoldable pub fixedOf : List ℕ → Fixed
@@ -37,14 +42,10 @@ fixedOf b =
       generation = littleAt b 26 1;
     }
 
--- the entries up to the next 101
-unfoldable pub beforeNext : List Entry → List Entry
-beforeNext [] = []
-beforeNext (e ∷ es) = pick (eqb (e .kind) 101) [] (e ∷ beforeNext es)
-
+-- an entry 101 starts a record; what is behind its groups up to the next 101 is left out
 unfoldable pub recordsOf : List ℕ → List Entry → List AvlRecord
 recordsOf ks [] = []
-recordsOf ks (e ∷ es) = pick (eqb (e .kind) 101) (record { fixed = fixedOf (e .body); groups = groupsOf ks (beforeNext es) } ∷ recordsOf ks es) (recordsOf ks es)
+recordsOf ks (e ∷ es) = pick (eqb (e .kind) 101) (record { fixed = fixedOf (e .body); groups = groupsOf ks es } ∷ recordsOf ks es) (recordsOf ks es)
 
 -- the codec is the first byte of the first entry
 unfoldable pub dataOf : List Entry → AvlData

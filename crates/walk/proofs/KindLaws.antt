@@ -1,5 +1,5 @@
 -- The kinds of a record's groups, by their numbers.
-use Prim.Native.Nat.{ℕ, zero, suc, _+_, _≤_, _<_}
+use Prim.Native.Nat.{ℕ, zero, suc, _+_, _*_, _%_, _^_, _≤_, _<_}
 use native.Mathlib.Numerals.{add-one}
 use native.Mathlib.Omega.{arith}
 use mathlib.Core.Path.{_≡_, refl, sym, ap₂, subst, _∙_}
@@ -28,6 +28,14 @@ fixed-kind (suc zero) h = omega arith
 fixed-kind (suc (suc zero)) h = omega arith
 fixed-kind (suc (suc (suc zero))) h = omega arith
 fixed-kind (suc (suc (suc (suc k)))) h = absurd (omega arith)
+
+-- and is a power of two
+pub shifted-kind : (k : ℕ) → k < 4 → 1 * 2 ^ k % 2 ^ 64 ≡ getD allKinds k 0
+shifted-kind zero h = refl
+shifted-kind (suc zero) h = refl
+shifted-kind (suc (suc zero)) h = refl
+shifted-kind (suc (suc (suc zero))) h = refl
+shifted-kind (suc (suc (suc (suc k)))) h = absurd (omega arith)
 
 module _ (w : Widths) where
   pub kinds-range : All KindRange (kinds w)

@@ -281,10 +281,11 @@ unfolding tallied tallyFrom total
 tally-whole (got gs next) = ap (λ (n : ℕ). Sums n next) (sym (zero-add (elementCount (take 4 gs))))
 tally-whole (bad x) = refl
 
-tally-consed : (k sum : ℕ) (g : List Element) (r : Read (List (List Element))) → tallyFrom k sum (consed g r) ≡ tallyFrom (k + 1) (sum + pick (leb (suc k) 4) (length g) 0) r
-unfolding tallyFrom consed elementCount
-tally-consed k sum g (bad x) = refl
-tally-consed k sum g (got gs next) = ap (λ (n : ℕ). Sums n next) (go (leb (suc k) 4) refl)
+-- a group's share of the total
+pub share-consed : (k sum : ℕ) (g : List Element) (gs : List (List Element))
+    → sum + elementCount (take (4 - k) (g ∷ gs)) ≡ sum + pick (leb (suc k) 4) (length g) 0 + elementCount (take (4 - (k + 1)) gs)
+unfolding elementCount
+share-consed k sum g gs = go (leb (suc k) 4) refl
   where
     go : (b : Bool) → leb (suc k) 4 ≡ b → sum + elementCount (take (4 - k) (g ∷ gs)) ≡ sum + pick b (length g) 0 + elementCount (take (4 - (k + 1)) gs)
     go true e =
@@ -294,6 +295,11 @@ tally-consed k sum g (got gs next) = ap (λ (n : ℕ). Sums n next) (go (leb (su
         let none : 4 - k ≡ 0 = omega (arith, leb-false (suc k) 4 e) in
         let less : 4 - (k + 1) ≡ 0 = omega (arith, leb-false (suc k) 4 e) in
         ap (λ (n : ℕ). sum + elementCount (take n (g ∷ gs))) none ∙ omega arith ∙ ap (λ (n : ℕ). sum + 0 + elementCount (take n gs)) (sym less)
+
+tally-consed : (k sum : ℕ) (g : List Element) (r : Read (List (List Element))) → tallyFrom k sum (consed g r) ≡ tallyFrom (k + 1) (sum + pick (leb (suc k) 4) (length g) 0) r
+unfolding tallyFrom consed
+tally-consed k sum g (bad x) = refl
+tally-consed k sum g (got gs next) = ap (λ (n : ℕ). Sums n next) (share-consed k sum g gs)
 
 -- of all groups from number `k` on
 module _ (w : Widths) (s : List ℕ) (k sum at : ℕ) where

@@ -349,22 +349,19 @@ pub fn kind_count(w: Widths) -> usize
     4
 }
 
-// The kind of the group with number `k`.
+// The kind of the group with number `k`, by a shift: a table or a `match` costs a jump where a loop over the kinds is not laid out.
 pub fn kind_at(k: usize) -> usize
     requires { ⌜ k < 5 ⌝ }
     ensures { λ r. ⌜ r ≡ getD allKinds k 0 ⌝ }
 {
-    match k {
-        0 => 1,
-        1 => 2,
-        2 => 4,
-        3 => 8,
-        _ => 9,
+    if k < 4 {
+        return 1 << k;
     }
+    9
 }
 
 // What the group with number `k` adds to the total: the first four count.
-fn share(k: usize, count: usize) -> usize
+pub fn share(k: usize, count: usize) -> usize
     ensures { λ r. ⌜ r ≡ pick (leb (suc k) 4) count 0 ⌝ }
 {
     if k < 4 {

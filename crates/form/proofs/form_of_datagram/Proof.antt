@@ -6,48 +6,34 @@ use Rattle.form.proofs.WholeLaws.{field-of, datagram-field, datagram-lo
 use borrow.Author.Needs.{needs}
 use Rattle.form.proofs.form_of_datagram.Statement.{statement}
 use Rattle.form.proofs.form_of_datagram.Tie as tie
-use Rattle.form.proofs.form_of_datagram.Reads as reads
-use Rattle.form.proofs.form_of_datagram.Lts as lts
-use Rattle.datagram.proofs.judge_datagram.Reads as judge-datagram-reads
-use Rattle.form.proofs.write_field.Reads as write-field-reads
 
--- src/lib.rt:286:11
 judge-datagram-requires : tie.Need-judge-datagram-requires
 judge-datagram-requires c κs = search needs
 
--- src/lib.rt:287:31
 enum-known-r : tie.Need-enum-known-r
 enum-known-r c = search needs
 
--- src/lib.rt:293:26
 enum-told : tie.Need-enum-told
 enum-told c = search needs
 
--- src/lib.rt:293:26
 sub-write-field : tie.Need-sub-write-field
 sub-write-field c = datagram-long (c .before .before .before .before .before .args .p .now) (carried 0 (readDatagram 1280 255 (c .before .before .before .before .before .args .p .now)) (sym (c .before .before .judge-datagram .ensures) ∙ c .enum-told .given .1) .1)
 
--- src/lib.rt:293:26
 part-write-field-start : tie.Need-part-write-field-start
 part-write-field-start c = datagram-long (c .before .before .before .before .before .args .p .now) (carried 0 (readDatagram 1280 255 (c .before .before .before .before .before .args .p .now)) (sym (c .before .before .judge-datagram .ensures) ∙ c .enum-told .given .1) .1)
 
--- src/lib.rt:293:26
 part-write-field-end : tie.Need-part-write-field-end
 part-write-field-end c = search needs
 
--- src/lib.rt:293:14
 write-field-requires : tie.Need-write-field-requires
 write-field-requires c κs = field-of (datagram-field (c .before .before .before .before .before .before .before .args .p .now) (carried 0 (readDatagram 1280 255 (c .before .before .before .before .before .before .before .args .p .now)) (sym (c .before .before .before .before .judge-datagram .ensures) ∙ c .before .before .enum-told .given .1) .1))
 
--- src/lib.rt:282:1
 returns : tie.Need-returns
 returns c = datagram-refused (c .before .before .before .before .before .before .args .p .now) (not-carried 0 (readDatagram 1280 255 (c .before .before .before .before .before .before .args .p .now)) (sym (c .before .before .before .judge-datagram .ensures) ∙ c .before .r .given .1))
 
--- src/lib.rt:282:1
 same-length : tie.Need-same-length
 same-length c = search needs
 
--- src/lib.rt:282:1
 returns-2 : tie.Need-returns-2
 returns-2 c = datagram-written (c .before .before .before .before .before .before .before .before .before .before .args .p .now) (carried 0 (readDatagram 1280 255 (c .before .before .before .before .before .before .before .before .before .before .args .p .now)) (sym (c .before .before .before .before .before .before .before .judge-datagram .ensures) ∙ c .before .before .before .before .before .enum-told .given .1) .1) (c .before .before .write-field .ensures)
 

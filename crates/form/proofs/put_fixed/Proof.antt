@@ -14,11 +14,6 @@ use Rattle.form.proofs.LeafLaws.{near, near-on, near-fits, Stored, stor
 use borrow.Author.Needs.{needs}
 use Rattle.form.proofs.put_fixed.Statement.{statement}
 use Rattle.form.proofs.put_fixed.Tie as tie
-use Rattle.form.proofs.put_fixed.Reads as reads
-use Rattle.form.proofs.put_fixed.Lts as lts
-use Rattle.form.proofs.store_field.Reads as store-field-reads
-use Rattle.form.proofs.store_le.Reads as store-le-reads
-use Rattle.form.proofs.store_number.Reads as store-number-reads
 
 -- the whole entry stands in the buffer
 written : (c : tie.After-slice-known13)
@@ -42,87 +37,66 @@ written c =
     let o₁₁ = stored-on (le 2 (numberAt s (at + 24) (args .w .event))) o₁₀ (c .before .before .before .before .before .before .store-number .ensures) refl in
     stored-on (le 1 (numberAt s (at + 24 + args .w .event) (args .w .generation))) o₁₁ (c .before .before .store-number2 .ensures) refl
 
--- src/lib.rt:73:18
 add-behind : tie.Need-add-behind
 add-behind c = let h = fixed-inside (c .before .before .args .w) (c .before .before .pre .1) in omega (arith, h, c .before .before .pre .1 .small)
 
--- src/lib.rt:74:16
 add-last : tie.Need-add-last
 add-last c = let h = fixed-inside (c .before .before .args .w) (c .before .before .pre .1) in omega (arith, h, c .before .before .pre .1 .small)
 
--- src/lib.rt:75:5
 store-le-requires : tie.Need-store-le-requires
 store-le-requires c κs = (le-trans (near (c .before .before .before .pre .1)) (lit≤ tt), lit≤ tt)
 
--- src/lib.rt:76:19
 add-store-le : tie.Need-add-store-le
 add-store-le c = near-fits (c .before .before .before .before .before .before .before .pre .1) 2 (lit≤ tt)
 
--- src/lib.rt:76:5
 store-le-requires-2 : tie.Need-store-le-requires-2
 store-le-requires-2 c κs = (near-on (c .before .before .before .before .before .before .before .pre .1) 2 (lit≤ tt), lit≤ tt)
 
--- src/lib.rt:77:5
 store-field-requires : tie.Need-store-field-requires
 store-field-requires c κs = field-inside (c .before .before .before .before .before .before .before .before .before .before .before .args .w) (c .before .before .before .before .before .before .before .before .before .before .before .pre .1) 0 8 (lit≤ tt) (lit≤ tt)
 
--- src/lib.rt:78:5
 store-field-requires-2 : tie.Need-store-field-requires-2
 store-field-requires-2 c κs = field-inside (c .before .before .before .before .before .before .before .before .before .before .before .before .before .before .before .args .w) (c .before .before .before .before .before .before .before .before .before .before .before .before .before .before .before .pre .1) 8 1 (lit≤ tt) (lit≤ tt)
 
--- src/lib.rt:79:5
 store-field-requires-3 : tie.Need-store-field-requires-3
 store-field-requires-3 c κs = field-inside (c .before .before .before .before .before .before .before .before .before .before .before .before .before .before .before .before .before .before .before .args .w) (c .before .before .before .before .before .before .before .before .before .before .before .before .before .before .before .before .before .before .before .pre .1) 9 4 (lit≤ tt) (lit≤ tt)
 
--- src/lib.rt:80:5
 store-field-requires-4 : tie.Need-store-field-requires-4
 store-field-requires-4 c κs = field-inside (c .before .before .before .before .before .before .before .before .before .before .before .before .before .before .before .before .before .before .before .before .before .before .before .args .w) (c .before .before .before .before .before .before .before .before .before .before .before .before .before .before .before .before .before .before .before .before .before .before .before .pre .1) 13 4 (lit≤ tt) (lit≤ tt)
 
--- src/lib.rt:81:5
 store-field-requires-5 : tie.Need-store-field-requires-5
 store-field-requires-5 c κs = field-inside (c .before .before .before .before .before .before .before .before .before .before .before .before .before .before .before .before .before .before .before .before .before .before .before .before .before .before .before .args .w) (c .before .before .before .before .before .before .before .before .before .before .before .before .before .before .before .before .before .before .before .before .before .before .before .before .before .before .before .pre .1) 17 2 (lit≤ tt) (lit≤ tt)
 
--- src/lib.rt:82:5
 store-field-requires-6 : tie.Need-store-field-requires-6
 store-field-requires-6 c κs = field-inside (c .before .before .before .before .before .before .before .before .before .before .before .before .before .before .before .before .before .before .before .before .before .before .before .before .before .before .before .before .before .before .before .args .w) (c .before .before .before .before .before .before .before .before .before .before .before .before .before .before .before .before .before .before .before .before .before .before .before .before .before .before .before .before .before .before .before .pre .1) 19 2 (lit≤ tt) (lit≤ tt)
 
--- src/lib.rt:83:5
 store-field-requires-7 : tie.Need-store-field-requires-7
 store-field-requires-7 c κs = field-inside (c .before .before .before .before .before .before .before .before .before .before .before .before .before .before .before .before .before .before .before .before .before .before .before .before .before .before .before .before .before .before .before .before .before .before .before .args .w) (c .before .before .before .before .before .before .before .before .before .before .before .before .before .before .before .before .before .before .before .before .before .before .before .before .before .before .before .before .before .before .before .before .before .before .before .pre .1) 21 1 (lit≤ tt) (lit≤ tt)
 
--- src/lib.rt:84:5
 store-field-requires-8 : tie.Need-store-field-requires-8
 store-field-requires-8 c κs = field-inside (c .before .before .before .before .before .before .before .before .before .before .before .before .before .before .before .before .before .before .before .before .before .before .before .before .before .before .before .before .before .before .before .before .before .before .before .before .before .before .before .args .w) (c .before .before .before .before .before .before .before .before .before .before .before .before .before .before .before .before .before .before .before .before .before .before .before .before .before .before .before .before .before .before .before .before .before .before .before .before .before .before .before .pre .1) 22 2 (lit≤ tt) (lit≤ tt)
 
--- src/lib.rt:85:41
 add-store-number : tie.Need-add-store-number
 add-store-number c = near-fits (c .before .before .before .before .before .before .before .before .before .before .before .before .before .before .before .before .before .before .before .before .before .before .before .before .before .before .before .before .before .before .before .before .before .before .before .before .before .before .before .before .before .before .before .pre .1) 28 (lit≤ tt)
 
--- src/lib.rt:85:5
 store-number-requires : tie.Need-store-number-requires
 store-number-requires c κs = (le-trans (le-add-right _ (c .before .before .before .before .before .before .before .before .before .before .before .before .before .before .before .before .before .before .before .before .before .before .before .before .before .before .before .before .before .before .before .before .before .before .before .before .before .before .before .before .before .before .before .args .w .generation)) (fixed-inside (c .before .before .before .before .before .before .before .before .before .before .before .before .before .before .before .before .before .before .before .before .before .before .before .before .before .before .before .before .before .before .before .before .before .before .before .before .before .before .before .before .before .before .before .args .w) (c .before .before .before .before .before .before .before .before .before .before .before .before .before .before .before .before .before .before .before .before .before .before .before .before .before .before .before .before .before .before .before .before .before .before .before .before .before .before .before .before .before .before .before .pre .1)), le-trans (c .before .before .before .before .before .before .before .before .before .before .before .before .before .before .before .before .before .before .before .before .before .before .before .before .before .before .before .before .before .before .before .before .before .before .before .before .before .before .before .before .before .before .before .pre .0 .event) (lit≤ tt), near-on (c .before .before .before .before .before .before .before .before .before .before .before .before .before .before .before .before .before .before .before .before .before .before .before .before .before .before .before .before .before .before .before .before .before .before .before .before .before .before .before .before .before .before .before .pre .1) 28 (lit≤ tt), lit≤ tt)
 
--- src/lib.rt:86:44
 add-store-number-2 : tie.Need-add-store-number-2
 add-store-number-2 c = near-fits (c .before .before .before .before .before .before .before .before .before .before .before .before .before .before .before .before .before .before .before .before .before .before .before .before .before .before .before .before .before .before .before .before .before .before .before .before .before .before .before .before .before .before .before .before .before .before .before .pre .1) 30 (lit≤ tt)
 
--- src/lib.rt:86:5
 store-number-requires-2 : tie.Need-store-number-requires-2
 store-number-requires-2 c κs = (fixed-inside (c .before .before .before .before .before .before .before .before .before .before .before .before .before .before .before .before .before .before .before .before .before .before .before .before .before .before .before .before .before .before .before .before .before .before .before .before .before .before .before .before .before .before .before .before .before .before .before .args .w) (c .before .before .before .before .before .before .before .before .before .before .before .before .before .before .before .before .before .before .before .before .before .before .before .before .before .before .before .before .before .before .before .before .before .before .before .before .before .before .before .before .before .before .before .before .before .before .before .pre .1), le-trans (c .before .before .before .before .before .before .before .before .before .before .before .before .before .before .before .before .before .before .before .before .before .before .before .before .before .before .before .before .before .before .before .before .before .before .before .before .before .before .before .before .before .before .before .before .before .before .before .pre .0 .generation) (lit≤ tt), near-on (c .before .before .before .before .before .before .before .before .before .before .before .before .before .before .before .before .before .before .before .before .before .before .before .before .before .before .before .before .before .before .before .before .before .before .before .before .before .before .before .before .before .before .before .before .before .before .before .pre .1) 30 (lit≤ tt), lit≤ tt)
 
--- src/lib.rt:88:15
 add-t15 : tie.Need-add-t15
 add-t15 c = fixed-fits (c .before .before .before .before .before .before .before .before .before .before .before .before .before .before .before .before .before .before .before .before .before .before .before .before .before .before .before .before .before .before .before .before .before .before .before .before .before .before .before .before .before .before .before .before .before .before .before .before .before .before .args .w) (c .before .before .before .before .before .before .before .before .before .before .before .before .before .before .before .before .before .before .before .before .before .before .before .before .before .before .before .before .before .before .before .before .before .before .before .before .before .before .before .before .before .before .before .before .before .before .before .before .before .before .pre .1)
 
--- src/lib.rt:89:13
 add-t36 : tie.Need-add-t36
 add-t36 c = near-fits (c .before .before .before .before .before .before .before .before .before .before .before .before .before .before .before .before .before .before .before .before .before .before .before .before .before .before .before .before .before .before .before .before .before .before .before .before .before .before .before .before .before .before .before .before .before .before .before .before .before .before .pre .1) 31 (lit≤ tt)
 
--- src/lib.rt:66:1
 same-length : tie.Need-same-length
 same-length c = stored-length (written c)
 
--- src/lib.rt:66:1
 returns : tie.Need-returns
 returns c = fixed-copied (c .before .before .before .before .before .before .before .before .before .before .before .before .before .before .before .before .before .before .before .before .before .before .before .before .before .before .before .before .before .before .before .before .before .before .before .before .before .before .before .before .before .before .before .before .before .before .before .before .before .before .args .w) (c .before .before .before .before .before .before .before .before .before .before .before .before .before .before .before .before .before .before .before .before .before .before .before .before .before .before .before .before .before .before .before .before .before .before .before .before .before .before .before .before .before .before .before .before .before .before .before .before .before .before .pre .1) (written c)
 

@@ -8,33 +8,22 @@ use Rattle.form.proofs.FieldLaws.{form-copied}
 use borrow.Author.Needs.{needs}
 use Rattle.form.proofs.put_form.Statement.{statement}
 use Rattle.form.proofs.put_form.Tie as tie
-use Rattle.form.proofs.put_form.Reads as reads
-use Rattle.form.proofs.put_form.Lts as lts
-use Rattle.form.proofs.put_records.Reads as put-records-reads
-use Rattle.form.proofs.store_bytes.Reads as store-bytes-reads
-use Rattle.walk.proofs.widths_of.Reads as widths-of-reads
 
--- src/lib.rt:240:25
 slice-aggregate-store-bytes : tie.Need-slice-aggregate-store-bytes
 slice-aggregate-store-bytes c = search needs
 
--- src/lib.rt:240:5
 store-bytes-requires : tie.Need-store-bytes-requires
 store-bytes-requires c κs = search needs
 
--- src/lib.rt:241:17
 widths-of-requires : tie.Need-widths-of-requires
 widths-of-requires c κs = search needs
 
--- src/lib.rt:241:5
 put-records-requires : tie.Need-put-records-requires
 put-records-requires c κs = subst (λ (w : Widths). Narrow w × Ready (avlRecords 255 w 0 (c .before .before .before .before .before .before .before .before .before .args .count)) (c .before .before .before .before .before .before .before .before .before .args .s .now) 0 5) (sym (c .before .widths-of .ensures)) (narrow (c .before .before .before .before .before .before .before .before .before .args .codec), c .before .before .before .before .before .before .before .before .before .pre)
 
--- src/lib.rt:235:1
 same-length : tie.Need-same-length
 same-length c = search needs
 
--- src/lib.rt:235:1
 returns : tie.Need-returns
 returns c = form-copied (c .before .before .before .before .before .before .before .before .before .before .before .before .args .codec) (c .before .before .before .before .before .before .before .before .before .before .before .before .args .count) (c .before .before .before .before .widths-of .ensures) (c .before .before .before .before .before .before .before .store-bytes .ensures) (c .before .before .put-records .ensures)
 

@@ -1,14 +1,8 @@
 use borrow.Author.Needs.{needs}
-use lib.Dec.{lit≤}
-use native.Mathlib.Nat.{le-trans}
 use native.Mathlib.Omega.{arith}
 use Rattle.form.proofs.LoopLaws.{GroupLeft, group-inside, group-start, group-first, group-on, group-done}
 use Rattle.form.proofs.put_group.Statement.{statement}
 use Rattle.form.proofs.put_group.Tie as tie
-use Rattle.form.proofs.put_group.Reads as reads
-use Rattle.form.proofs.put_group.Lts as lts
-use Rattle.form.proofs.put_element.Reads as put-element-reads
-use Rattle.wire.proofs.number.Reads as number-reads
 
 abbrev Inv-loop : tie.InvT-loop
 Inv-loop w kind s at out₀ to count left₀ from₀ dest₀ out left from dest = GroupLeft w kind s at to out₀ from dest out left
@@ -16,39 +10,30 @@ Inv-loop w kind s at out₀ to count left₀ from₀ dest₀ out left from dest 
 abbrev μ-loop : tie.MeasureT-loop
 μ-loop w kind s at out₀ to count left₀ from₀ dest₀ out left from dest = left
 
--- src/lib.rt:148:9
-number-requires : tie.Need-number-requires Inv-loop μ-loop
-number-requires c κs = (group-inside (c .before .before .args .w) (c .before .before .args .kind) (c .before .before .pre .1 .1), le-trans (c .before .before .pre .0 .count) (lit≤ tt))
+short-number-requires : tie.Need-short-number-requires Inv-loop μ-loop
+short-number-requires c κs = (group-inside (c .before .before .args .w) (c .before .before .args .kind) (c .before .before .pre .1 .1), c .before .before .pre .0 .count)
 
--- src/lib.rt:149:20
 add-from : tie.Need-add-from Inv-loop μ-loop
 add-from c = omega (arith, group-inside (c .before .before .before .args .w) (c .before .before .before .args .kind) (c .before .before .before .pre .1 .1), c .before .before .before .pre .1 .1 .small)
 
--- src/lib.rt:151:5
 loop-holds : tie.Need-loop-holds Inv-loop μ-loop
-loop-holds c = group-start (c .before .before .before .args .w) (c .before .before .before .args .kind) (c .number .ensures) (c .before .before .before .pre .1 .1)
+loop-holds c = group-start (c .before .before .before .args .w) (c .before .before .before .args .kind) (c .short-number .ensures) (c .before .before .before .pre .1 .1)
 
--- src/lib.rt:152:13
 put-element-requires : tie.Need-put-element-requires Inv-loop μ-loop
 put-element-requires c κs = (c .before .before .before .before .before .before .pre .0, (c .before .before .before .before .before .before .pre .1 .0, group-first (c .before .before .before .before .before .before .args .w) (c .before .before .before .before .before .before .args .kind) (c .before .before .loop .left) (c .before .before .loop .inv) (c .before .loop-test .taken)))
 
--- src/lib.rt:155:9
 sub-left : tie.Need-sub-left Inv-loop μ-loop
 sub-left c = search needs
 
--- src/lib.rt:151:5
 loop-less : tie.Need-loop-less Inv-loop μ-loop
 loop-less c = search needs
 
--- src/lib.rt:151:5
 loop-again : tie.Need-loop-again Inv-loop μ-loop
 loop-again c = group-on (c .before .before .before .before .before .before .before .before .before .args .w) (c .before .before .before .before .before .before .before .before .before .args .kind) (c .before .before .before .before .before .loop .left) (c .before .before .before .before .before .loop .inv) (c .before .before .before .before .before .before .before .before .before .pre .1 .0 .0) (c .before .before .before .before .loop-test .taken) (c .before .before .put-element .ensures) (c .before .before .put-element .kept .1 .1 .1 .1 .0)
 
--- src/lib.rt:141:1
 same-length : tie.Need-same-length Inv-loop μ-loop
 same-length c = c .before .loop .inv .long
 
--- src/lib.rt:141:1
 returns : tie.Need-returns Inv-loop μ-loop
 returns c = group-done (c .before .before .before .before .before .args .w) (c .before .before .before .before .before .args .kind) (c .before .loop .left) (c .before .loop .inv) (c .loop-test .left)
 
@@ -58,7 +43,7 @@ put-group-spec =
     (tie.spec
     Inv-loop
     μ-loop
-    number-requires
+    short-number-requires
     add-from
     loop-holds
     put-element-requires

@@ -3,28 +3,19 @@ use Rattle.form.proofs.LoopLaws.{record-fixed, record-groups, record-co
 use borrow.Author.Needs.{needs}
 use Rattle.form.proofs.put_record.Statement.{statement}
 use Rattle.form.proofs.put_record.Tie as tie
-use Rattle.form.proofs.put_record.Reads as reads
-use Rattle.form.proofs.put_record.Lts as lts
-use Rattle.form.proofs.put_fixed.Reads as put-fixed-reads
-use Rattle.form.proofs.put_groups.Reads as put-groups-reads
 
--- src/lib.rt:212:9
 put-fixed-requires : tie.Need-put-fixed-requires
 put-fixed-requires c κs = (c .before .before .before .pre .0, record-fixed 255 (c .before .before .before .args .w) (c .before .before .before .pre .1))
 
--- src/lib.rt:213:22
 add-put-groups : tie.Need-add-put-groups
 add-put-groups c = let g = record-groups 255 (c .before .before .before .before .before .before .before .args .w) (c .before .before .before .before .before .before .before .pre .1) (c .before .before .before .put-fixed .ensures) in omega (arith, g .inside, g .small)
 
--- src/lib.rt:213:5
 put-groups-requires : tie.Need-put-groups-requires
 put-groups-requires c κs = (c .before .before .before .before .before .before .before .before .pre .0, record-groups 255 (c .before .before .before .before .before .before .before .before .args .w) (c .before .before .before .before .before .before .before .before .pre .1) (c .before .before .before .before .put-fixed .ensures))
 
--- src/lib.rt:206:1
 same-length : tie.Need-same-length
 same-length c = search needs
 
--- src/lib.rt:206:1
 returns : tie.Need-returns
 returns c = record-copied 255 (c .before .before .before .before .before .before .before .before .before .before .before .args .w) (c .before .before .before .before .before .before .before .before .before .before .before .pre .1) (c .before .before .before .before .before .before .before .put-fixed .ensures) (c .before .before .put-groups .ensures)
 

@@ -7,51 +7,37 @@ use Rattle.form.proofs.Stores.{sets-cut}
 use borrow.Author.Needs.{needs}
 use Rattle.form.proofs.store_bytes.Statement.{statement}
 use Rattle.form.proofs.store_bytes.Tie as tie
-use Rattle.form.proofs.store_bytes.Reads as reads
-use Rattle.form.proofs.store_bytes.Lts as lts
-use Rattle.wire.proofs.put_bytes.Reads as put-bytes-reads
 
--- src/lib.rt:34:8
 add-if1 : tie.Need-add-if1
 add-if1 c = search needs
 
--- src/lib.rt:35:9
 put-bytes-requires : tie.Need-put-bytes-requires
 put-bytes-requires c κs = search needs
 
--- src/lib.rt:36:9
 same-length : tie.Need-same-length
 same-length c = search needs
 
--- src/lib.rt:36:9
 returns : tie.Need-returns
 returns c = search needs
 
--- src/lib.rt:39:20
 sub-room : tie.Need-sub-room
 sub-room c = search needs
 
--- src/lib.rt:40:34
 sub-put-bytes : tie.Need-sub-put-bytes
 sub-put-bytes c = search needs
 
--- src/lib.rt:40:34
 part-put-bytes-start : tie.Need-part-put-bytes-start
 part-put-bytes-start c = search needs
 
--- src/lib.rt:40:34
 part-put-bytes-end : tie.Need-part-put-bytes-end
 part-put-bytes-end c = search needs
 
--- src/lib.rt:40:9
 put-bytes-requires-2 : tie.Need-put-bytes-requires-2
 put-bytes-requires-2 c κs = search needs
 
--- src/lib.rt:30:1
 same-length-2 : tie.Need-same-length-2
 same-length-2 c = search needs
 
--- src/lib.rt:30:1
 returns-2 : tie.Need-returns-2
 returns-2 c = let args = c .before .before .before .before .before .before .before .before .before .args in
     let out = args .out .now in
@@ -59,7 +45,6 @@ returns-2 c = let args = c .before .before .before .before .before .before .befo
     let same : room - 0 ≡ room = omega arith in
     c .before .before .put-bytes2 .ensures ∙ ap (λ (n : ℕ). sets out (args .at) (take n (args .src .now))) same ∙ sets-cut out (args .at) room (args .src .now) (omega arith)
 
--- src/lib.rt:30:1
 returns-3 : tie.Need-returns-3
 returns-3 c = let args = c .before .before .before .before .args in sets-cut (args .out .now) (args .at) 0 (args .src .now) (omega arith)
 

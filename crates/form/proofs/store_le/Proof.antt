@@ -8,46 +8,34 @@ use Rattle.form.proofs.Stores.{sets-cut, le-cut}
 use borrow.Author.Needs.{needs}
 use Rattle.form.proofs.store_le.Statement.{statement}
 use Rattle.form.proofs.store_le.Tie as tie
-use Rattle.form.proofs.store_le.Reads as reads
-use Rattle.form.proofs.store_le.Lts as lts
-use Rattle.wire.proofs.put_le.Reads as put-le-reads
 
--- src/lib.rt:20:8
 add-if1 : tie.Need-add-if1
 add-if1 c = search needs
 
--- src/lib.rt:21:9
 put-le-requires : tie.Need-put-le-requires
 put-le-requires c κs = search needs
 
--- src/lib.rt:22:9
 same-length : tie.Need-same-length
 same-length c = search needs
 
--- src/lib.rt:22:9
 returns : tie.Need-returns
 returns c = search needs
 
--- src/lib.rt:25:31
 sub-put-le : tie.Need-sub-put-le
 sub-put-le c = search needs
 
--- src/lib.rt:25:9
 put-le-requires-2 : tie.Need-put-le-requires-2
 put-le-requires-2 c κs = search needs
 
--- src/lib.rt:16:1
 same-length-2 : tie.Need-same-length-2
 same-length-2 c = search needs
 
--- src/lib.rt:16:1
 returns-2 : tie.Need-returns-2
 returns-2 c = let args = c .before .before .before .before .before .before .before .args in
     let out = args .out .now in
     let room = length out - args .at in
     c .before .before .put-le2 .ensures ∙ ap (sets out (args .at)) (le-cut room (args .w) (args .n) (omega arith)) ∙ sets-cut out (args .at) room (le (args .w) (args .n)) (omega arith)
 
--- src/lib.rt:16:1
 returns-3 : tie.Need-returns-3
 returns-3 c = let args = c .before .before .before .args in sets-cut (args .out .now) (args .at) 0 (le (args .w) (args .n)) (omega arith)
 

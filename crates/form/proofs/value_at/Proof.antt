@@ -7,27 +7,19 @@ use Rattle.walk.proofs.WalkLaws.{variable-size, fixed-size}
 use borrow.Author.Needs.{needs}
 use Rattle.form.proofs.value_at.Statement.{statement}
 use Rattle.form.proofs.value_at.Tie as tie
-use Rattle.form.proofs.value_at.Reads as reads
-use Rattle.form.proofs.value_at.Lts as lts
-use Rattle.wire.proofs.be16.Reads as be16-reads
 
--- src/lib.rt:105:20
 add-t5 : tie.Need-add-t5
 add-t5 c = let h = c .before .before .pre (c .if1 .taken) in omega arith
 
--- src/lib.rt:106:19
 be16-requires : tie.Need-be16-requires
 be16-requires c κs = c .before .before .pre (c .if1 .taken)
 
--- src/lib.rt:106:19
 cast-t7 : tie.Need-cast-t7
 cast-t7 c = search needs
 
--- src/lib.rt:104:9
 returns : tie.Need-returns
 returns c = variable-size (c .before .before .before .args .s .now) (c .before .before .before .args .at) (c .before .before .before .args .kind) (c .before .if1 .taken) ∙ number-got 2 (c .before .before .before .args .s .now) (c .before .before .before .args .at) (c .before .before .before .pre (c .before .if1 .taken)) ∙ ap (λ (n : ℕ). got n (c .before .before .before .args .at + 2)) (sym (c .be16 .ensures))
 
--- src/lib.rt:99:1
 returns-2 : tie.Need-returns-2
 returns-2 c = fixed-size (c .before .before .args .s .now) (c .before .before .args .at) (c .before .before .args .kind) (c .if1 .left)
 

@@ -1,52 +1,75 @@
+use Rattle.rebuild.proofs.RunLaws.{Grouping, grouping-start, grouping-room, grouping-fits, grouping-on, grouping-done}
+use Rattle.rebuild.proofs.StoredLaws.{left-length}
+use Rattle.rebuild.proofs.Bounds.{few}
+use Rattle.walk.proofs.KindLaws.{kinds-few, kind-known}
+use Rattle.avl.specs.Codecs.{kinds}
+use lib.ListN.{length}
+use mathlib.Core.Path.{_≡_, _∙_}
 use native.Mathlib.Omega.{arith}
-use Rattle.rebuild.proofs.LayoutLaws.{groups-fixed, groups-variable, four-inside, five-inside}
-use Rattle.rebuild.proofs.StoredLaws.{stored-then, stored-length, stored-as}
-use Rattle.rebuild.specs.FormPlaces.{elementsAt}
+use Prim.Native.Nat.{_^_, _-_, _≤_, _<_}
+use borrow.Author.Needs.{needs}
 use Rattle.rebuild.proofs.put_groups.Statement.{statement}
 use Rattle.rebuild.proofs.put_groups.Tie as tie
 
-put-group-requires : tie.Need-put-group-requires
-put-group-requires c κs = let room = four-inside (c .before .before .before .args .w) (elementsAt (c .before .before .before .args .f .now) (c .before .before .before .args .from)) in
-    (c .before .before .before .pre .0, (c .before .before .before .pre .1 .0, omega (arith, c .before .before .before .pre .1 .1)))
+abbrev Inv-loop : tie.InvT-loop
+Inv-loop w f from out₀ to n at₀ next₀ sum₀ k₀ out at next sum k = Grouping w f from out₀ to out at next sum k
 
-put-group-requires-2 : tie.Need-put-group-requires-2
-put-group-requires-2 c κs = let room = four-inside (c .before .before .before .before .before .before .before .args .w) (elementsAt (c .before .before .before .before .before .before .before .args .f .now) (c .before .before .before .before .before .before .before .args .from)) in
-    (c .before .before .before .before .before .before .before .pre .0, (c .before .before .before .before .before .before .before .pre .1 .0, omega (arith, c .before .before .before .before .before .before .before .pre .1 .1, c .before .before .before .put-group .ensures .place)))
+abbrev μ-loop : tie.MeasureT-loop
+μ-loop w f from out₀ to n at₀ next₀ sum₀ k₀ out at next sum k = n - k
 
-put-group-requires-3 : tie.Need-put-group-requires-3
-put-group-requires-3 c κs = let room = four-inside (c .before .before .before .before .before .before .before .before .before .before .before .args .w) (elementsAt (c .before .before .before .before .before .before .before .before .before .before .before .args .f .now) (c .before .before .before .before .before .before .before .before .before .before .before .args .from)) in
-    (c .before .before .before .before .before .before .before .before .before .before .before .pre .0, (c .before .before .before .before .before .before .before .before .before .before .before .pre .1 .0, omega (arith, c .before .before .before .before .before .before .before .before .before .before .before .pre .1 .1, c .before .before .before .before .before .before .before .put-group .ensures .place, c .before .before .before .put-group2 .ensures .place)))
+kind-count-requires : tie.Need-kind-count-requires Inv-loop μ-loop
+kind-count-requires c κs = tt
 
-put-group-requires-4 : tie.Need-put-group-requires-4
-put-group-requires-4 c κs = let room = four-inside (c .before .before .before .before .before .before .before .before .before .before .before .before .before .before .before .args .w) (elementsAt (c .before .before .before .before .before .before .before .before .before .before .before .before .before .before .before .args .f .now) (c .before .before .before .before .before .before .before .before .before .before .before .before .before .before .before .args .from)) in
-    (c .before .before .before .before .before .before .before .before .before .before .before .before .before .before .before .pre .0, (c .before .before .before .before .before .before .before .before .before .before .before .before .before .before .before .pre .1 .0, omega (arith, c .before .before .before .before .before .before .before .before .before .before .before .before .before .before .before .pre .1 .1, c .before .before .before .before .before .before .before .before .before .before .before .put-group .ensures .place, c .before .before .before .before .before .before .before .put-group2 .ensures .place, c .before .before .before .put-group3 .ensures .place)))
+loop-holds : tie.Need-loop-holds Inv-loop μ-loop
+loop-holds c = grouping-start (c .before .before .before .args .w) (c .before .before .before .args .f .now) (c .before .before .before .args .from) (c .before .before .before .args .out .now) (c .before .before .before .args .to)
 
-put-group-requires-5 : tie.Need-put-group-requires-5
-put-group-requires-5 c κs = let room = five-inside (c .before .before .before .before .before .before .before .before .before .before .before .before .before .before .before .before .before .before .before .before .args .w) (elementsAt (c .before .before .before .before .before .before .before .before .before .before .before .before .before .before .before .before .before .before .before .before .args .f .now) (c .before .before .before .before .before .before .before .before .before .before .before .before .before .before .before .before .before .before .before .before .args .from)) (c .before .if1 .taken) in
-    (c .before .before .before .before .before .before .before .before .before .before .before .before .before .before .before .before .before .before .before .before .pre .0, (c .before .before .before .before .before .before .before .before .before .before .before .before .before .before .before .before .before .before .before .before .pre .1 .0, omega (arith, c .before .before .before .before .before .before .before .before .before .before .before .before .before .before .before .before .before .before .before .before .pre .1 .1, c .before .before .before .before .before .before .before .before .before .before .before .before .before .before .before .before .put-group .ensures .place, c .before .before .before .before .before .before .before .before .before .before .before .before .put-group2 .ensures .place, c .before .before .before .before .before .before .before .before .put-group3 .ensures .place, c .before .before .before .before .put-group4 .ensures .place)))
+kind-at-requires : tie.Need-kind-at-requires Inv-loop μ-loop
+kind-at-requires c κs = omega (arith, kinds-few (c .before .before .before .before .before .args .w), c .before .before .kind-count .ensures)
 
-returns : tie.Need-returns
-returns c = stored-as (groups-variable (c .before .before .before .before .before .before .before .before .before .before .before .before .before .before .before .before .before .before .before .before .before .before .before .args .w) (elementsAt (c .before .before .before .before .before .before .before .before .before .before .before .before .before .before .before .before .before .before .before .before .before .before .before .args .f .now) (c .before .before .before .before .before .before .before .before .before .before .before .before .before .before .before .before .before .before .before .before .before .before .before .args .from)) (c .before .before .before .before .if1 .taken)) (stored-then (c .before .before .before .before .before .before .before .before .before .before .before .before .before .before .before .before .before .before .before .put-group .ensures) (stored-then (c .before .before .before .before .before .before .before .before .before .before .before .before .before .before .before .put-group2 .ensures) (stored-then (c .before .before .before .before .before .before .before .before .before .before .before .put-group3 .ensures) (stored-then (c .before .before .before .before .before .before .before .put-group4 .ensures) (c .before .before .put-group5 .ensures)))))
+put-group-requires : tie.Need-put-group-requires Inv-loop μ-loop
+put-group-requires c κs = let w = c .before .before .before .before .before .before .before .args .w in
+    let h : c .before .before .before .loop .k < length (kinds w) = omega (arith, c .before .before .loop-test .taken, c .before .before .before .before .kind-count .ensures) in
+    (c .before .before .before .before .before .before .before .pre .0, (c .before .before .before .before .before .before .before .pre .1 .0, grouping-room w (c .before .before .before .before .before .before .before .args .f .now) (c .before .before .before .before .before .before .before .args .from) (c .before .before .before .loop .inv) h (c .before .kind-at .ensures ∙ kind-known w (c .before .before .before .loop .k) h) (2 ^ 40) (c .before .before .before .before .before .before .before .pre .1 .1)))
 
-same-length : tie.Need-same-length
-same-length c = stored-length (returns c)
+share-requires : tie.Need-share-requires Inv-loop μ-loop
+share-requires c κs = tt
 
-returns-2 : tie.Need-returns-2
-returns-2 c = stored-as (groups-fixed (c .before .before .before .before .before .before .before .before .before .before .before .before .before .before .before .before .before .before .before .args .w) (elementsAt (c .before .before .before .before .before .before .before .before .before .before .before .before .before .before .before .before .before .before .before .args .f .now) (c .before .before .before .before .before .before .before .before .before .before .before .before .before .before .before .before .before .before .before .args .from)) (c .if1 .left)) (stored-then (c .before .before .before .before .before .before .before .before .before .before .before .before .before .before .before .put-group .ensures) (stored-then (c .before .before .before .before .before .before .before .before .before .before .before .put-group2 .ensures) (stored-then (c .before .before .before .before .before .before .before .put-group3 .ensures) (c .before .before .before .put-group4 .ensures))))
+add-sum : tie.Need-add-sum Inv-loop μ-loop
+add-sum c = let w = c .before .before .before .before .before .before .before .before .before .before .before .args .w in
+    let h : c .before .before .before .before .before .before .before .loop .k < length (kinds w) = omega (arith, c .before .before .before .before .before .before .loop-test .taken, c .before .before .before .before .before .before .before .before .kind-count .ensures) in
+    omega (arith, grouping-fits w (c .before .before .before .before .before .before .before .before .before .before .before .args .f .now) (c .before .before .before .before .before .before .before .before .before .before .before .args .from) (c .before .before .before .before .before .before .before .loop .inv) h (c .before .before .before .before .before .kind-at .ensures ∙ kind-known w (c .before .before .before .before .before .before .before .loop .k) h) _ _ (c .before .before .before .put-group .ensures .told) (c .share .ensures), few (kinds w) (c .before .before .before .before .before .before .before .before .before .before .before .args .f .now) (c .before .before .before .before .before .before .before .before .before .before .before .args .from) (c .before .before .before .before .before .before .before .before .before .before .before .pre .1 .0))
 
-same-length-2 : tie.Need-same-length-2
-same-length-2 c = stored-length (returns-2 c)
+add-k : tie.Need-add-k Inv-loop μ-loop
+add-k c = search needs
+
+loop-less : tie.Need-loop-less Inv-loop μ-loop
+loop-less c = search needs
+
+loop-again : tie.Need-loop-again Inv-loop μ-loop
+loop-again c = let w = c .before .before .before .before .before .before .before .before .before .before .before .args .w in
+    let h : c .before .before .before .before .before .before .before .loop .k < length (kinds w) = omega (arith, c .before .before .before .before .before .before .loop-test .taken, c .before .before .before .before .before .before .before .before .kind-count .ensures) in
+    grouping-on w (c .before .before .before .before .before .before .before .before .before .before .before .args .f .now) (c .before .before .before .before .before .before .before .before .before .before .before .args .from) (c .before .before .before .before .before .before .before .loop .inv) h (c .before .before .before .before .before .kind-at .ensures ∙ kind-known w (c .before .before .before .before .before .before .before .loop .k) h) _ (c .before .before .before .put-group .ensures) (c .share .ensures)
+
+same-length : tie.Need-same-length Inv-loop μ-loop
+same-length c = left-length (c .before .loop .inv .left)
+
+returns : tie.Need-returns Inv-loop μ-loop
+returns c = grouping-done (c .before .before .before .before .before .args .w) (c .before .before .before .before .before .args .f .now) (c .before .before .before .before .before .args .from) (c .before .loop .inv) (omega (arith, c .loop-test .left, c .before .before .kind-count .ensures))
 
 pub put-groups-spec : {M : Type 1} → statement M
 put-groups-spec =
     tie.close
     (tie.spec
+    Inv-loop
+    μ-loop
+    kind-count-requires
+    loop-holds
+    kind-at-requires
     put-group-requires
-    put-group-requires-2
-    put-group-requires-3
-    put-group-requires-4
-    put-group-requires-5
+    share-requires
+    add-sum
+    add-k
+    loop-less
+    loop-again
     same-length
-    returns
-    same-length-2
-    returns-2)
+    returns)

@@ -1,18 +1,11 @@
-use Prim.Native.Nat.{_-_, ℕ, min}
-use native.Mathlib.Omega.{arith}
-use mathlib.Core.Path.{ap, _∙_}
-use mathlib.Core.List.{List}
-use lib.ListN.{take, drop, length}
-use borrow.Author.Needs.{needs}
-use Rattle.wire.specs.Numbers.{be}
-use Rattle.avl.specs.Records.{total, fixedBytes, groupsBytes, recordBytes}
-use Rattle.avl.specs.Codecs.{kinds}
-use Rattle.tlv.specs.Entries.{Entry}
-use Rattle.tlv.specs.Decoding.{fixedOf, groupsOf}
-use Rattle.rebuild.proofs.StoredLaws.{stored-then, stored-length, stored-as}
-use Rattle.rebuild.proofs.LayoutLaws.{length-fixedBytes, length-recordBytes, total-fixed}
+use Rattle.rebuild.proofs.RunLaws.{record-room, record-goes}
 use Rattle.rebuild.proofs.OffsetLaws.{body-part}
-use Rattle.rebuild.specs.FormPlaces.{elementsAt, recordAt}
+use Rattle.tlv.specs.Decoding.{fixedOf}
+use lib.ListN.{length, take, drop}
+use mathlib.Core.Path.{ap, _∙_}
+use native.Mathlib.Omega.{arith}
+use Prim.Native.Nat.{ℕ, _-_, min}
+use borrow.Author.Needs.{needs}
 use Rattle.rebuild.proofs.put_record.Statement.{statement}
 use Rattle.rebuild.proofs.put_record.Tie as tie
 
@@ -40,34 +33,22 @@ part-put-fixed-end c = search needs
 put-fixed-requires : tie.Need-put-fixed-requires
 put-fixed-requires c κs = search needs
 
-total-from-requires : tie.Need-total-from-requires
-total-from-requires c κs = search needs
-
-store-be-requires : tie.Need-store-be-requires
-store-be-requires c κs = let f = c .before .before .before .before .before .before .before .before .before .before .before .before .args .f .now in
-    let w = c .before .before .before .before .before .before .before .before .before .before .before .before .args .w in
-    let narrow = c .before .before .before .before .before .before .before .before .before .before .before .before .pre .0 in
-    omega (arith, narrow .event, narrow .generation, narrow .count, c .before .before .before .before .before .before .before .before .before .before .before .before .pre .1 .1, c .before .before .before .before .put-fixed .ensures .place, length-fixedBytes w (fixedOf (take (c .before .before .before .before .before .before .before .clipped2 .result - c .before .before .before .before .before .before .before .before .clipped .result) (drop (c .before .before .before .before .before .before .before .before .clipped .result) f))))
+add-put-groups : tie.Need-add-put-groups
+add-put-groups c = let x = fixedOf (take (c .before .before .before .before .before .before .clipped2 .result - c .before .before .before .before .before .before .before .clipped .result) (drop (c .before .before .before .before .before .before .before .clipped .result) (c .before .before .before .before .before .before .before .before .before .before .before .args .f .now))) in
+    omega (arith, record-room (c .before .before .before .before .before .before .before .before .before .before .before .args .w) (c .before .before .before .before .before .before .before .before .before .before .before .args .f .now) (c .before .before .before .before .before .before .before .before .before .before .before .args .at) x (c .before .before .before .before .before .before .before .before .before .before .before .args .to) (c .before .before .before .before .before .before .before .before .next-at .ensures) (c .before .before .before .put-fixed .ensures .place) (c .before .before .before .before .before .before .before .before .before .before .before .pre .1 .1))
 
 put-groups-requires : tie.Need-put-groups-requires
-put-groups-requires c κs = let f = c .before .before .before .before .before .before .before .before .before .before .before .before .before .before .before .before .args .f .now in
-    let w = c .before .before .before .before .before .before .before .before .before .before .before .before .before .before .before .before .args .w in
-    let same = ap (λ (n : ℕ). length (groupsBytes w (kinds w) (groupsOf (kinds w) (elementsAt f n)))) (c .before .before .before .before .before .before .before .before .before .before .before .before .before .next-at .ensures) in
-    (c .before .before .before .before .before .before .before .before .before .before .before .before .before .before .before .before .pre .0, (c .before .before .before .before .before .before .before .before .before .before .before .before .before .before .before .before .pre .1 .0 .0, omega (arith, c .before .before .before .before .before .before .before .before .before .before .before .before .before .before .before .before .pre .1 .1, same, c .before .before .before .store-be .ensures .0, c .before .before .before .before .before .before .before .before .put-fixed .ensures .place, length-fixedBytes w (fixedOf (take (c .before .before .before .before .before .before .before .before .before .before .before .clipped2 .result - c .before .before .before .before .before .before .before .before .before .before .before .before .clipped .result) (drop (c .before .before .before .before .before .before .before .before .before .before .before .before .clipped .result) f))), length-recordBytes w (recordAt (kinds w) f (c .before .before .before .before .before .before .before .before .before .before .before .before .before .before .before .before .args .at)))))
+put-groups-requires c κs = let x = fixedOf (take (c .before .before .before .before .before .before .clipped2 .result - c .before .before .before .before .before .before .before .clipped .result) (drop (c .before .before .before .before .before .before .before .clipped .result) (c .before .before .before .before .before .before .before .before .before .before .before .args .f .now))) in
+    (c .before .before .before .before .before .before .before .before .before .before .before .pre .0, (c .before .before .before .before .before .before .before .before .before .before .before .pre .1 .0 .0, record-room (c .before .before .before .before .before .before .before .before .before .before .before .args .w) (c .before .before .before .before .before .before .before .before .before .before .before .args .f .now) (c .before .before .before .before .before .before .before .before .before .before .before .args .at) x (c .before .before .before .before .before .before .before .before .before .before .before .args .to) (c .before .before .before .before .before .before .before .before .next-at .ensures) (c .before .before .before .put-fixed .ensures .place) (c .before .before .before .before .before .before .before .before .before .before .before .pre .1 .1)))
 
-returns : tie.Need-returns
-unfolding recordBytes
-returns c = let w = c .before .before .before .before .before .before .before .before .before .before .before .before .before .before .before .before .before .before .before .args .w in
-    let f = c .before .before .before .before .before .before .before .before .before .before .before .before .before .before .before .before .before .before .before .args .f .now in
-    let es : ℕ → List Entry = elementsAt f in
-    let body = body-part f (c .before .before .before .before .before .before .before .before .before .before .before .before .before .before .before .before .before .before .before .args .at) (c .before .before .before .before .before .before .before .before .before .before .before .before .before .before .before .clipped .result) (c .before .before .before .before .before .before .before .before .before .before .before .before .before .before .clipped2 .result) (c .before .before .before .before .before .before .before .before .before .before .before .before .before .before .before .clipped .ensures) (c .before .before .before .before .before .before .before .before .before .before .before .before .before .before .clipped2 .ensures ∙ ap (λ (n : ℕ). min n (length f)) (c .before .before .before .before .before .before .before .before .before .before .before .before .before .before .before .before .next-at .ensures)) in
-    let sum = c .before .before .before .before .before .before .before .before .total-from .ensures ∙ total-fixed w (es (c .before .before .before .before .before .before .before .before .before .before .before .before .before .before .before .before .next-at .result)) ∙ ap (λ (n : ℕ). total (groupsOf (kinds w) (es n))) (c .before .before .before .before .before .before .before .before .before .before .before .before .before .before .before .before .next-at .ensures) in
-    stored-then (stored-as (ap (λ (b : List ℕ). fixedBytes w (fixedOf b)) body) (c .before .before .before .before .before .before .before .before .before .before .before .put-fixed .ensures))
-    (stored-then (stored-as (ap (be (w .count)) sum) (c .before .before .before .before .before .before .store-be .ensures .1))
-    (stored-as (ap (λ (n : ℕ). groupsBytes w (kinds w) (groupsOf (kinds w) (es n))) (c .before .before .before .before .before .before .before .before .before .before .before .before .before .before .before .before .next-at .ensures)) (c .before .before .put-groups .ensures)))
+store-be-requires : tie.Need-store-be-requires
+store-be-requires c κs = search needs
 
 same-length : tie.Need-same-length
-same-length c = stored-length (returns c)
+same-length c = search needs
+
+returns : tie.Need-returns
+returns c = record-goes (c .before .before .before .before .before .before .before .before .before .before .before .before .before .before .before .before .before .before .args .w) (c .before .before .before .before .before .before .before .before .before .before .before .before .before .before .before .before .before .before .args .f .now) (c .before .before .before .before .before .before .before .before .before .before .before .before .before .before .before .before .before .before .args .at) (c .before .before .before .before .before .before .before .before .before .before .before .before .before .before .before .next-at .ensures) (body-part (c .before .before .before .before .before .before .before .before .before .before .before .before .before .before .before .before .before .before .args .f .now) (c .before .before .before .before .before .before .before .before .before .before .before .before .before .before .before .before .before .before .args .at) (c .before .before .before .before .before .before .before .before .before .before .before .before .before .before .clipped .result) (c .before .before .before .before .before .before .before .before .before .before .before .before .before .clipped2 .result) (c .before .before .before .before .before .before .before .before .before .before .before .before .before .before .clipped .ensures) (c .before .before .before .before .before .before .before .before .before .before .before .before .before .clipped2 .ensures ∙ ap (λ (n : ℕ). min n (length (c .before .before .before .before .before .before .before .before .before .before .before .before .before .before .before .before .before .before .args .f .now))) (c .before .before .before .before .before .before .before .before .before .before .before .before .before .before .before .next-at .ensures))) (c .before .before .before .before .before .before .before .before .before .before .put-fixed .ensures) (c .before .before .before .before .before .before .put-groups .ensures) (c .before .before .store-be .ensures .1) (c .before .before .store-be .ensures .0)
 
 pub put-record-spec : {M : Type 1} → statement M
 put-record-spec =
@@ -81,8 +62,8 @@ put-record-spec =
     part-put-fixed-start
     part-put-fixed-end
     put-fixed-requires
-    total-from-requires
-    store-be-requires
+    add-put-groups
     put-groups-requires
+    store-be-requires
     same-length
     returns)

@@ -6,8 +6,8 @@ use borrow.Author.Needs.{needs}
 use Rattle.wire.proofs.Widths.{getD-bytes}
 use Rattle.wire.specs.Numbers.{littleAt}
 use Rattle.rebuild.proofs.OffsetLaws.{little-more, little-room}
-use Rattle.rebuild.proofs.little.Statement.{statement}
-use Rattle.rebuild.proofs.little.Tie as tie
+use Rattle.rebuild.proofs.cut_little.Statement.{statement}
+use Rattle.rebuild.proofs.cut_little.Tie as tie
 
 abbrev Inv-loop : tie.InvT-loop
 Inv-loop f at w n₀ i₀ n i = (i ≤ w) × (n ≡ littleAt f (at + i) (w - i))
@@ -46,8 +46,8 @@ loop-again c = (omega arith, ap₂ (λ (a b : ℕ). a * 256 + b) (c .before .bef
 returns : tie.Need-returns Inv-loop μ-loop
 returns c = let done : c .before .loop .i ≡ 0 = omega arith in c .before .loop .inv .1 ∙ rw done (ap₂ (littleAt (c .before .before .before .args .f .now)) (add-zero (c .before .before .before .args .at)) (sub-zero (c .before .before .before .args .w)))
 
-pub little-spec : {M : Type 1} → statement M
-little-spec =
+pub cut-little-spec : {M : Type 1} → statement M
+cut-little-spec =
     tie.close
     (tie.spec
     Inv-loop
