@@ -1,0 +1,3 @@
+pub mod HexLaws
+pub mod HexAgain
+pub mod CalendarLaws
