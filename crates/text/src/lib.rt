@@ -4,6 +4,7 @@ ghost use Prim.Native.Nat.{_*_, _<_};
 ghost use lib.ListN.{length, set};
 ghost use lib.Seq.{sets};
 ghost use Rattle.text.specs.Hex.{among, markOf, kindOf, hexBytes, glyphOf, hexText};
+ghost use lib.IntN.{natAbs};
 ghost use Rattle.text.specs.Calendar.{leapDay, yearDays, monthDays, InYear, DateOf};
 
 // ---- hex text: digits in either case, white space anywhere
@@ -119,6 +120,18 @@ pub fn encode(s: &[u8], out: &mut [u8]) -> usize
         i += 1;
     }
     2 * s.len()
+}
+
+// ---- numbers
+
+// How far a number is from 0.
+pub fn distance(x: i32) -> u64
+    ensures { λ r. ⌜ r ≡ natAbs x ⌝ }
+{
+    if x < 0 {
+        return ((-1 - x) as u64) + 1;
+    }
+    x as u64
 }
 
 // ---- the calendar
