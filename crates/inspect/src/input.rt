@@ -33,6 +33,31 @@ fn read_all(fd: i32, name: &[u8], buf: &mut [u8]) -> Input {
     fail(b"inspect: the input is longer than 65536 bytes\n")
 }
 
+// The place of a word among words that each end in a space; their number if it is none of them.
+fn place_of(w: &[u8], words: &[u8]) -> usize {
+    let mut n: usize = 0;
+    let mut start: usize = 0;
+    let mut i: usize = 0;
+    while i < words.len() {
+        let end = i;
+        i += 1;
+        if words[end] == b' ' {
+            if check::same(w, &words[start..end]) {
+                return n;
+            }
+            n += 1;
+            start = i;
+        }
+    }
+    n
+}
+
+pub fn place_of_word(i: usize, words: &[u8]) -> usize {
+    let mut w = [0u8; 16];
+    let n = os::arg(i, &mut w);
+    place_of(&w[..n], words)
+}
+
 // Reads the file that word `i` names; where there is no such word, or it is "-", standard input.
 pub fn read_word(i: usize, buf: &mut [u8]) -> Input {
     let mut path = io::buffer();
@@ -81,35 +106,43 @@ pub fn to_bytes(s: &[u8], bytes: &mut [u8]) -> Input {
     }
 }
 
-pub fn starts(p: &[u8], with: &[u8]) -> bool {
-    if p.len() < with.len() {
-        return false;
+// The `w` bytes at `at` as a number; a number that no bytes give where they are not there.
+fn number_at(p: &[u8], at: usize, w: usize) -> u64 {
+    if 8 < at {
+        return u64::MAX;
     }
-    check::same(&p[0..with.len()], with)
+    if 4 < w {
+        return u64::MAX;
+    }
+    if p.len() < at + w {
+        return u64::MAX;
+    }
+    wire::number(p, at, w)
 }
 
 pub fn is_tcp(p: &[u8]) -> bool {
-    starts(p, &[0, 0, 0, 0])
+    number_at(p, 0, 4) == 0
 }
 
 // 17 bytes that start 00 0F: a login. Four zero bytes: a TCP packet, and the codec, at 8, tells a
-// command from data. 01 00 64 00: a TLV form, unless the IMEI's length stands at 6, as in a
+// command from data. 01 00 64 00: a TLV form, unless an IMEI's length stands at 6, as in a
 // datagram of 258 bytes with packet ID 6400. Anything else: a datagram.
 pub fn found(p: &[u8]) -> Task {
-    if p.len() == 17 && starts(p, &[0x00, 0x0F]) {
+    if p.len() == 17 && number_at(p, 0, 2) == 0x000F {
         return Task::Login;
     }
     if is_tcp(p) {
-        if 8 < p.len() && (p[8] == 0x0C || p[8] == 0x0E) {
-            return Task::Command;
-        }
-        return Task::Packet;
+        return tcp_task(number_at(p, 8, 1));
     }
-    if starts(p, &[0x01, 0x00, 0x64, 0x00]) {
-        if 8 < p.len() && p[6] == 0x00 && p[7] == 0x0F {
-            return Task::Datagram;
-        }
+    if number_at(p, 0, 4) == 0x0100_6400 && number_at(p, 6, 2) != 0x000F {
         return Task::Form;
     }
     Task::Datagram
+}
+
+fn tcp_task(codec: u64) -> Task {
+    match codec {
+        0x0C | 0x0E => Task::Command,
+        _ => Task::Packet,
+    }
 }

@@ -3,7 +3,6 @@
 mod input;
 mod page;
 mod records;
-mod refusal;
 mod show;
 
 use input::Input;
@@ -28,38 +27,7 @@ pub enum Task {
 fn usage(fd: i32) {
     io::write_all(
         fd,
-        b"inspect [KIND] [FILE]       what is in the input, or its refusal\n",
-    );
-    io::write_all(
-        fd,
-        b"inspect form-of [FILE]      the TLV form of a TCP data packet or a datagram\n",
-    );
-    io::write_all(
-        fd,
-        b"inspect packet-of [FILE]    the TCP data packet of a TLV form\n",
-    );
-    io::write_all(fd, b"inspect write 12 [TYPE] TEXT\n");
-    io::write_all(fd, b"inspect write 14 [TYPE] IMEI TEXT\n");
-    io::write_all(
-        fd,
-        b"                            a command packet of codec 12 or 14\n",
-    );
-    io::write_all(fd, b"inspect help                this text\n");
-    io::write_all(
-        fd,
-        b"KIND: packet, datagram, login, command, form, or auto (found out, also if left out)\n",
-    );
-    io::write_all(
-        fd,
-        b"FILE: bytes or hex text, at most 65536; standard input if left out or -\n",
-    );
-    io::write_all(
-        fd,
-        b"TYPE: command (if left out), response, or mismatch (IMEI doesn't match)\n",
-    );
-    io::write_all(
-        fd,
-        b"The exit status is always 0: read the output. A refusal is a line 'refused: ..'.\n",
+        b"inspect [KIND] [FILE]       what is in the input, or its refusal\ninspect form-of [FILE]      the TLV form of a TCP data packet or a datagram, as hex text\ninspect packet-of [FILE]    the TCP data packet of a TLV form, as hex text\ninspect write 12 [TYPE] TEXT\ninspect write 14 [TYPE] IMEI TEXT\n                            a command packet of codec 12 or 14, as hex text\ninspect help                this text\nKIND: packet, datagram, login, command, form, or auto (found out, also if left out)\nFILE: at most 65536 bytes, hex text or as they are; standard input if left out or -\nTYPE: command (also if left out), response, or mismatch (IMEI doesn't match)\nA refusal is a line 'refused: NUMBER ..' on standard output. The exit status says nothing.\n",
     );
 }
 
@@ -68,38 +36,21 @@ fn wrong() {
     usage(STDERR_FILENO);
 }
 
-fn task_of(w: &[u8]) -> Task {
-    if check::same(w, b"auto") {
-        return Task::Auto;
+fn task_of(i: usize) -> Task {
+    let words = b"auto packet datagram login command form form-of packet-of write help ";
+    match input::place_of_word(i, words) {
+        0 => Task::Auto,
+        1 => Task::Packet,
+        2 => Task::Datagram,
+        3 => Task::Login,
+        4 => Task::Command,
+        5 => Task::Form,
+        6 => Task::FormOf,
+        7 => Task::PacketOf,
+        8 => Task::Write,
+        9 => Task::Help,
+        _ => Task::Unknown,
     }
-    if check::same(w, b"packet") {
-        return Task::Packet;
-    }
-    if check::same(w, b"datagram") {
-        return Task::Datagram;
-    }
-    if check::same(w, b"login") {
-        return Task::Login;
-    }
-    if check::same(w, b"command") {
-        return Task::Command;
-    }
-    if check::same(w, b"form") {
-        return Task::Form;
-    }
-    if check::same(w, b"form-of") {
-        return Task::FormOf;
-    }
-    if check::same(w, b"packet-of") {
-        return Task::PacketOf;
-    }
-    if check::same(w, b"write") {
-        return Task::Write;
-    }
-    if check::same(w, b"help") {
-        return Task::Help;
-    }
-    Task::Unknown
 }
 
 fn put_task(page: &mut [u8], task: Task, p: &[u8]) -> usize {
@@ -154,33 +105,6 @@ fn inspect(task: Task, i: usize) {
     }
 }
 
-fn kind_of_word(i: usize) -> u8 {
-    let mut w = [0u8; 16];
-    let n = os::arg(i, &mut w);
-    if check::same(&w[..n], b"command") {
-        return 0x05;
-    }
-    if check::same(&w[..n], b"response") {
-        return 0x06;
-    }
-    if check::same(&w[..n], b"mismatch") {
-        return 0x11;
-    }
-    0
-}
-
-fn codec_of_word(i: usize) -> u8 {
-    let mut w = [0u8; 16];
-    let n = os::arg(i, &mut w);
-    if check::same(&w[..n], b"12") {
-        return 0x0C;
-    }
-    if check::same(&w[..n], b"14") {
-        return 0x0E;
-    }
-    0
-}
-
 // Writes a command with the text of word `j` and, in codec 14, the IMEI of word `i`.
 fn write_words(codec: u8, kind: u8, i: usize, j: usize) {
     let mut imei = [0u8; 16];
@@ -205,29 +129,37 @@ fn write_words(codec: u8, kind: u8, i: usize, j: usize) {
 
 // The same, with the type that word 3 names.
 fn write_typed(codec: u8, i: usize, j: usize) {
-    let kind = kind_of_word(3);
-    if kind == 0 {
-        return wrong();
+    match input::place_of_word(3, b"command response mismatch ") {
+        0 => write_words(codec, 0x05, i, j),
+        1 => write_words(codec, 0x06, i, j),
+        2 => write_words(codec, 0x11, i, j),
+        _ => wrong(),
     }
-    write_words(codec, kind, i, j)
 }
 
-// A command of codec 12 has a text, one of codec 14 an IMEI before it; a word for the type may stand before both.
+// A command of codec 12 has a text, one of codec 14 an IMEI before it; a type may stand before both.
+fn write_12(words: usize) {
+    match words {
+        4 => write_words(0x0C, 0x05, 2, 3),
+        5 => write_typed(0x0C, 3, 4),
+        _ => wrong(),
+    }
+}
+
+fn write_14(words: usize) {
+    match words {
+        5 => write_words(0x0E, 0x05, 3, 4),
+        6 => write_typed(0x0E, 4, 5),
+        _ => wrong(),
+    }
+}
+
 fn write_task(words: usize) {
-    let codec = codec_of_word(2);
-    if codec == 0x0C && words == 4 {
-        return write_words(codec, 0x05, 2, 3);
+    match input::place_of_word(2, b"12 14 ") {
+        0 => write_12(words),
+        1 => write_14(words),
+        _ => wrong(),
     }
-    if codec == 0x0C && words == 5 {
-        return write_typed(codec, 3, 4);
-    }
-    if codec == 0x0E && words == 5 {
-        return write_words(codec, 0x05, 3, 4);
-    }
-    if codec == 0x0E && words == 6 {
-        return write_typed(codec, 4, 5);
-    }
-    wrong()
 }
 
 fn read_task(task: Task, words: usize) {
@@ -242,9 +174,7 @@ fn main() {
     if words < 2 {
         return inspect(Task::Auto, 1);
     }
-    let mut w = [0u8; 16];
-    let n = os::arg(1, &mut w);
-    let task = task_of(&w[..n]);
+    let task = task_of(1);
     match task {
         Task::Help => usage(STDOUT_FILENO),
         Task::Write => write_task(words),

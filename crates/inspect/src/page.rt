@@ -46,44 +46,76 @@ fn put_times(page: &mut [u8], at: usize, b: u8, times: usize) -> usize {
     to
 }
 
-pub fn put_number(page: &mut [u8], at: usize, n: u64) -> usize {
-    let mut digits = [0u8; 20];
-    let k = io::decimal(n, &mut digits);
-    put_text(page, at, &digits[..k])
+fn less(a: usize, b: usize) -> usize {
+    if b < a { a - b } else { 0 }
 }
 
 // A number of at least `width` digits, zeros in front.
-pub fn put_padded(page: &mut [u8], at: usize, n: u64, width: usize) -> usize {
+fn put_padded(page: &mut [u8], at: usize, n: u64, width: usize) -> usize {
     let mut digits = [0u8; 20];
     let k = io::decimal(n, &mut digits);
-    let zeros = if k < width { width - k } else { 0 };
-    let to = put_times(page, at, b'0', zeros);
+    let to = put_times(page, at, b'0', less(width, k));
     put_text(page, to, &digits[..k])
 }
 
 // A number and spaces behind it, a column of at least `width`.
-pub fn put_column(page: &mut [u8], at: usize, n: u64, width: usize) -> usize {
+fn put_column(page: &mut [u8], at: usize, n: u64, width: usize) -> usize {
     let mut digits = [0u8; 20];
     let k = io::decimal(n, &mut digits);
-    let spaces = if k < width { width - k } else { 0 };
     let to = put_text(page, at, &digits[..k]);
-    put_times(page, to, b' ', spaces)
+    put_times(page, to, b' ', less(width, k))
 }
 
-// A name and a number.
-pub fn put_field(page: &mut [u8], at: usize, name: &[u8], n: u64) -> usize {
-    let to = put_text(page, at, name);
-    put_number(page, to, n)
-}
-
-// A number and a word, in the plural unless the number is 1.
-pub fn put_many(page: &mut [u8], at: usize, n: u64, word: &[u8]) -> usize {
-    let mut to = put_number(page, at, n);
-    to = put_text(page, to, word);
-    if n == 1 {
-        return to;
+// The width that a character means: 1 to 9, A for 10 to F for 15.
+fn width_of(c: u8) -> usize {
+    if c < 65 {
+        return less(c as usize, 48);
     }
-    put(page, to, b's')
+    less(c as usize, 55)
+}
+
+// The number k, or 0.
+fn number_at(numbers: &[u64], k: usize) -> u64 {
+    if k < numbers.len() { numbers[k] } else { 0 }
+}
+
+fn put_piece(page: &mut [u8], at: usize, mark: u8, c: u8, n: u64) -> usize {
+    if mark == b'%' {
+        return put_padded(page, at, n, width_of(c));
+    }
+    if mark == b'~' {
+        return put_column(page, at, n, width_of(c));
+    }
+    if n == 0 {
+        return at;
+    }
+    put(page, at, c)
+}
+
+fn is_mark(c: u8) -> bool {
+    c == b'%' || c == b'~' || c == b'^'
+}
+
+// Text with numbers in it, each for two characters: %w is the number with at least w digits, ~w the
+// number in a column of w, and ^c the character c unless the number is 0.
+pub fn put_with(page: &mut [u8], at: usize, s: &[u8], numbers: &[u64]) -> usize {
+    let mut to = at;
+    let mut k: usize = 0;
+    let mut i: usize = 0;
+    while i < s.len() {
+        let c = s[i];
+        i += 1;
+        if is_mark(c) {
+            if i < s.len() {
+                to = put_piece(page, to, c, s[i], number_at(numbers, k));
+                i += 1;
+                k += 1;
+            }
+        } else {
+            to = put(page, to, c);
+        }
+    }
+    to
 }
 
 pub fn put_hex(page: &mut [u8], at: usize, s: &[u8]) -> usize {
@@ -99,7 +131,16 @@ pub fn put_hex(page: &mut [u8], at: usize, s: &[u8]) -> usize {
     to
 }
 
-// Text between quotes: printable ASCII but quote and backslash as it is, every other byte as \xNN.
+// Printable ASCII but quote and backslash as it is, every other byte as \xNN.
+fn put_quotable(page: &mut [u8], at: usize, b: u8) -> usize {
+    if b < 32 || 126 < b || b == b'"' || b == b'\\' {
+        let to = put_text(page, at, b"\\x");
+        return put_hex(page, to, &[b]);
+    }
+    put(page, at, b)
+}
+
+// Text between quotes.
 pub fn put_quoted(page: &mut [u8], at: usize, s: &[u8]) -> usize {
     let mut to = put(page, at, b'"');
     let mut i: usize = 0;
@@ -110,67 +151,25 @@ pub fn put_quoted(page: &mut [u8], at: usize, s: &[u8]) -> usize {
     put(page, to, b'"')
 }
 
-fn put_quotable(page: &mut [u8], at: usize, b: u8) -> usize {
-    if b < 32 || 126 < b || b == b'"' || b == b'\\' {
-        let to = put_text(page, at, b"\\x");
-        return put_hex(page, to, &[b]);
-    }
-    put(page, at, b)
-}
-
-fn put_sign(page: &mut [u8], at: usize, x: i32) -> usize {
-    if x < 0 {
-        return put(page, at, b'-');
+fn put_if(page: &mut [u8], at: usize, b: u8, wanted: bool) -> usize {
+    if wanted {
+        return put(page, at, b);
     }
     at
 }
 
-// Metres.
-pub fn put_metres(page: &mut [u8], at: usize, name: &[u8], x: i16) -> usize {
-    let metres = x as i32;
-    let mut to = put_text(page, at, name);
-    to = put_sign(page, to, metres);
-    to = put_number(page, to, text::distance(metres));
-    put_text(page, to, b" m")
-}
-
-// Ten-millionths of a degree, as degrees with seven decimals.
-pub fn put_degrees(page: &mut [u8], at: usize, name: &[u8], x: i32) -> usize {
-    let n = text::distance(x);
-    let mut to = put_text(page, at, name);
-    to = put_sign(page, to, x);
-    to = put_number(page, to, n / 10_000_000);
-    to = put(page, to, b'.');
-    put_padded(page, to, n % 10_000_000, 7)
-}
-
-// Milliseconds since 1970 as a date and time, and as they are; from the year 10000 on only as they are.
-pub fn put_time(page: &mut [u8], at: usize, ms: u64) -> usize {
-    if 253_402_300_799_999 < ms {
-        return put_field(page, at, b"  time ", ms);
+// Line `n` of a text, counted from 1, with its end.
+pub fn put_line(page: &mut [u8], at: usize, s: &[u8], n: u8) -> usize {
+    let mut to = at;
+    let mut line: usize = 1;
+    let mut i: usize = 0;
+    while i < s.len() {
+        let c = s[i];
+        i += 1;
+        to = put_if(page, to, c, line == (n as usize));
+        if c == b'\n' {
+            line += 1;
+        }
     }
-    let mut to = put_text(page, at, b"  ");
-    to = put_date(page, to, ms / 86_400_000);
-    to = put_clock(page, to, ms % 86_400_000);
-    put_field(page, to, b" UTC  time ", ms)
-}
-
-fn put_date(page: &mut [u8], at: usize, days: u64) -> usize {
-    let d = text::date_of(days);
-    let mut to = put_padded(page, at, d.year, 4);
-    to = put(page, to, b'-');
-    to = put_padded(page, to, d.month, 2);
-    to = put(page, to, b'-');
-    to = put_padded(page, to, d.day, 2);
-    put(page, to, b' ')
-}
-
-fn put_clock(page: &mut [u8], at: usize, ms: u64) -> usize {
-    let mut to = put_padded(page, at, ms / 3_600_000, 2);
-    to = put(page, to, b':');
-    to = put_padded(page, to, ms / 60_000 % 60, 2);
-    to = put(page, to, b':');
-    to = put_padded(page, to, ms / 1000 % 60, 2);
-    to = put(page, to, b'.');
-    put_padded(page, to, ms % 1000, 3)
+    to
 }

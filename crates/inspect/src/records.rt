@@ -25,23 +25,6 @@ fn view_at(udp: bool, p: &[u8], n: usize, k: usize) -> &[u8] {
     lookup::view_in_packet(p, n, k)
 }
 
-// "codec 8, 2 records, 97 bytes": the end of a heading.
-pub fn put_counts(page: &mut [u8], at: usize, codec: u8, count: u8, size: usize) -> usize {
-    let mut to = page::put_text(page, at, b", codec ");
-    to = put_codec(page, to, codec);
-    to = page::put_text(page, to, b", ");
-    to = page::put_many(page, to, count as u64, b" record");
-    to = page::put_text(page, to, b", ");
-    page::put_many(page, to, size as u64, b" byte")
-}
-
-fn put_codec(page: &mut [u8], at: usize, codec: u8) -> usize {
-    if codec == 0x8E {
-        return page::put_text(page, at, b"8 Extended");
-    }
-    page::put_number(page, at, codec as u64)
-}
-
 pub fn put_records(page: &mut [u8], at: usize, udp: bool, p: &[u8], codec: u8, count: u8) -> usize {
     let mut to = at;
     let mut n: u8 = 0;
@@ -56,42 +39,99 @@ fn put_record(page: &mut [u8], at: usize, udp: bool, p: &[u8], codec: u8, n: usi
     match record_at(udp, p, n) {
         RecordAnswer::Refused(_) => at,
         RecordAnswer::Fields(f) => {
-            let mut to = page::put_field(page, at, b"record ", n as u64);
-            to = put_first_line(page, to, codec, f);
+            let mut to = put_time(page, at, n as u64, f.timestamp);
+            to = put_origin(page, to, codec, f);
             to = put_position(page, to, f);
             to = put_motion(page, to, f);
-            to = page::put_field(page, to, b"\n  values    ", f.elements as u64);
-            to = page::put(page, to, b'\n');
             put_values(page, to, udp, p, n, f.elements)
         }
     }
 }
 
-fn put_first_line(page: &mut [u8], at: usize, codec: u8, f: RecordFields) -> usize {
-    let mut to = page::put_time(page, at, f.timestamp);
-    to = page::put_field(page, to, b"  priority ", f.priority as u64);
-    to = page::put_field(page, to, b"  event ", f.event as u64);
-    put_generation(page, to, codec, f.generation)
+// The record's number and its time: milliseconds since 1970, and their date before the year 10000.
+fn put_time(page: &mut [u8], at: usize, n: u64, ms: u64) -> usize {
+    if 253_402_300_799_999 < ms {
+        return page::put_with(page, at, b"record %1  time %1", &[n, ms]);
+    }
+    let d = text::date_of(ms / 86_400_000);
+    let numbers = [
+        n,
+        d.year,
+        d.month,
+        d.day,
+        ms / 3_600_000 % 24,
+        ms / 60_000 % 60,
+        ms / 1000 % 60,
+        ms % 1000,
+        ms,
+    ];
+    page::put_with(
+        page,
+        at,
+        b"record %1  %4-%2-%2 %2:%2:%2.%3 UTC  time %1",
+        &numbers,
+    )
 }
 
 // Codec 16 alone has a generation type.
-fn put_generation(page: &mut [u8], at: usize, codec: u8, generation: u8) -> usize {
+fn put_origin(page: &mut [u8], at: usize, codec: u8, f: RecordFields) -> usize {
+    let numbers = [f.priority as u64, f.event as u64, f.generation as u64];
     if codec == 0x10 {
-        return page::put_field(page, at, b"  generation type ", generation as u64);
+        return page::put_with(
+            page,
+            at,
+            b"  priority %1  event %1  generation type %1\n",
+            &numbers,
+        );
     }
-    at
+    page::put_with(page, at, b"  priority %1  event %1\n", &numbers)
 }
 
+// 1 for a negative number, else 0.
+fn sign(x: i32) -> u64 {
+    if x < 0 { 1 } else { 0 }
+}
+
+fn wide(x: i16) -> i32 {
+    x as i32
+}
+
+// Longitude and latitude are ten-millionths of a degree.
 fn put_position(page: &mut [u8], at: usize, f: RecordFields) -> usize {
-    let mut to = page::put_degrees(page, at, b"\n  position  longitude ", f.longitude);
-    to = page::put_degrees(page, to, b"  latitude ", f.latitude);
-    page::put_metres(page, to, b"  altitude ", f.altitude)
+    let east = text::distance(f.longitude);
+    let north = text::distance(f.latitude);
+    let numbers = [
+        sign(f.longitude),
+        east / 10_000_000,
+        east % 10_000_000,
+        sign(f.latitude),
+        north / 10_000_000,
+        north % 10_000_000,
+    ];
+    page::put_with(
+        page,
+        at,
+        b"  position  longitude ^-%1.%7  latitude ^-%1.%7\n",
+        &numbers,
+    )
 }
 
 fn put_motion(page: &mut [u8], at: usize, f: RecordFields) -> usize {
-    let mut to = page::put_field(page, at, b"\n  motion    speed ", f.speed as u64);
-    to = page::put_field(page, to, b" km/h  angle ", f.angle as u64);
-    page::put_field(page, to, b"  satellites ", f.satellites as u64)
+    let altitude = wide(f.altitude);
+    let numbers = [
+        sign(altitude),
+        text::distance(altitude),
+        f.speed as u64,
+        f.angle as u64,
+        f.satellites as u64,
+        f.elements as u64,
+    ];
+    page::put_with(
+        page,
+        at,
+        b"  motion    altitude ^-%1 m  speed %1 km/h  angle %1  satellites %1\n  values    %1\n",
+        &numbers,
+    )
 }
 
 fn put_values(page: &mut [u8], at: usize, udp: bool, p: &[u8], n: usize, elements: usize) -> usize {
@@ -108,44 +148,38 @@ fn put_value(page: &mut [u8], at: usize, udp: bool, p: &[u8], n: usize, k: usize
     match value_at(udp, p, n, k) {
         ValueAnswer::Refused(_) => at,
         ValueAnswer::Found(v) => {
-            let mut to = page::put_text(page, at, b"    id ");
-            to = page::put_column(page, to, v.id as u64, 7);
-            to = put_bytes(page, to, v.kind, view_at(udp, p, n, k));
-            page::put(page, to, b'\n')
+            let s = view_at(udp, p, n, k);
+            let mut to = page::put_with(
+                page,
+                at,
+                b"    id ~7size ~3 ",
+                &[v.id as u64, v.size as u64],
+            );
+            to = page::put_hex(page, to, s);
+            put_meant(page, to, v.kind, s)
         }
     }
 }
 
-fn put_bytes(page: &mut [u8], at: usize, kind: u8, s: &[u8]) -> usize {
+// A value of 1, 2, 4 or 8 bytes as its unsigned number, any other as text if all of it is printable.
+fn put_meant(page: &mut [u8], at: usize, kind: u8, s: &[u8]) -> usize {
     if kind == 9 {
         return put_variable(page, at, s);
     }
-    put_fixed(page, at, s)
-}
-
-// A value of 1, 2, 4 or 8 bytes, and its unsigned number.
-fn put_fixed(page: &mut [u8], at: usize, s: &[u8]) -> usize {
-    let mut to = page::put_many(page, at, s.len() as u64, b" byte");
-    to = page::put_text(page, to, b"  ");
-    to = page::put_hex(page, to, s);
     if 8 < s.len() {
-        return to;
+        return at;
     }
-    let end = page::put_field(page, to, b"  (", wire::number(s, 0, s.len()));
-    page::put(page, end, b')')
+    page::put_with(page, at, b"  (%1)\n", &[wire::number(s, 0, s.len())])
 }
 
-// A value of any length, as text too if all of it is printable ASCII.
 fn put_variable(page: &mut [u8], at: usize, s: &[u8]) -> usize {
-    let mut to = page::put_text(page, at, b"variable, ");
-    to = page::put_many(page, to, s.len() as u64, b" byte");
-    to = page::put_text(page, to, b"  ");
-    to = page::put_hex(page, to, s);
+    let mut to = page::put_text(page, at, b"  variable");
     if is_printable(s) {
-        let end = page::put_text(page, to, b"  ");
-        return page::put_quoted(page, end, s);
+        to = page::put(page, to, b' ');
+        to = page::put_quoted(page, to, s);
+        return page::put(page, to, b'\n');
     }
-    to
+    page::put(page, to, b'\n')
 }
 
 fn is_printable(s: &[u8]) -> bool {
