@@ -2,17 +2,13 @@
 use crate::Task;
 use libc::STDERR_FILENO;
 use libc::STDIN_FILENO;
-use text::Kind;
 
-// What was read, or a line on standard error.
+// What was read: a number of bytes, more than there is room for, or nothing, for a reason that
+// standard error has.
 pub enum Input {
     Bytes(usize),
+    Long,
     Failed,
-}
-
-fn fail(line: &[u8]) -> Input {
-    io::write_all(STDERR_FILENO, line);
-    Input::Failed
 }
 
 // Reads to the end. A buffer that is filled was too short.
@@ -30,7 +26,7 @@ fn read_all(fd: i32, name: &[u8], buf: &mut [u8]) -> Input {
         }
         n += more;
     }
-    fail(b"inspect: the input is longer than 65536 bytes\n")
+    Input::Long
 }
 
 // The place of a word among words that each end in a space; their number if it is none of them.
@@ -58,52 +54,43 @@ pub fn place_of_word(i: usize, words: &[u8]) -> usize {
     place_of(&w[..n], words)
 }
 
-// Reads the file that word `i` names; where there is no such word, or it is "-", standard input.
+// Reads the file that word `i` names; "-" and no word are standard input.
 pub fn read_word(i: usize, buf: &mut [u8]) -> Input {
     let mut path = io::buffer();
-    if os::arg_count() <= i {
-        return read_all(STDIN_FILENO, b"standard input", buf);
-    }
     let n = os::arg(i, &mut path);
-    if os::errno() != 0 {
-        os::fail(b"inspect: FILE");
-        return Input::Failed;
+    let named = os::errno();
+    if named == 0 {
+        return read_path(&path[..n], buf);
     }
-    if check::same(&path[..n], b"-") {
+    if named == libc::EINVAL {
+        return read_path(b"-", buf);
+    }
+    os::fail(b"inspect: FILE");
+    Input::Failed
+}
+
+fn read_path(path: &[u8], buf: &mut [u8]) -> Input {
+    if check::same(path, b"-") {
         return read_all(STDIN_FILENO, b"standard input", buf);
     }
-    let fd = os::open_read(&path[..n]);
+    let fd = os::open_read(path);
     if fd < 0 {
-        os::fail(&path[..n]);
+        os::fail(path);
         return Input::Failed;
     }
-    let input = read_all(fd, &path[..n], buf);
+    let input = read_all(fd, path, buf);
     libc::close(fd);
     input
 }
 
-// Turns hex text into bytes, at the start of `bytes`; other bytes are copied as they are.
-pub fn to_bytes(s: &[u8], bytes: &mut [u8]) -> Input {
-    match text::kind_of(s) {
-        Kind::Hex(digits) => {
-            if digits % 2 == 1 {
-                io::write_all(
-                    STDERR_FILENO,
-                    b"inspect: hex text has an odd number of digits: ",
-                );
-                io::print_decimal(STDERR_FILENO, digits as u64);
-                return fail(b"\n");
-            }
-            Input::Bytes(text::decode(s, bytes))
-        }
-        Kind::Raw => {
-            if bytes.len() < s.len() {
-                return Input::Failed;
-            }
-            wire::put_bytes(bytes, 0, s);
-            Input::Bytes(s.len())
-        }
-    }
+// Hex text with an odd number of digits.
+pub fn odd(digits: usize) {
+    io::write_all(
+        STDERR_FILENO,
+        b"inspect: hex text has an odd number of digits: ",
+    );
+    io::print_decimal(STDERR_FILENO, digits as u64);
+    io::write_all(STDERR_FILENO, b"\n");
 }
 
 // The `w` bytes at `at` as a number; a number that no bytes give where they are not there.

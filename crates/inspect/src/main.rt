@@ -1,13 +1,11 @@
 // Says what is in a packet, datagram, login, command or TLV form, or why it is refused; turns packets
 // into TLV forms and back; writes commands. `usage` says with which words.
 mod input;
-mod page;
-mod records;
-mod show;
 
 use input::Input;
 use libc::STDERR_FILENO;
 use libc::STDOUT_FILENO;
+use text::Kind;
 
 // What the first word asks for.
 pub enum Task {
@@ -27,12 +25,25 @@ pub enum Task {
 fn usage(fd: i32) {
     io::write_all(
         fd,
-        b"inspect [KIND] [FILE]       what is in the input, or its refusal\ninspect form-of [FILE]      the TLV form of a TCP data packet or a datagram, as hex text\ninspect packet-of [FILE]    the TCP data packet of a TLV form, as hex text\ninspect write 12 [TYPE] TEXT\ninspect write 14 [TYPE] IMEI TEXT\n                            a command packet of codec 12 or 14, as hex text\ninspect help                this text\nKIND: packet, datagram, login, command, form, or auto (found out, also if left out)\nFILE: at most 65536 bytes, hex text or as they are; standard input if left out or -\nTYPE: command (also if left out), response, or mismatch (IMEI doesn't match)\nA refusal is a line 'refused: NUMBER ..' on standard output. The exit status says nothing.\n",
+        b"inspect [KIND] [FILE]            what is in the input, or its refusal\n\
+inspect form-of [FILE]           the TLV form of a TCP data packet or a datagram, as hex text\n\
+inspect packet-of [FILE]         the TCP data packet of a TLV form, as hex text\n\
+inspect write MESSAGE TEXT       a command packet of codec 12, as hex text\n\
+inspect write MESSAGE IMEI TEXT  the same of codec 14\n\
+inspect help                     this text\n\
+KIND: packet, datagram, login, command, form, or auto (found out, also if left out)\n\
+FILE: at most 65536 bytes, hex text or as they are; standard input if left out or -\n\
+MESSAGE: 12 or 14 (a command), 12-response, 14-response, 14-mismatch (IMEI doesn't match)\n\
+A refusal is a line 'refused: NUMBER ..' on standard output. The exit status says nothing.\n",
     );
 }
 
+fn fail(line: &[u8]) {
+    io::write_all(STDERR_FILENO, line);
+}
+
 fn wrong() {
-    io::write_all(STDERR_FILENO, b"inspect: wrong words\n");
+    fail(b"inspect: wrong words\n");
     usage(STDERR_FILENO);
 }
 
@@ -53,138 +64,117 @@ fn task_of(i: usize) -> Task {
     }
 }
 
-fn put_task(page: &mut [u8], task: Task, p: &[u8]) -> usize {
-    match task {
-        Task::Packet => show::put_packet(page, 0, p),
-        Task::Datagram => show::put_datagram(page, 0, p),
-        Task::Login => show::put_login(page, 0, p),
-        Task::Command => show::put_command(page, 0, p),
-        Task::Form => show::put_form(page, 0, p),
-        Task::FormOf => show::put_form_of(page, 0, !input::is_tcp(p), p),
-        Task::PacketOf => show::put_packet_of(page, 0, p),
-        _ => 0,
-    }
-}
-
 fn run(task: Task, p: &[u8]) {
-    let mut page = io::buffer();
-    let at = put_task(&mut page, task, p);
-    page::flush(&page, at);
+    match task {
+        Task::Packet => report::show_packet(p),
+        Task::Datagram => report::show_datagram(p),
+        Task::Login => report::show_login(p),
+        Task::Command => report::show_command(p),
+        Task::Form => report::show_form(p),
+        Task::FormOf => run_form_of(p),
+        Task::PacketOf => report::say_packet_of(p),
+        _ => {}
+    }
 }
 
-fn run_auto(p: &[u8]) {
-    if p.len() == 0 {
-        io::write_all(STDERR_FILENO, b"inspect: the input is empty\n");
-        return;
+fn run_form_of(p: &[u8]) {
+    if input::is_tcp(p) {
+        return report::say_form_of_packet(p);
     }
-    run(input::found(p), p)
+    report::say_form_of_datagram(p)
 }
 
-// Reads the file that word `i` names, and does the task on it.
-fn inspect(task: Task, i: usize) {
-    let mut text = [0u8; 65537];
-    let mut bytes = [0u8; 65537];
-    let n = match input::read_word(i, &mut text) {
-        Input::Bytes(n) => n,
-        Input::Failed => return,
-    };
-    if text.len() < n {
-        return;
-    }
-    match input::to_bytes(&text[0..n], &mut bytes) {
-        Input::Failed => {}
-        Input::Bytes(k) => {
-            if bytes.len() < k {
-                return;
+fn run_on(task: Task, p: &[u8]) {
+    match task {
+        Task::Auto => {
+            if p.len() == 0 {
+                return fail(b"inspect: the input is empty\n");
             }
-            match task {
-                Task::Auto => run_auto(&bytes[0..k]),
-                _ => run(task, &bytes[0..k]),
+            run(input::found(p), p)
+        }
+        _ => run(task, p),
+    }
+}
+
+// Hex text is what has hex digits and white space alone, so nothing that is accepted is taken for it:
+// a TCP packet and a login start with 00, a TLV form with 01, a datagram with 00 to 04.
+fn run_on_text(task: Task, s: &[u8]) {
+    match text::kind_of(s) {
+        Kind::Raw => run_on(task, s),
+        Kind::Hex(digits) => {
+            if digits % 2 == 1 {
+                return input::odd(digits);
+            }
+            let mut bytes = [0u8; 32768];
+            let n = text::decode(s, &mut bytes);
+            if n <= bytes.len() {
+                run_on(task, &bytes[0..n]);
             }
         }
     }
 }
 
-// Writes a command with the text of word `j` and, in codec 14, the IMEI of word `i`.
-fn write_words(codec: u8, kind: u8, i: usize, j: usize) {
+// Reads the file that word `i` names, and does the task on it.
+fn inspect(task: Task, i: usize) {
+    let mut buf = [0u8; 65537];
+    match input::read_word(i, &mut buf) {
+        Input::Failed => {}
+        Input::Long => fail(b"inspect: the input is longer than 65536 bytes\n"),
+        Input::Bytes(n) => {
+            if n <= buf.len() {
+                run_on_text(task, &buf[0..n]);
+            }
+        }
+    }
+}
+
+// The number of a word that is never there.
+const NONE: usize = usize::MAX;
+
+// Writes a command with the IMEI of word `i` and the text of word `j`, the last of the words.
+fn write_words(codec: u8, kind: u8, i: usize, j: usize, words: usize) {
+    if words == 0 || words - 1 != j {
+        return wrong();
+    }
     let mut imei = [0u8; 16];
     let mut text = [0u8; 4096];
-    let mut page = io::buffer();
     let n = os::arg(i, &mut imei);
     let m = os::arg(j, &mut text);
     if os::errno() != 0 {
-        io::write_all(
-            STDERR_FILENO,
-            b"inspect: the text is longer than 4096 bytes\n",
-        );
-        return;
+        return fail(b"inspect: the text is longer than 4096 bytes\n");
     }
-    if codec == 0x0C {
-        let end = show::put_new_command(&mut page, 0, codec, kind, &imei[..0], &text[..m]);
-        return page::flush(&page, end);
-    }
-    let at = show::put_new_command(&mut page, 0, codec, kind, &imei[..n], &text[..m]);
-    page::flush(&page, at);
-}
-
-// The same, with the type that word 3 names.
-fn write_typed(codec: u8, i: usize, j: usize) {
-    match input::place_of_word(3, b"command response mismatch ") {
-        0 => write_words(codec, 0x05, i, j),
-        1 => write_words(codec, 0x06, i, j),
-        2 => write_words(codec, 0x11, i, j),
-        _ => wrong(),
-    }
-}
-
-// A command of codec 12 has a text, one of codec 14 an IMEI before it; a type may stand before both.
-fn write_12(words: usize) {
-    match words {
-        4 => write_words(0x0C, 0x05, 2, 3),
-        5 => write_typed(0x0C, 3, 4),
-        _ => wrong(),
-    }
-}
-
-fn write_14(words: usize) {
-    match words {
-        5 => write_words(0x0E, 0x05, 3, 4),
-        6 => write_typed(0x0E, 4, 5),
-        _ => wrong(),
-    }
+    report::say_command(codec, kind, &imei[..n], &text[..m]);
 }
 
 fn write_task(words: usize) {
-    match input::place_of_word(2, b"12 14 ") {
-        0 => write_12(words),
-        1 => write_14(words),
+    let messages = b"12 12-response 14 14-response 14-mismatch ";
+    match input::place_of_word(2, messages) {
+        0 => write_words(0x0C, 0x05, NONE, 3, words),
+        1 => write_words(0x0C, 0x06, NONE, 3, words),
+        2 => write_words(0x0E, 0x05, 3, 4, words),
+        3 => write_words(0x0E, 0x06, 3, 4, words),
+        4 => write_words(0x0E, 0x11, 3, 4, words),
         _ => wrong(),
     }
-}
-
-fn read_task(task: Task, words: usize) {
-    if 3 < words {
-        return wrong();
-    }
-    inspect(task, 2)
 }
 
 fn main() {
     let words = os::arg_count();
-    if words < 2 {
-        return inspect(Task::Auto, 1);
-    }
     let task = task_of(1);
     match task {
         Task::Help => usage(STDOUT_FILENO),
         Task::Write => write_task(words),
         Task::Unknown => {
-            if words == 2 {
-                inspect(Task::Auto, 1)
-            } else {
-                wrong()
+            if 2 < words {
+                return wrong();
             }
+            inspect(Task::Auto, 1)
         }
-        _ => read_task(task, words),
+        _ => {
+            if 3 < words {
+                return wrong();
+            }
+            inspect(task, 2)
+        }
     }
 }

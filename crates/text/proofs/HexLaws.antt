@@ -15,7 +15,7 @@ use Rattle.text.specs.declared.Mark.{Mark}
 use Rattle.text.specs.declared.Mark.the-variants.{Digit, Space, Other}
 use Rattle.text.specs.declared.Kind.{Kind}
 use Rattle.text.specs.declared.Kind.the-variants.{Hex, Raw}
-use Rattle.text.specs.Hex.{among, markOf, onMark, isHex, digits, kindOf, paired, hexBytes, glyphOf, hexText}
+use Rattle.text.specs.Hex.{among, markOf, onMark, isHex, digits, kindOf, paired, hexBytes, glyphOf, hexText, printable}
 
 -- ---- marks
 
@@ -177,3 +177,18 @@ encode-turn {s} {out₀} {out} {i} left more =
 pub encode-done : {s out₀ out : List ℕ} {i : ℕ} → EncodeLeft s out₀ out i → length s ≤ i → out ≡ sets out₀ 0 (hexText s)
 unfolding hexText
 encode-done {s} {out₀} {out} {i} left h = rw (drop-of-length-le s {i = i} h) at (left .stored)
+
+-- ---- printable text
+
+module _ (s : List ℕ) (i : ℕ) (inside : i < length s) where
+  pub printable-on : among 32 126 (getD s i 0) ≡ true → printable (drop (i + 1) s) ≡ printable (drop i s)
+  unfolding printable
+  printable-on e = rw (next s i inside) (simp e)
+
+  pub printable-off : among 32 126 (getD s i 0) ≡ false → printable (drop i s) ≡ false
+  unfolding printable
+  printable-off e = rw (next s i inside) (simp e)
+
+pub printable-done : (s : List ℕ) (i : ℕ) → length s ≤ i → printable (drop i s) ≡ true
+unfolding printable
+printable-done s i h = rw (drop-of-length-le s {i = i} h) refl

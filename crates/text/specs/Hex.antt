@@ -59,3 +59,8 @@ glyphOf d = pick (ltb d 10) (48 + d) (55 + d)
 unfoldable pub hexText : List ℕ → List ℕ
 hexText [] = []
 hexText (b ∷ s) = glyphOf (b / 16) ∷ glyphOf (b % 16) ∷ hexText s
+
+-- every byte is printable ASCII
+unfoldable pub printable : List ℕ → Bool
+printable [] = true
+printable (b ∷ s) = pick (among 32 126 b) (printable s) false

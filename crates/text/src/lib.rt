@@ -3,7 +3,7 @@ ghost use mathlib.Core.Path.{_≡_};
 ghost use Prim.Native.Nat.{_*_, _<_};
 ghost use lib.ListN.{length, set};
 ghost use lib.Seq.{sets};
-ghost use Rattle.text.specs.Hex.{among, markOf, kindOf, hexBytes, glyphOf, hexText};
+ghost use Rattle.text.specs.Hex.{among, markOf, kindOf, hexBytes, glyphOf, hexText, printable};
 ghost use lib.IntN.{natAbs};
 ghost use Rattle.text.specs.Calendar.{leapDay, yearDays, monthDays, InYear, DateOf};
 
@@ -120,6 +120,28 @@ pub fn encode(s: &[u8], out: &mut [u8]) -> usize
         i += 1;
     }
     2 * s.len()
+}
+
+// ---- printable ASCII
+
+pub fn is_printable(b: u8) -> bool
+    ensures { λ r. ⌜ r ≡ among 32 126 b ⌝ }
+{
+    is_among(32, 126, b)
+}
+
+pub fn is_printable_text(s: &[u8]) -> bool
+    ensures { λ r. ⌜ r ≡ printable (now (s .entry)) ⌝ }
+{
+    let mut i: usize = 0;
+    while i < s.len() {
+        let b = s[i];
+        i += 1;
+        if is_printable(b) {} else {
+            return false;
+        }
+    }
+    true
 }
 
 // ---- numbers

@@ -1,7 +1,7 @@
 use mir.Facts.{toZ-ofZ, sfits-widen}
 use borrow.Author.Needs.{needs}
-use Rattle.inspect.proofs.records.wide.Statement.{statement}
-use Rattle.inspect.proofs.records.wide.Tie as tie
+use Rattle.report.proofs.records.wide.Statement.{statement}
+use Rattle.report.proofs.records.wide.Tie as tie
 
 cast-result : tie.Need-cast-result
 cast-result c = rw (toZ-ofZ (c .fits .x)) (sfits-widen tt (c .fits .x))

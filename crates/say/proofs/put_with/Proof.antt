@@ -1,15 +1,15 @@
 use lib.ListN.{length}
 use mathlib.Core.Path.{_≡_}
-use Prim.Native.Nat.{_≤_, _-_}
+use Prim.Native.Nat.{_+_, _≤_, _-_}
 use borrow.Author.Needs.{needs}
-use Rattle.inspect.proofs.page.put_with.Statement.{statement}
-use Rattle.inspect.proofs.page.put_with.Tie as tie
+use Rattle.say.proofs.put_with.Statement.{statement}
+use Rattle.say.proofs.put_with.Tie as tie
 
 abbrev Inv-loop : tie.InvT-loop
-Inv-loop page₀ at s numbers to₀ k₀ i₀ page to k i = (i ≤ length s) × (k ≤ i) × (length page ≡ length page₀)
+Inv-loop page₀ s numbers to₀ k₀ i₀ page to k i = (i ≤ length s) × (k ≤ i) × (length page ≡ length page₀)
 
 abbrev μ-loop : tie.MeasureT-loop
-μ-loop page₀ at s numbers to₀ k₀ i₀ page to k i = length s - i
+μ-loop page₀ s numbers to₀ k₀ i₀ page to k i = length s - i
 
 loop-holds : tie.Need-loop-holds Inv-loop μ-loop
 loop-holds c = search needs
@@ -23,14 +23,14 @@ add-i c = search needs
 is-mark-requires : tie.Need-is-mark-requires Inv-loop μ-loop
 is-mark-requires c κs = search needs
 
-shared-slice-read-put-piece : tie.Need-shared-slice-read-put-piece Inv-loop μ-loop
-shared-slice-read-put-piece c = search needs
+shared-slice-read-put-number : tie.Need-shared-slice-read-put-number Inv-loop μ-loop
+shared-slice-read-put-number c = search needs
 
 number-at-requires : tie.Need-number-at-requires Inv-loop μ-loop
 number-at-requires c κs = search needs
 
-put-piece-requires : tie.Need-put-piece-requires Inv-loop μ-loop
-put-piece-requires c κs = search needs
+put-number-requires : tie.Need-put-number-requires Inv-loop μ-loop
+put-number-requires c κs = search needs
 
 add-i-2 : tie.Need-add-i-2 Inv-loop μ-loop
 add-i-2 c = search needs
@@ -75,9 +75,9 @@ put-with-spec =
     shared-slice-read-c
     add-i
     is-mark-requires
-    shared-slice-read-put-piece
+    shared-slice-read-put-number
     number-at-requires
-    put-piece-requires
+    put-number-requires
     add-i-2
     add-k
     loop-less
