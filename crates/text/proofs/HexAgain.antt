@@ -1,17 +1,17 @@
 -- Bytes written as hex text are hex text, and give the same bytes again.
-use Prim.Native.Nat.{ℕ, suc, _+_, _-_, _*_, _/_, _%_, _≤_, _<_}
-use native.Mathlib.Nat.{div-add-mod', add-sub-cancel-left}
+use Prim.Native.Nat.{ℕ, _+_, _-_, _*_, _/_, _%_, _≤_, _<_}
+use native.Mathlib.Nat.{div-add-mod'}
 use native.Mathlib.Omega.{arith}
-use mathlib.Core.Path.{_≡_, refl, sym, ap, ap₂, _∙_}
+use mathlib.Core.Path.{_≡_, refl, ap, ap₂}
 use mathlib.Core.Bool.{Bool, true, false}
 use mathlib.Core.List.{List, [], _∷_}
 use lib.ListN.{length}
-use lib.Dec.{leb, ltb}
-use borrow.Author.Tests.{le-leb, lt-leb, lt-ltb, le-ltb, ltb-true, ltb-false}
+use lib.Dec.{ltb}
+use borrow.Author.Tests.{le-leb, lt-leb, ltb-true, ltb-false}
 use Rattle.wire.specs.Numbers.{Bytes, pick}
 use Rattle.text.specs.declared.Mark.the-variants.{Digit}
 use Rattle.text.specs.declared.Kind.the-variants.{Hex}
-use Rattle.text.specs.Hex.{among, markOf, isHex, digits, kindOf, paired, hexBytes, glyphOf, hexText}
+use Rattle.text.specs.Hex.{markOf, isHex, digits, kindOf, paired, hexBytes, glyphOf, hexText}
 
 module _ (d : ℕ) (small : d < 16) where
   figure : d < 10 → markOf (48 + d) ≡ Digit d

@@ -1,9 +1,9 @@
 -- What a loop over hex text has left to read and to write.
-use Prim.Native.Nat.{ℕ, zero, suc, _+_, _-_, _*_, _/_, _%_, _≤_, _<_}
+use Prim.Native.Nat.{ℕ, suc, _+_, _*_, _/_, _%_, _≤_, _<_}
 use native.Mathlib.Nat.{zero-add, add-zero}
 use native.Mathlib.Numerals.{add-one}
 use native.Mathlib.Omega.{arith}
-use mathlib.Core.Path.{_≡_, refl, sym, ap, ap₂, _∙_}
+use mathlib.Core.Path.{_≡_, refl, sym, ap, _∙_}
 use mathlib.Core.Bool.{Bool, true, false}
 use mathlib.Core.List.{List, [], _∷_}
 use lib.ListN.{length, drop, getD, set, length-set, drop-of-length-le}
@@ -15,7 +15,7 @@ use Rattle.text.specs.declared.Mark.{Mark}
 use Rattle.text.specs.declared.Mark.the-variants.{Digit, Space, Other}
 use Rattle.text.specs.declared.Kind.{Kind}
 use Rattle.text.specs.declared.Kind.the-variants.{Hex, Raw}
-use Rattle.text.specs.Hex.{among, markOf, onMark, isHex, digits, kindOf, paired, hexBytes, glyphOf, hexText, printable}
+use Rattle.text.specs.Hex.{among, markOf, isHex, digits, kindOf, paired, hexBytes, glyphOf, hexText, printable}
 
 -- ---- marks
 

@@ -1,7 +1,6 @@
 -- The Gregorian calendar: a date, and how many days after the first of January 1970 it is.
 use Prim.Native.Nat.{ℕ, zero, suc, _+_, _-_, _%_, _≤_}
 use mathlib.Core.Path.{_≡_}
-use mathlib.Core.Bool.{Bool}
 use lib.Dec.{eqb}
 use Rattle.wire.specs.Numbers.{pick}
 use Rattle.text.specs.declared.Date.{Date}

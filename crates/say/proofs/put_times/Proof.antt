@@ -1,6 +1,6 @@
+-- Safe and ending. Invariant: the page keeps its length.
 use lib.ListN.{length}
 use mathlib.Core.Path.{_≡_}
-use Prim.Native.Nat.{_+_, _≤_, _-_}
 use borrow.Author.Needs.{needs}
 use Rattle.say.proofs.put_times.Statement.{statement}
 use Rattle.say.proofs.put_times.Tie as tie

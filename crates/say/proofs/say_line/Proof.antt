@@ -1,6 +1,6 @@
+-- Safe and ending. Invariant: the line starts no later than the place in the text, which is within it.
 use lib.ListN.{length}
-use mathlib.Core.Path.{_≡_}
-use Prim.Native.Nat.{_+_, _≤_, _-_}
+use Prim.Native.Nat.{_≤_, _-_}
 use borrow.Author.Needs.{needs}
 use Rattle.say.proofs.say_line.Statement.{statement}
 use Rattle.say.proofs.say_line.Tie as tie

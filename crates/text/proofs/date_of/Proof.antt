@@ -1,8 +1,9 @@
+-- Invariant: the years passed and the days left make up the days.
 use Rattle.text.proofs.CalendarLaws.{leap-small, year-turn, years-long, date-in}
 use Rattle.text.specs.Calendar.{yearDays, yearsLong}
 use mathlib.Core.Path.{_≡_, _∙_}
 use native.Mathlib.Omega.{arith}
-use Prim.Native.Nat.{_+_, _-_, _≤_}
+use Prim.Native.Nat.{_+_, _≤_}
 use borrow.Author.Needs.{needs}
 use Rattle.text.proofs.date_of.Statement.{statement}
 use Rattle.text.proofs.date_of.Tie as tie

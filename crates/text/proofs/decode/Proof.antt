@@ -1,3 +1,4 @@
+-- Invariant: the bytes that are left, stored here, give the end result.
 use Rattle.text.proofs.HexLaws.{DecodeLeft, digit-small, decode-first, decode-pair, decode-skip, decode-done, bytes-first, bytes-space, bytes-other}
 use lib.ListN.{length}
 use mathlib.Core.Path.{sym, _∙_}

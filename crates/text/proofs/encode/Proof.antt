@@ -1,3 +1,4 @@
+-- Invariant: the digits that are left, stored here, give the end result.
 use Rattle.text.proofs.HexLaws.{EncodeLeft, encode-first, encode-turn, encode-done}
 use lib.ListN.{length}
 use mathlib.Core.Path.{refl}

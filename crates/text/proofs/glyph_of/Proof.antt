@@ -1,3 +1,4 @@
+-- Each way out is a case of the definition.
 use Rattle.text.specs.Hex.{glyphOf}
 use borrow.Author.Tests.{lt-ltb, le-ltb}
 use borrow.Author.Needs.{needs}

@@ -1,3 +1,4 @@
+-- Each way out is a case of the definition.
 use borrow.Author.Tests.{le-leb, lt-leb}
 use Rattle.text.proofs.is_among.Statement.{statement}
 use Rattle.text.proofs.is_among.Tie as tie

@@ -1,3 +1,4 @@
+-- Invariant: what is left is printable exactly if the whole is.
 use Rattle.text.proofs.HexLaws.{printable-on, printable-off, printable-done}
 use Rattle.text.specs.Hex.{printable}
 use lib.ListN.{length, drop}

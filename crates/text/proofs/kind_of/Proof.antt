@@ -1,9 +1,10 @@
+-- Invariant: what is left, with the digits passed, is of the same kind as the whole.
 use Rattle.text.proofs.HexLaws.{kindFrom, kind-first, kind-digit, kind-space, kind-other, kind-done}
 use Rattle.text.specs.Hex.{kindOf}
 use lib.ListN.{length, drop}
 use mathlib.Core.Path.{_≡_, sym, _∙_}
 use native.Mathlib.Omega.{arith}
-use Prim.Native.Nat.{_+_, _-_, _≤_}
+use Prim.Native.Nat.{_-_, _≤_}
 use borrow.Author.Needs.{needs}
 use Rattle.text.proofs.kind_of.Statement.{statement}
 use Rattle.text.proofs.kind_of.Tie as tie

@@ -1,3 +1,4 @@
+-- Each way out is a case of the definition.
 use Rattle.text.specs.Calendar.{leapDay}
 use borrow.Author.Tests.{eq-eqb, ne-eqb}
 use Rattle.text.proofs.leap_day.Statement.{statement}

@@ -1,3 +1,4 @@
+-- Each way out is a case of the definition; a digit is not below what is taken from it.
 use native.Mathlib.Omega.{arith}
 use Rattle.text.proofs.HexLaws.{low}
 use Rattle.text.specs.Hex.{markOf}

@@ -1,3 +1,4 @@
+-- Each way out is a case of the definition.
 use Rattle.text.proofs.CalendarLaws.{leap-small}
 use Rattle.text.specs.Calendar.{monthDays}
 use borrow.Author.Tests.{eq-eqb, ne-eqb}

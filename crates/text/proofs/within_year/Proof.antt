@@ -1,3 +1,4 @@
+-- Invariant: the months passed and the days left make up the days.
 use Rattle.text.proofs.CalendarLaws.{month-more, month-turn, month-done}
 use Rattle.text.specs.Calendar.{monthDays, monthsLong}
 use mathlib.Core.Path.{_≡_, _∙_}

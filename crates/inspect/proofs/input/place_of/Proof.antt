@@ -1,3 +1,4 @@
+-- Safe and ending. Invariant: the word starts no later than the place in the list, which is within it.
 use lib.ListN.{length}
 use Prim.Native.Nat.{_≤_, _-_}
 use borrow.Author.Needs.{needs}

@@ -1,6 +1,7 @@
+-- Safe and ending. Invariant: the bytes read are within the buffer, which keeps its length.
 use lib.ListN.{length}
 use mathlib.Core.Path.{_≡_}
-use Prim.Native.Nat.{_+_, _≤_, _-_}
+use Prim.Native.Nat.{_≤_, _-_}
 use borrow.Author.Needs.{needs}
 use Rattle.inspect.proofs.input.read_all.Statement.{statement}
 use Rattle.inspect.proofs.input.read_all.Tie as tie

@@ -1,6 +1,5 @@
-use lib.ListN.{length}
-use mathlib.Core.Path.{_≡_}
-use Prim.Native.Nat.{_+_, _≤_, _-_}
+-- Safe and ending. Invariant: the element is within their number.
+use Prim.Native.Nat.{_≤_, _-_}
 use borrow.Author.Needs.{needs}
 use Rattle.report.proofs.records.say_values.Statement.{statement}
 use Rattle.report.proofs.records.say_values.Tie as tie

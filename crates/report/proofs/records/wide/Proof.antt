@@ -1,3 +1,4 @@
+-- A number of 16 bits fits 32.
 use mir.Facts.{toZ-ofZ, sfits-widen}
 use borrow.Author.Needs.{needs}
 use Rattle.report.proofs.records.wide.Statement.{statement}
