@@ -130,8 +130,9 @@ fn say_found(v: Value, s: &[u8]) {
 }
 
 fn say_variable(s: &[u8]) {
-    say(b"  variable ", &[]);
+    say(b"  variable", &[]);
     if text::is_printable_text(s) {
+        say(b" ", &[]);
         say_quoted(s);
     }
     say(b"\n", &[]);

@@ -10,7 +10,7 @@ ghost use Rattle.text.specs.Calendar.{leapDay, yearDays, monthDays, InYe
 // ---- hex text: digits in either case, white space anywhere
 
 // What a character is in hex text.
-pub enum Mark {
+enum Mark {
     Digit(u8),
     Space,
     Other,
