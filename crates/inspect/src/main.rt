@@ -1,0 +1,180 @@
+// Says what is in a packet, datagram, login, command or TLV form, or why it is refused; turns packets
+// into TLV forms and back; writes commands. `usage` says with which words.
+mod input;
+
+use input::Input;
+use libc::STDERR_FILENO;
+use libc::STDOUT_FILENO;
+use text::Kind;
+
+// What the first word asks for.
+pub enum Task {
+    Auto,
+    Packet,
+    Datagram,
+    Login,
+    Command,
+    Form,
+    FormOf,
+    PacketOf,
+    Write,
+    Help,
+    Unknown,
+}
+
+fn usage(fd: i32) {
+    io::write_all(
+        fd,
+        b"inspect [KIND] [FILE]            what is in the input, or its refusal\n\
+inspect form-of [FILE]           the TLV form of a TCP data packet or a datagram, as hex text\n\
+inspect packet-of [FILE]         the TCP data packet of a TLV form, as hex text\n\
+inspect write MESSAGE TEXT       a command packet of codec 12, as hex text\n\
+inspect write MESSAGE IMEI TEXT  the same of codec 14\n\
+inspect help                     this text\n\
+KIND: packet, datagram, login, command, form, or auto (found out, also if left out)\n\
+FILE: at most 65536 bytes, hex text or as they are; standard input if left out or -\n\
+MESSAGE: 12 or 14 (a command), 12-response, 14-response, 14-mismatch (IMEI doesn't match)\n\
+A refusal is a line 'refused: NUMBER ..' on standard output. The exit status says nothing.\n",
+    );
+}
+
+fn fail(line: &[u8]) {
+    io::write_all(STDERR_FILENO, line);
+}
+
+fn wrong() {
+    fail(b"inspect: wrong words\n");
+    usage(STDERR_FILENO);
+}
+
+fn task_of(i: usize) -> Task {
+    let words = b"auto packet datagram login command form form-of packet-of write help ";
+    match input::place_of_word(i, words) {
+        0 => Task::Auto,
+        1 => Task::Packet,
+        2 => Task::Datagram,
+        3 => Task::Login,
+        4 => Task::Command,
+        5 => Task::Form,
+        6 => Task::FormOf,
+        7 => Task::PacketOf,
+        8 => Task::Write,
+        9 => Task::Help,
+        _ => Task::Unknown,
+    }
+}
+
+fn run(task: Task, p: &[u8]) {
+    match task {
+        Task::Packet => report::show_packet(p),
+        Task::Datagram => report::show_datagram(p),
+        Task::Login => report::show_login(p),
+        Task::Command => report::show_command(p),
+        Task::Form => report::show_form(p),
+        Task::FormOf => run_form_of(p),
+        Task::PacketOf => report::say_packet_of(p),
+        _ => {}
+    }
+}
+
+fn run_form_of(p: &[u8]) {
+    if input::is_tcp(p) {
+        return report::say_form_of_packet(p);
+    }
+    report::say_form_of_datagram(p)
+}
+
+fn run_on(task: Task, p: &[u8]) {
+    match task {
+        Task::Auto => {
+            if p.len() == 0 {
+                return fail(b"inspect: the input is empty\n");
+            }
+            run(input::found(p), p)
+        }
+        _ => run(task, p),
+    }
+}
+
+// Hex text is what has hex digits and white space alone, so nothing that is accepted is taken for it:
+// a TCP packet and a login start with 00, a TLV form with 01, a datagram with 00 to 04.
+fn run_on_text(task: Task, s: &[u8]) {
+    match text::kind_of(s) {
+        Kind::Raw => run_on(task, s),
+        Kind::Hex(digits) => {
+            if digits % 2 == 1 {
+                return input::odd(digits);
+            }
+            let mut bytes = [0u8; 32768];
+            let n = text::decode(s, &mut bytes);
+            if n <= bytes.len() {
+                run_on(task, &bytes[0..n]);
+            }
+        }
+    }
+}
+
+// Reads the file that word `i` names, and does the task on it.
+fn inspect(task: Task, i: usize) {
+    let mut buf = [0u8; 65537];
+    match input::read_word(i, &mut buf) {
+        Input::Failed => {}
+        Input::Long => fail(b"inspect: the input is longer than 65536 bytes\n"),
+        Input::Bytes(n) => {
+            if n <= buf.len() {
+                run_on_text(task, &buf[0..n]);
+            }
+        }
+    }
+}
+
+// The number of a word that is never there.
+const NONE: usize = usize::MAX;
+
+// Writes a command with the IMEI of word `i` and the text of word `j`, the last of the words.
+fn write_words(codec: u8, kind: u8, i: usize, j: usize, words: usize) {
+    if words == 0 || words - 1 != j {
+        return wrong();
+    }
+    let mut imei = [0u8; 16];
+    let mut text = [0u8; 4096];
+    let n = os::arg(i, &mut imei);
+    let m = os::arg(j, &mut text);
+    if os::errno() != 0 {
+        return fail(b"inspect: the text is longer than 4096 bytes\n");
+    }
+    report::say_command(codec, kind, &imei[..n], &text[..m]);
+}
+
+fn write_task(words: usize) {
+    let messages = b"12 12-response 14 14-response 14-mismatch ";
+    match input::place_of_word(2, messages) {
+        0 => write_words(0x0C, 0x05, NONE, 3, words),
+        1 => write_words(0x0C, 0x06, NONE, 3, words),
+        2 => write_words(0x0E, 0x05, 3, 4, words),
+        3 => write_words(0x0E, 0x06, 3, 4, words),
+        4 => write_words(0x0E, 0x11, 3, 4, words),
+        _ => wrong(),
+    }
+}
+
+fn main() {
+    let words = os::arg_count();
+    let task = task_of(1);
+    match task {
+        Task::Help => usage(STDOUT_FILENO),
+        Task::Write => write_task(words),
+        Task::Unknown => {
+            if 2 < words {
+                return wrong();
+            }
+            inspect(Task::Auto, 1)
+        }
+        _ => {
+            if 3 < words {
+                return wrong();
+            }
+            inspect(task, 2)
+        }
+    }
+}

@@ -1,0 +1,222 @@
+// What is in an input, in words on standard output, one function for each kind; and what it turns into.
+mod records;
+
+use command::CommandAnswer;
+use command::CommandFields;
+use datagram::DatagramAnswer;
+use datagram::Header;
+use login::LoginAnswer;
+use packet::PacketAnswer;
+use records::say_records;
+use say::say;
+use say::say_hex;
+use say::say_line;
+use say::say_quoted;
+use wire::Refusal;
+use wire::Written;
+
+// The meanings of the refusals, in document 01's words; the first line is 0's, which is none.
+fn say_meaning(number: u8) {
+    say_line(
+        b"\n\
+under 8 bytes (TCP packet), 17 (login), 26 (UDP)\n\
+first four bytes not zero\n\
+data length outside 3 to 1,268; datagram over 1,280\n\
+input length differs from what its length field gives; login over 17 bytes\n\
+CRC field wrong\n\
+codec not one this entry point takes\n\
+counts or quantities break their rule\n\
+a field's bytes are not all there, or bytes are left over\n\
+IO total wrong\n\
+priority over 2\n\
+generation type over 7\n\
+record over 255 bytes\n\
+message type not allowed for its codec\n\
+text size breaks its rule\n\
+IMEI length or digit wrong\n\
+no such record, element or ID\n\
+not the TLV form of any acceptable TCP data packet\n\
+lent buffer too short for the result\n",
+        number,
+    );
+}
+
+fn refuse(r: Refusal) {
+    say(b"refused: %1: ", &[r.number as u64]);
+    say_meaning(r.number);
+}
+
+// The refusal of data: the record's index goes with 8 to 12.
+fn refuse_data(r: Refusal) {
+    if r.number < 8 || 12 < r.number {
+        return refuse(r);
+    }
+    say(
+        b"refused: %1 at record %1: ",
+        &[r.number as u64, r.index as u64],
+    );
+    say_meaning(r.number);
+}
+
+fn say_hex_line(s: &[u8]) {
+    say_hex(s);
+    say(b"\n", &[]);
+}
+
+fn say_codec(codec: u8) {
+    if codec == 0x8E {
+        return say(b", codec 8 Extended", &[]);
+    }
+    say(b", codec %1", &[codec as u64]);
+}
+
+// 1 where a word has its plural.
+fn more(n: u8) -> u64 {
+    if n == 1 { 0 } else { 1 }
+}
+
+// The end of a heading: the codec, the numbers of records and bytes, the acknowledgement.
+fn say_counts(codec: u8, count: u8, size: usize, answer: &[u8]) {
+    say_codec(codec);
+    let numbers = [count as u64, more(count), size as u64];
+    say(b", %1 record^s, %1 bytes; acknowledgement ", &numbers);
+    say_hex_line(answer);
+}
+
+pub fn show_packet(p: &[u8]) {
+    match packet::read_packet(p) {
+        PacketAnswer::Refused(r) => refuse_data(r),
+        PacketAnswer::Accepted { codec, count } => {
+            let mut answer = [0u8; 4];
+            packet::acknowledge_packet(p, &mut answer);
+            say(b"TCP data packet", &[]);
+            say_counts(codec, count, p.len(), &answer);
+            say_records(false, p, codec, count);
+        }
+    }
+}
+
+pub fn show_datagram(p: &[u8]) {
+    match datagram::read_datagram(p) {
+        DatagramAnswer::Refused(r) => refuse_data(r),
+        DatagramAnswer::Accepted {
+            codec,
+            count,
+            header,
+        } => {
+            let mut answer = [0u8; 7];
+            datagram::acknowledge_datagram(p, &mut answer);
+            say(b"UDP datagram", &[]);
+            say_counts(codec, count, p.len(), &answer);
+            say_header(header);
+            say_records(true, p, codec, count);
+        }
+    }
+}
+
+fn say_header(h: Header) {
+    let numbers = [h.imei, h.packet as u64, h.unused as u64, h.avl as u64];
+    say(
+        b"IMEI %F  packet ID %1  unused byte %1  AVL packet ID %1\n",
+        &numbers,
+    );
+}
+
+pub fn show_login(p: &[u8]) {
+    match login::read_login(p) {
+        LoginAnswer::Refused(r) => refuse(r),
+        LoginAnswer::Imei(imei) => {
+            say(
+                b"TCP login, IMEI %F\nanswer 01 if the unit is known, else 00\n",
+                &[imei],
+            )
+        }
+    }
+}
+
+pub fn show_command(p: &[u8]) {
+    match command::read_command(p) {
+        CommandAnswer::Refused(r) => refuse(r),
+        CommandAnswer::Accepted(f) => {
+            say(b"TCP command packet, %1 bytes", &[p.len() as u64]);
+            say_message(f);
+            say(b"text ", &[]);
+            say_quoted(command::command_text(p));
+            say(b"\n", &[]);
+        }
+    }
+}
+
+// Types 05, 06 and 11 (hexadecimal) are lines 0 to 2.
+fn line_of(kind: u8) -> u8 {
+    match kind {
+        0x05 => 0,
+        0x06 => 1,
+        _ => 2,
+    }
+}
+
+// Codec, type and, in codec 14 alone, the IMEI.
+fn say_message(f: CommandFields) {
+    say(b", codec %1, type ", &[f.codec as u64]);
+    say_line(
+        b"05 (command)\n06 (response)\n11 (IMEI doesn't match)\n",
+        line_of(f.kind),
+    );
+    if f.codec == 0x0E {
+        say(b"IMEI %F\n", &[f.imei]);
+    }
+}
+
+// The packet that a TLV form stands for.
+pub fn show_form(f: &[u8]) {
+    let mut p = [0u8; 1280];
+    match rebuild::packet_of_form(f, &mut p) {
+        Written::Refused(r) => refuse(r),
+        Written::Bytes(n) => {
+            if n <= p.len() {
+                say(b"TLV form, %1 bytes, of this packet:\n", &[f.len() as u64]);
+                show_packet(&p[0..n]);
+            }
+        }
+    }
+}
+
+// A writer's result.
+fn say_written(answer: Written, out: &[u8]) {
+    match answer {
+        Written::Refused(r) => refuse_data(r),
+        Written::Bytes(n) => {
+            if n <= out.len() {
+                say_hex_line(&out[0..n]);
+            }
+        }
+    }
+}
+
+// The TLV form of a TCP data packet, and of a datagram.
+pub fn say_form_of_packet(p: &[u8]) {
+    let mut out = [0u8; 12288];
+    let answer = form::form_of_packet(p, &mut out);
+    say_written(answer, &out);
+}
+
+pub fn say_form_of_datagram(p: &[u8]) {
+    let mut out = [0u8; 12288];
+    let answer = form::form_of_datagram(p, &mut out);
+    say_written(answer, &out);
+}
+
+// The TCP data packet of a TLV form.
+pub fn say_packet_of(f: &[u8]) {
+    let mut out = [0u8; 1280];
+    let answer = rebuild::packet_of_form(f, &mut out);
+    say_written(answer, &out);
+}
+
+// A command packet.
+pub fn say_command(codec: u8, kind: u8, imei: &[u8], text: &[u8]) {
+    let mut out = [0u8; 1280];
+    let answer = command::write_command(codec, kind, imei, text, &mut out);
+    say_written(answer, &out);
+}

@@ -1,0 +1,4 @@
+pub mod HexLaws
+pub mod HexAgain
+pub mod CalendarLaws
+pub mod SignedLaws

@@ -1,0 +1,23 @@
+-- Each way out is a case of the definition.
+use Rattle.text.specs.Hex.{glyphOf}
+use borrow.Author.Tests.{lt-ltb, le-ltb}
+use borrow.Author.Needs.{needs}
+use Rattle.text.proofs.glyph_of.Statement.{statement}
+use Rattle.text.proofs.glyph_of.Tie as tie
+
+add-result : tie.Need-add-result
+add-result c = search needs
+
+add-result-2 : tie.Need-add-result-2
+add-result-2 c = search needs
+
+returns : tie.Need-returns
+unfolding glyphOf
+returns c = simp (lt-ltb _ _ (c .if1 .taken))
+
+returns-2 : tie.Need-returns-2
+unfolding glyphOf
+returns-2 c = simp (le-ltb _ _ (c .if1 .left))
+
+pub glyph-of-spec : {M : Type 1} → statement M
+glyph-of-spec = tie.close (tie.spec add-result add-result-2 returns returns-2)
