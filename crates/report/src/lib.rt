@@ -16,7 +16,7 @@ use wire::Refusal;
 use wire::Written;
 
 // The meanings of the refusals, in document 01's words; the first line is 0's, which is none.
-fn say_meaning(number: u8) {
+fn say_meaning(number: usize) {
     say_line(
         b"\n\
 under 8 bytes (TCP packet), 17 (login), 26 (UDP)\n\
@@ -148,7 +148,7 @@ pub fn show_command(p: &[u8]) {
 }
 
 // Types 05, 06 and 11 (hexadecimal) are lines 0 to 2.
-fn line_of(kind: u8) -> u8 {
+fn line_of(kind: u8) -> usize {
     match kind {
         0x05 => 0,
         0x06 => 1,

@@ -152,7 +152,7 @@ pub fn say_hex(s: &[u8]) {
 }
 
 // Line `n` of a text, counted from 0, with its end.
-pub fn say_line(s: &[u8], n: u8) {
+pub fn say_line(s: &[u8], n: usize) {
     let mut left = n;
     let mut start: usize = 0;
     let mut i: usize = 0;
