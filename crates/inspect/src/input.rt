@@ -1,4 +1,4 @@
-// The input: read, taken as hex text or bytes, and its kind found out.
+// The words and the input: a word among those known, a file read to its end, and the kind of what it holds.
 use crate::Task;
 use libc::STDERR_FILENO;
 use libc::STDIN_FILENO;
