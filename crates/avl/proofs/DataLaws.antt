@@ -37,7 +37,7 @@ data-sound longest d a h l e =
       enclosed-parts d h l (eqb-true _ _ (c₃ .0)) ∙ ap₂ (enclosed (codecOf d)) (sym (w .1)) (w .0),
     )
 
-codec-fits : (codec : ℕ) → isDataCodec codec ≡ true → codec < 256
+pub codec-fits : (codec : ℕ) → isDataCodec codec ≡ true → codec < 256
 unfolding isDataCodec
 codec-fits codec e = go (eqb codec 0x08) (eqb codec 0x8E) refl refl e
   where

@@ -245,13 +245,11 @@ fn given_imei(l: Layout, s: &[u8]) -> Given
     if n != digit_count(l.imei) {
         return not_given(15);
     }
-    match wire::text_number(n, s, 0) {
-        Decimal::Of(imei, _) => Given::Imei(imei),
-        Decimal::Unread(x) => Given::Refused(Refusal {
-            number: x.number,
-            index: x.index,
-        }),
+    let imei = wire::text_number(n, s, 0);
+    if imei < wire::NO_IMEI {
+        return Given::Imei(imei);
     }
+    not_given(15)
 }
 
 // The length of the data field.

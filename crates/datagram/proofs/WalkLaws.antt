@@ -1,5 +1,5 @@
 -- Which way the judge of a datagram goes.
-use Prim.Native.Nat.{ℕ, _+_, _-_, _/_, _%_, _≤_, _<_}
+use Prim.Native.Nat.{ℕ, _+_, _-_, _%_, _≤_, _<_}
 use native.Mathlib.Omega.{arith}
 use mathlib.Core.Path.{_≡_, refl, sym, ap, ap₂, subst, _∙_}
 use mathlib.Core.List.{List, [], _∷_}
@@ -7,20 +7,19 @@ use lib.ListN.{length, take, drop, length-drop, getD}
 use lib.Seq.{take-all}
 use lib.Dec.{leb, eqb}
 use borrow.Author.Tests.{le-leb, lt-leb, leb-true, eq-eqb, ne-eqb}
-use Rattle.wire.specs.declared.Fault.{Fault}
 use Rattle.wire.specs.declared.Refusal.{Refusal}
 use Rattle.wire.specs.Numbers.{Bytes, numberAt, digits}
-use Rattle.wire.specs.Reading.{got, bad, pure}
+use Rattle.wire.specs.Reading.{pure}
 use Rattle.wire.specs.Answers.{Answer, accepted, refused, told, onAccepted}
 use Rattle.wire.specs.Imei.{readImei}
 use Rattle.wire.proofs.Walking.{number-there, then-bad}
 use Rattle.wire.proofs.Exactness.{then-got}
-use Rattle.wire.proofs.Accepting.{check-accepted, check-passed, check-failed, onAccepted-passed, onAccepted-refused, told-got, told-bad, onAccepted-accepted}
-use Rattle.avl.specs.DataField.{AvlData, readData, dataResult}
+use Rattle.wire.proofs.Accepting.{check-accepted, check-passed, check-failed, onAccepted-passed, onAccepted-refused, told-got, told-bad, told-accepted, told-refused, onAccepted-accepted}
+use Rattle.avl.specs.DataField.{AvlData, DataRules, readData, dataResult}
 use Rattle.walk.specs.declared.Span.{Span}
 use Rattle.walk.specs.declared.DataWalk.{DataWalk}
 use Rattle.walk.specs.Walks.{dataWalk}
-use Rattle.walk.proofs.TakenLaws.{taken, not-taken}
+use Rattle.walk.proofs.TakenLaws.{taken, taken-fits, not-taken}
 use Rattle.datagram.specs.declared.Header.{Header}
 use Rattle.datagram.specs.Datagrams.{Datagram, headerBytes, contentBytes, datagramBytes, readHeader, judgeHeader, acknowledgementBytes, answerBytes, udpAcknowledgement, readDatagram, payloadOf, answerDatagram}
 use Rattle.datagram.proofs.DatagramLaws.{datagram-exact}
@@ -56,19 +55,21 @@ module _ (largest : ℕ) (p : List ℕ) where
             ∙ check-passed (leb (length p) largest) 3 _ (le-leb _ _ fits)
             ∙ check-passed (eqb (length p) (numberAt p 0 2 + 2)) 4 _ (eq-eqb _ _ size)
 
-        pub header-imei : {x : Fault} → readImei p 6 ≡ bad x → judgeHeader largest p ≡ refused (x .number) (x .index)
+        pub header-imei : {n i : ℕ} → told (readImei p 6) ≡ refused n i → judgeHeader largest p ≡ refused n i
         unfolding readHeader
         header-imei e =
+            let x = told-refused _ e in
             sized
             ∙ told-bad _
-            (number-there _ p 2 2 (omega arith) ∙ number-there _ p 4 1 (omega arith) ∙ number-there _ p 5 1 (omega arith) ∙ then-bad readImei _ p 6 e)
+            (number-there _ p 2 2 (omega arith) ∙ number-there _ p 4 1 (omega arith) ∙ number-there _ p 5 1 (omega arith) ∙ then-bad readImei _ p 6 (x .1))
+            ∙ ap₂ refused (x .2) (x .3)
 
-        pub header-is : {imei next : ℕ} → readImei p 6 ≡ got imei next → judgeHeader largest p ≡ accepted (headerAt p imei)
+        pub header-is : {imei : ℕ} → told (readImei p 6) ≡ accepted imei → judgeHeader largest p ≡ accepted (headerAt p imei)
         unfolding readHeader pure
         header-is e =
             sized
             ∙ told-got _
-            (number-there _ p 2 2 (omega arith) ∙ number-there _ p 4 1 (omega arith) ∙ number-there _ p 5 1 (omega arith) ∙ then-got readImei _ p 6 e)
+            (number-there _ p 2 2 (omega arith) ∙ number-there _ p 4 1 (omega arith) ∙ number-there _ p 5 1 (omega arith) ∙ then-got readImei _ p 6 (told-accepted _ e .1))
 
 -- the part behind the header
 pub payload-part : (p : List ℕ) → take (length p - 23) (drop 23 p) ≡ drop 23 p
@@ -133,6 +134,16 @@ unfolding payloadOf onAccepted
 not-carried want (accepted g) {x} e = absurd (let k = not-taken want (accepted (g .payload)) {x = x} e in let z : _≡_ {A = ℕ} 0 1 = cc in omega arith)
 not-carried want (refused n i) e = let k = not-taken want (refused n i) e in ap₂ refused (cc) (cc)
 
+-- codec and count fit a byte
+pub carried-fits : (largest longest want : ℕ) (p : List ℕ) {codec count : ℕ} {span : Span} → Bytes p
+    → dataWalk want (payloadOf (readDatagram largest longest p)) ≡ DataWalk.Taken codec count span → (codec < 256) × (count < 256)
+unfolding payloadOf onAccepted
+carried-fits largest longest want p b walk =
+    let c = carried want (readDatagram largest longest p) walk in
+    let t = taken want (accepted (c .0 .payload)) (sym (ap (λ r. dataWalk want (payloadOf r)) (c .1)) ∙ walk) in
+    let same : _≡_ {A = AvlData} (c .0 .payload) (t .content) = cc (t .accepts) in
+    taken-fits t (subst (DataRules longest) same (datagram-exact largest longest p (c .0) b .0 (c .1) .payload))
+
 -- ---- the acknowledgement
 
 module _ (p : List ℕ) (h : Bytes p) where
@@ -146,10 +157,10 @@ module _ (p : List ℕ) (h : Bytes p) where
       let last = ap (λ (n : ℕ). n % 256) is ∙ number in
       λ i. 0 ∷ 5 ∷ getD (whole i) 2 0 ∷ getD (whole i) 3 0 ∷ getD (whole i) 4 0 ∷ getD (whole i) 5 0 ∷ last i ∷ []
 
-  pub acknowledged-taken : {codec count : ℕ} {span : Span} → dataWalk 0 (payloadOf (readDatagram 1280 255 p)) ≡ DataWalk.Taken codec count span → count < 256
+  pub acknowledged-taken : {codec count : ℕ} {span : Span} → dataWalk 0 (payloadOf (readDatagram 1280 255 p)) ≡ DataWalk.Taken codec count span
       → (26 ≤ length p) × (udpAcknowledgement 1280 255 p ≡ accepted (answerBytes p count))
   unfolding udpAcknowledgement readDatagram payloadOf onAccepted
-  acknowledged-taken walk few =
+  acknowledged-taken walk =
       let c = carried 0 (readDatagram 1280 255 p) walk in
       let g = c .0 in
       let e = c .1 in
@@ -157,7 +168,7 @@ module _ (p : List ℕ) (h : Bytes p) where
       let same : _≡_ {A = AvlData} (g .payload) (t .content) = cc (t .accepts) in
       let count = ap (λ (a : AvlData). length (a .records)) same ∙ t .countIs in
       let header = onAccepted-accepted (judgeHeader 1280 p) _ e in
-      (payload-long 1280 p (header .1) .0, onAccepted-passed (readDatagram 1280 255 p) _ e ∙ ap accepted (answer-bytes 1280 255 g e count few))
+      (payload-long 1280 p (header .1) .0, onAccepted-passed (readDatagram 1280 255 p) _ e ∙ ap accepted (answer-bytes 1280 255 g e count (carried-fits 1280 255 0 p h walk .1)))
 
   pub acknowledged-refused : {x : Refusal} → dataWalk 0 (payloadOf (readDatagram 1280 255 p)) ≡ DataWalk.Refused x → udpAcknowledgement 1280 255 p ≡ refused (x .number) (x .index)
   unfolding udpAcknowledgement

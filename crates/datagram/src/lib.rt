@@ -1,6 +1,5 @@
 // UDP datagrams: judged, and acknowledged.
 use walk::DataWalk;
-use wire::Decimal;
 use wire::Refusal;
 use wire::Written;
 ghost use mathlib.Core.Path.{_≡_};
@@ -59,18 +58,16 @@ fn read_header(largest: usize, p: &[u8]) -> HeaderAnswer
     if p.len() != size + 2 {
         return refused(4);
     }
-    match wire::read_imei(p, 6) {
-        Decimal::Of(imei, _) => HeaderAnswer::Of(Header {
+    let imei = wire::read_imei(p, 6);
+    if imei < wire::NO_IMEI {
+        return HeaderAnswer::Of(Header {
             packet: wire::be16(p, 2),
             unused: p[4],
             avl: p[5],
             imei,
-        }),
-        Decimal::Unread(x) => HeaderAnswer::Refused(Refusal {
-            number: x.number,
-            index: x.index,
-        }),
+        });
     }
+    refused(15)
 }
 
 // The datagram's codec and count, and where the record with number `want` lies behind its first 25 bytes.
@@ -97,8 +94,8 @@ pub fn read_datagram(p: &[u8]) -> DatagramAnswer
             count,
             span: _,
         } => DatagramAnswer::Accepted {
-            codec,
-            count,
+            codec: codec as u8,
+            count: count as u8,
             header,
         },
         DataWalk::Refused(r) => DatagramAnswer::Refused(r),
@@ -137,7 +134,7 @@ pub fn acknowledge_datagram(p: &[u8], out: &mut [u8]) -> Written
                     index: 0,
                 });
             }
-            put_acknowledgement(p, count, out);
+            put_acknowledgement(p, count as u8, out);
             Written::Bytes(7)
         }
     }

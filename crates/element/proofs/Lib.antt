@@ -1,4 +1,4 @@
 pub mod ElementLaws
 pub mod ReadLaws
 pub mod SearchLaws
-pub mod CountLaws
+pub mod NumberLaws

@@ -7,9 +7,9 @@ use mathlib.Core.Bool.{Bool, true, false}
 use mathlib.Core.List.{List, [], _∷_}
 use lib.ListN.{length, drop, length-drop}
 use lib.Seq.{length-take-le}
-use lib.Dec.{eqb, leb}
+use lib.Dec.{eqb}
 use lib.IntN.{ℤ}
-use borrow.Author.Tests.{leb-true, leb-false, eq-eqb, ne-eqb}
+use borrow.Author.Tests.{eq-eqb, ne-eqb}
 use Rattle.wire.specs.declared.Fault.{Fault}
 use Rattle.wire.specs.Numbers.{Bytes, numberAt, signed, pick}
 use Rattle.wire.specs.Reading.{Read, got, bad, Reader, _>>=_, _>>_, pure, here, require, number, bytes, upTo, repeat}

@@ -4,12 +4,12 @@ ghost use mathlib.Core.Path.{_≡_};
 ghost use Prim.Native.Nat.{ℕ, _+_, _≤_};
 ghost use mathlib.Core.List.{List};
 ghost use Rattle.wire.specs.Reading.{got};
-ghost use Rattle.avl.specs.Records.{Element, AvlRecord, elementCount};
+ghost use Rattle.avl.specs.Records.{Element, AvlRecord};
 ghost use Rattle.avl.specs.RecordReader.{element, group, avlRecord};
 ghost use Rattle.walk.specs.Walks.{Narrow};
-ghost use Rattle.element.specs.Elements.{elements, fixedSize, locateGroup};
+ghost use Rattle.element.specs.Elements.{fixedSize, locateGroup, nth, firstWith};
 ghost use Rattle.element.specs.Results.{recordResult};
-ghost use Rattle.element.specs.Search.{Readable, ReadableElement, ReadableGroup, isWanted, pickFrom, valueAt, searched, elementAs};
+ghost use Rattle.element.specs.Search.{Readable, HasElements, ReadableElement, ReadableGroup, Finds, valueAt, searched, elementAs};
 
 // A record's fixed fields, and the number of its elements.
 pub struct RecordFields {
@@ -40,16 +40,10 @@ pub enum ElementAnswer {
     Nothing,
 }
 
-// What is looked for among a record's elements: the one with a number, or the first with an ID.
-pub enum Wanted {
-    Number(usize),
-    Id(u16),
-}
-
-// The wanted value of a group; or where the group ends and how many elements of the record are passed.
+// The value looked for in a group; or where the group ends.
 enum Search {
     Hit(Value),
-    Miss { next: usize, passed: usize },
+    Miss(usize),
 }
 
 // How many bytes of a record stand before its groups.
@@ -60,40 +54,16 @@ fn fixed_size(w: Widths) -> usize
     24 + w.event + w.generation + w.count
 }
 
-// The number of elements of the record that `part` is: the counts of its groups. A group of fixed values is stepped over by its size.
-fn element_count(w: Widths, part: &[u8]) -> usize
+// The fixed fields of the record that `part` is, which has so many elements. The fields that are always there are read last, in one run.
+pub fn fields_of(w: Widths, part: &[u8], elements: usize) -> RecordFields
     requires { ⌜ Narrow w ⌝ }
     requires { ⌜ Readable 255 w (now part) ⌝ }
-    ensures { λ r. ⌜ ((x : AvlRecord) (n : ℕ) → avlRecord 255 w (now (part .entry)) 0 ≡ got x n → r ≡ elementCount (x .groups)) ⌝ }
-{
-    let count = w.count;
-    let id = w.id;
-    let mut sum: usize = 0;
-    let mut next = fixed_size(w);
-    let mut k: usize = 0;
-    while k < 4 {
-        let n = wire::short_number(part, next, count) as usize;
-        sum += n;
-        next += count + n * (id + walk::kind_at(k));
-        k += 1;
-    }
-    let variable = w.variable;
-    if variable {
-        return sum + (wire::short_number(part, next, count) as usize);
-    }
-    sum
-}
-
-// The fixed fields and the number of elements of the record that `part` is. The fields that are always there are read last, in one run.
-pub fn fields_of(w: Widths, part: &[u8]) -> RecordFields
-    requires { ⌜ Narrow w ⌝ }
-    requires { ⌜ Readable 255 w (now part) ⌝ }
+    requires { ⌜ HasElements 255 w (now part) elements ⌝ }
     ensures { λ r. ⌜ ((x : AvlRecord) (n : ℕ) → avlRecord 255 w (now (part .entry)) 0 ≡ got x n → r ≡ recordResult x) ⌝ }
 {
     let event = w.event;
     let generation = w.generation;
     let behind = 24 + event;
-    let elements = element_count(w, part);
     let event_id = wire::short_number(part, 24, event) as u16;
     let reason = wire::short_number(part, behind, generation) as u8;
     RecordFields {
@@ -108,15 +78,6 @@ pub fn fields_of(w: Widths, part: &[u8]) -> RecordFields
         event: event_id,
         generation: reason,
         elements,
-    }
-}
-
-fn is_wanted(wanted: Wanted, place: usize, id: u16) -> bool
-    ensures { λ r. ⌜ r ≡ isWanted wanted place id ⌝ }
-{
-    match wanted {
-        Wanted::Number(k) => place == k,
-        Wanted::Id(d) => id == d,
     }
 }
 
@@ -147,20 +108,12 @@ fn element_value(w: Widths, kind: usize, part: &[u8], at: usize) -> Value
     }
 }
 
-// The wanted element of a group, of whose record `passed` elements stand before it.
-fn find_in_group(
-    w: Widths,
-    kind: usize,
-    part: &[u8],
-    at: usize,
-    passed: usize,
-    wanted: Wanted,
-) -> Search
+// The first element of a group with this ID.
+fn find_in_group(w: Widths, kind: usize, part: &[u8], at: usize, id: u16) -> Search
     requires { ⌜ Narrow w ⌝ }
     requires { ⌜ kind ≤ 9 ⌝ }
-    requires { ⌜ passed ≤ 1048576 ⌝ }
     requires { ⌜ ReadableGroup w kind (now part) at ⌝ }
-    ensures { λ r. ⌜ ((g : List Element) (n : ℕ) → group w kind (now (part .entry)) at ≡ got g n → r ≡ searched wanted passed n (locateGroup w kind (at + w .count) g)) ⌝ }
+    ensures { λ r. ⌜ ((g : List Element) (n : ℕ) → group w kind (now (part .entry)) at ≡ got g n → r ≡ searched id n (locateGroup w kind (at + w .count) g)) ⌝ }
 {
     let width = w.count;
     let count = wire::short_number(part, at, width) as usize;
@@ -168,40 +121,82 @@ fn find_in_group(
     let mut i: usize = 0;
     while i < count {
         let v = element_value(w, kind, part, next);
-        if is_wanted(wanted, passed + i, v.id) {
+        if v.id == id {
             return Search::Hit(v);
         }
         next = v.offset + v.size;
         i += 1;
     }
-    Search::Miss {
-        next,
-        passed: passed + count,
-    }
+    Search::Miss(next)
 }
 
-// The wanted element of the record that `part` is.
-pub fn find_element(w: Widths, part: &[u8], wanted: Wanted) -> ElementAnswer
+// The first element with this ID, of the record that `part` is.
+pub fn find_id(w: Widths, part: &[u8], id: u16) -> ElementAnswer
     requires { ⌜ Narrow w ⌝ }
     requires { ⌜ Readable 255 w (now part) ⌝ }
-    ensures { λ r. ⌜ ((x : AvlRecord) (n : ℕ) → avlRecord 255 w (now (part .entry)) 0 ≡ got x n → r ≡ elementAs (pickFrom wanted 0 (elements w x))) ⌝ }
+    ensures { λ r. ⌜ Finds 255 w (now (part .entry)) (firstWith id) r ⌝ }
 {
     let kinds = walk::kind_count(w);
     let mut next = fixed_size(w);
-    let mut passed: usize = 0;
     let mut k: usize = 0;
     while k < kinds {
-        match find_in_group(w, walk::kind_at(k), part, next, passed, wanted) {
+        match find_in_group(w, walk::kind_at(k), part, next, id) {
             Search::Hit(v) => return ElementAnswer::At(v),
-            Search::Miss {
-                next: end,
-                passed: more,
-            } => {
-                next = end;
-                passed = more;
-            }
+            Search::Miss(end) => next = end,
         }
         k += 1;
+    }
+    ElementAnswer::Nothing
+}
+
+// The variable element with number `n` in the group at `at`.
+fn nth_variable(w: Widths, part: &[u8], at: usize, n: usize) -> ElementAnswer
+    requires { ⌜ Narrow w ⌝ }
+    requires { ⌜ ReadableGroup w 9 (now part) at ⌝ }
+    ensures { λ r. ⌜ ((g : List Element) (m : ℕ) → group w 9 (now (part .entry)) at ≡ got g m → r ≡ elementAs (nth n (locateGroup w 9 (at + w .count) g))) ⌝ }
+{
+    let width = w.count;
+    let count = wire::short_number(part, at, width) as usize;
+    if count <= n {
+        return ElementAnswer::Nothing;
+    }
+    let mut next = at + width;
+    let mut i: usize = 0;
+    while i < n {
+        let v = element_value(w, 9, part, next);
+        next = v.offset + v.size;
+        i += 1;
+    }
+    ElementAnswer::At(element_value(w, 9, part, next))
+}
+
+// The element with number `n` of the record that `part` is. A group of fixed values is stepped over by its size.
+pub fn nth_element(w: Widths, part: &[u8], n: usize) -> ElementAnswer
+    requires { ⌜ Narrow w ⌝ }
+    requires { ⌜ Readable 255 w (now part) ⌝ }
+    ensures { λ r. ⌜ Finds 255 w (now (part .entry)) (nth n) r ⌝ }
+{
+    let width = w.count;
+    let id = w.id;
+    let mut left = n;
+    let mut next = fixed_size(w);
+    let mut k: usize = 0;
+    while k < 4 {
+        let kind = walk::kind_at(k);
+        let size = id + kind;
+        let count = wire::short_number(part, next, width) as usize;
+        let start = next + width;
+        if left < count {
+            let place = start + left * size;
+            return ElementAnswer::At(element_value(w, kind, part, place));
+        }
+        left -= count;
+        next = start + count * size;
+        k += 1;
+    }
+    let variable = w.variable;
+    if variable {
+        return nth_variable(w, part, next, left);
     }
     ElementAnswer::Nothing
 }

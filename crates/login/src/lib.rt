@@ -1,5 +1,4 @@
 // The TCP login and its answer.
-use wire::Decimal;
 use wire::Refusal;
 use wire::Written;
 ghost use mathlib.Core.Path.{_≡_};
@@ -29,13 +28,14 @@ pub fn read_login(p: &[u8]) -> LoginAnswer
             index: 0,
         });
     }
-    match wire::read_imei(p, 0) {
-        Decimal::Of(imei, _) => LoginAnswer::Imei(imei),
-        Decimal::Unread(x) => LoginAnswer::Refused(Refusal {
-            number: x.number,
-            index: x.index,
-        }),
+    let imei = wire::read_imei(p, 0);
+    if imei < wire::NO_IMEI {
+        return LoginAnswer::Imei(imei);
     }
+    LoginAnswer::Refused(Refusal {
+        number: 15,
+        index: 0,
+    })
 }
 
 fn answer_byte(p: &[u8], known: bool) -> u8

@@ -16,16 +16,14 @@ use Rattle.frame.proofs.FrameLaws.{length-framed}
 use Rattle.packet.specs.DataPackets.{packetBytes, readPacket}
 use Rattle.packet.proofs.PacketLaws.{packet-exact}
 use Rattle.element.specs.declared.Value.{Value}
-use Rattle.element.specs.declared.Wanted.{Wanted}
 use Rattle.element.specs.Elements.{firstWith}
-use Rattle.element.proofs.SearchLaws.{pick-id}
 use Rattle.lookup.specs.declared.Part.{Part}
 use Rattle.lookup.specs.declared.ValueAnswer.{ValueAnswer}
 use Rattle.lookup.specs.declared.KnownAnswer.{KnownAnswer}
 use Rattle.lookup.specs.Lookups.{Source, tcpSource, Found, view, LastKnown, valueInLast, inOlder, orElse, lastKnown}
 use Rattle.lookup.specs.Answers.{PartResult, partOf, lastPart, partAs, PartIn, ValueIn, Within, viewOf, valueResult, answerValue, valueAs, KnownResult, answerKnown, knownAs, knownView}
 use Rattle.lookup.proofs.PlaceLaws.{Stored, tcp-stored, first-member}
-use Rattle.lookup.proofs.PartLaws.{part-there, part-in, value-answer, value-view}
+use Rattle.lookup.proofs.PartLaws.{part-there, part-in, first-sixteen, value-answer, value-view}
 
 -- ---- the last record of a TCP packet
 
@@ -78,10 +76,10 @@ module _ (p : List ℕ) (bytes : Bytes p) where
   unfolding lastPart
   last-in part e = part-in stored lastNumber part e
 
-  pub last-value : (id : ℕ) (part : Part) (answer : ValueAnswer) → partAs part ≡ lastPart (tcpSource 1280 255 p) → ValueIn p part (Wanted.Id id) answer
+  pub last-value : (id : ℕ) (part : Part) (answer : ValueAnswer) → partAs part ≡ lastPart (tcpSource 1280 255 p) → ValueIn p part (firstWith id) answer
       → valueAs answer ≡ answerValue (inLast id (tcpSource 1280 255 p))
   unfolding lastPart valueInLast
-  last-value id part answer e k = value-answer stored lastNumber (firstWith id) (Wanted.Id id) part answer (pick-id id 0) e k
+  last-value id part answer e k = value-answer stored lastNumber (firstWith id) (first-sixteen id) part answer e k
 
   pub last-view : (id : ℕ) (answer : ValueAnswer) → valueAs answer ≡ answerValue (inLast id (tcpSource 1280 255 p))
       → Within p answer × (viewOf p answer ≡ view (inLast id (tcpSource 1280 255 p)))

@@ -1,46 +1,48 @@
 -- A record as a part of the input, and what is looked up in it.
-use Prim.Native.Nat.{ℕ, zero, suc, _+_, _-_, _≤_, _<_}
+use Prim.Native.Nat.{ℕ, zero, suc, _+_, _-_, _^_, _≤_, _<_}
 use native.Mathlib.Nat.{add-zero, add-assoc, not-suc-le-zero, le-of-suc-le-suc}
 use native.Mathlib.Omega.{arith}
 use mathlib.Core.Path.{_≡_, refl, sym, ap, ap₂, _∙_, subst}
+use mathlib.Core.Bool.{Bool, true, false}
 use mathlib.Core.List.{List, [], _∷_}
 use lib.ListN.{length, drop, length-drop}
 use lib.Seq.{length-take-le}
+use lib.Dec.{eqb}
 use Rattle.wire.specs.declared.Refusal.{Refusal}
-use Rattle.wire.specs.Numbers.{Bytes}
+use Rattle.wire.specs.Numbers.{Bytes, pick}
 use Rattle.wire.specs.Sequences.{All}
 use Rattle.wire.specs.Reading.{got}
 use Rattle.wire.specs.Answers.{Answer, accepted, refused, onAccepted}
 use Rattle.wire.proofs.Widths.{bytes-take, bytes-drop}
-use Rattle.wire.proofs.Accepting.{pick-either, onAccepted-accepted, onAccepted-passed, onAccepted-refused}
+use Rattle.wire.proofs.Accepting.{onAccepted-accepted, onAccepted-passed, onAccepted-refused}
 use Rattle.avl.specs.declared.Widths.{Widths}
 use Rattle.avl.specs.Codecs.{widthsOf}
-use Rattle.avl.specs.Records.{AvlRecord, recordBytes}
+use Rattle.avl.specs.Records.{AvlRecord, elementCount, recordBytes}
 use Rattle.avl.specs.DataField.{AvlData}
 use Rattle.avl.proofs.RecordLaws.{record-exact}
 use Rattle.avl.specs.RecordReader.{avlRecord}
 use Rattle.walk.specs.declared.Span.{Span}
 use Rattle.walk.specs.declared.DataWalk.{DataWalk}
-use Rattle.walk.specs.Walks.{spanOf, dataWalk}
+use Rattle.walk.specs.Walks.{Narrow, spanOf, dataWalk}
 use Rattle.walk.proofs.TakenLaws.{taken, not-taken}
+use Rattle.walk.proofs.WalkLaws.{narrow}
 use Rattle.packet.specs.DataPackets.{readPacket}
 use Rattle.datagram.specs.Datagrams.{Datagram, readDatagram, payloadOf}
 use Rattle.element.specs.declared.Value.{Value}
-use Rattle.element.specs.declared.Wanted.{Wanted}
 use Rattle.element.specs.declared.ElementAnswer.{ElementAnswer}
-use Rattle.element.specs.Elements.{Located, elements, nth}
+use Rattle.element.specs.Elements.{Located, elements, nth, firstWith}
 use Rattle.element.specs.Places.{part, Inside}
 use Rattle.element.specs.Results.{recordResult}
-use Rattle.element.specs.Search.{isWanted, pickFrom, locatedValue, elementAs}
+use Rattle.element.specs.Search.{Readable, HasElements, Finds, locatedValue, elementAs}
+use Rattle.element.proofs.ReadLaws.{got-same}
 use Rattle.element.proofs.ElementLaws.{elements-inside}
-use Rattle.element.proofs.SearchLaws.{pick-number, pick-id}
 use Rattle.lookup.specs.declared.Part.{Part}
 use Rattle.lookup.specs.declared.RecordAnswer.{RecordAnswer}
 use Rattle.lookup.specs.declared.ValueAnswer.{ValueAnswer}
 use Rattle.lookup.specs.Places.{Placed, placeRecords}
 use Rattle.lookup.specs.Lookups.{Source, tcpSource, udpSource, placedRecord, Found, foundIn, valueIn, view}
-use Rattle.lookup.specs.Answers.{recordAs, PartResult, partOf, partAs, PartIn, RecordIn, ValueIn, movedBy, Within, viewOf, valueResult, answerValue, valueAs}
-use Rattle.lookup.proofs.PlaceLaws.{Stored, nth-member, first-member, kept, own-part, value-in-place}
+use Rattle.lookup.specs.Answers.{recordAs, PartResult, partOf, partAs, PartIn, RecordIn, ValueIn, Reaches, shifted, Within, viewOf, valueResult, answerValue, valueAs}
+use Rattle.lookup.proofs.PlaceLaws.{Stored, kept, own-part, value-in-place}
 
 -- ---- the span of a record is its place
 
@@ -49,9 +51,10 @@ span-placed : (w : Widths) (base at n : ℕ) (rs : List AvlRecord) → n < lengt
     × (nth n (placeRecords w (base + at) rs) ≡ accepted r)
     × (r .start ≡ base + spanOf w n at rs .start)
     × (r .start + length (recordBytes w (r .content)) ≡ base + spanOf w n at rs .end)
+    × (elementCount (r .content .groups) ≡ spanOf w n at rs .elements)
 unfolding placeRecords nth spanOf
 span-placed w base at n [] h = absurd (not-suc-le-zero h)
-span-placed w base at zero (r ∷ rs) h = (record { start = base + at; content = r }, refl, refl, add-assoc base at (length (recordBytes w r)))
+span-placed w base at zero (r ∷ rs) h = (record { start = base + at; content = r }, refl, refl, add-assoc base at (length (recordBytes w r)), refl)
 span-placed w base at (suc n) (r ∷ rs) h = rw (add-assoc base at (length (recordBytes w r))) (span-placed w base (at + length (recordBytes w r)) n rs (le-of-suc-le-suc h))
 
 none-placed : (w : Widths) (at n : ℕ) (rs : List AvlRecord) → length rs ≤ n → nth n (placeRecords w at rs) ≡ refused 16 0
@@ -69,18 +72,20 @@ there-placed : (x : Source) (n : ℕ) → n < length (x .content .records)
     × (placedRecord x n ≡ accepted r)
     × (r .start ≡ x .base + spanIn x n .start)
     × (r .start + length (recordBytes (widthsOf (x .content .codec)) (r .content)) ≡ x .base + spanIn x n .end)
+    × (elementCount (r .content .groups) ≡ spanIn x n .elements)
 unfolding placedRecord
 there-placed x n h =
     let w = widthsOf (x .content .codec) in
     let s = span-placed w (x .base) 0 n (x .content .records) h in
-    (s .0, ap (λ (at : ℕ). nth n (placeRecords w at (x .content .records))) (sym (add-zero (x .base))) ∙ s .1, s .2, s .3)
+    (s .0, ap (λ (at : ℕ). nth n (placeRecords w at (x .content .records))) (sym (add-zero (x .base))) ∙ s .1, s .2, s .3, s .4)
 
 pub part-there : (x : Source) (n : ℕ) → n < length (x .content .records)
-    → partOf (accepted x) n ≡ accepted (record { codec = x .content .codec; start = x .base + spanIn x n .start; end = x .base + spanIn x n .end })
+    → partOf (accepted x) n
+    ≡ accepted (record { codec = x .content .codec; start = x .base + spanIn x n .start; end = x .base + spanIn x n .end; elements = spanIn x n .elements })
 unfolding partOf onAccepted
 part-there x n h =
     let s = there-placed x n h in
-    onAccepted-passed (placedRecord x n) _ (s .1) ∙ ap₂ (λ (i j : ℕ). accepted (record { codec = x .content .codec; start = i; end = j })) (s .2) (s .3)
+    onAccepted-passed (placedRecord x n) _ (s .1) ∙ (λ i. accepted (record { codec = x .content .codec; start = s .2 i; end = s .3 i; elements = s .4 i }))
 
 part-beyond : (x : Source) (n : ℕ) → length (x .content .records) ≤ n → partOf (accepted x) n ≡ refused 16 0
 unfolding partOf placedRecord onAccepted
@@ -110,7 +115,7 @@ abbrev sizeOf : Source → Placed → ℕ
 sizeOf x r = length (recordBytes (widthsOf (x .content .codec)) (r .content))
 
 abbrev asPart : Source → Placed → Part
-asPart x r = Part.Of (x .content .codec) (r .start) (r .start + sizeOf x r)
+asPart x r = Part.Of (x .content .codec) (r .start) (r .start + sizeOf x r) (elementCount (r .content .groups))
 
 record Lies (p : List ℕ) (source : Answer Source) (number : Source → ℕ) (part : Part) : Type 0 where
   origin : Source
@@ -130,17 +135,24 @@ module _ {p : List ℕ} {source : Answer Source} {number : Source → ℕ} {q : 
 
   lies-in : PartIn p q
   lies-in =
-      subst (PartIn p) (h .is)
-      (omega arith, (kept 255 p (h .origin) (number (h .origin)) (h .placed) (h .stored) (h .found) .stands .inside, record { content = _; next = _; reads = reads }))
+      subst (PartIn p) (h .is) (
+        omega arith,
+        (
+          kept 255 p (h .origin) (number (h .origin)) (h .placed) (h .stored) (h .found) .stands .inside,
+          (record { content = _; next = _; reads = reads }, λ x n k. ap (λ (y : AvlRecord). elementCount (y .groups)) (got-same reads k .0)),
+        ),
+      )
+
+-- a look-up refuses only with 16
+abbrev Sixteen : (List Located → Answer Located) → Type 0
+Sixteen look = (l : List Located) (n i : ℕ) → look l ≡ refused n i → (n ≡ 16) × (i ≡ 0)
 
 -- a found element, its offset counted from the input's start
-moved : (wanted : Wanted) (place : ℕ) (r : Placed) (l : List Located)
-    → valueAs (movedBy (r .start) (pickFrom wanted place l)) ≡ answerValue (onAccepted (pickFrom wanted place l) (λ e. accepted (foundIn r e)))
-unfolding valueAs movedBy pickFrom answerValue onAccepted foundIn valueResult
-moved wanted place r [] = refl
-moved wanted place r (e ∷ l) =
-    pick-either (λ (c : Answer Located). valueAs (movedBy (r .start) c) ≡ answerValue (onAccepted c (λ e. accepted (foundIn r e)))) (isWanted wanted place (e .id)) (accepted e) _
-    refl (moved wanted (suc place) r l)
+shifted-found : (r : Placed) (c : Answer Located) → ((n i : ℕ) → c ≡ refused n i → (n ≡ 16) × (i ≡ 0))
+    → valueAs (shifted (r .start) (elementAs c)) ≡ answerValue (onAccepted c (λ e. accepted (foundIn r e)))
+unfolding valueAs shifted elementAs locatedValue answerValue onAccepted foundIn valueResult
+shifted-found r (accepted e) h = refl
+shifted-found r (refused n i) h = ap₂ refused (sym (h n i refl .0)) (sym (h n i refl .1))
 
 refused-view : (found : Answer Found) {n i : ℕ} → answerValue found ≡ refused n i → view found ≡ []
 unfolding answerValue onAccepted view
@@ -148,24 +160,26 @@ refused-view (accepted f) e = absurd (let z : _≡_ {A = ℕ} 0 1 = cc in omega 
 refused-view (refused n i) e = refl
 
 module _ {p : List ℕ} {source : Answer Source} (stored : (x : Source) → source ≡ accepted x → Stored 255 p x) (number : Source → ℕ) where
-  lies : {codec start end : ℕ} → accepted (record { codec = codec; start = start; end = end }) ≡ partAt number source → Lies p source number (Part.Of codec start end)
+  lies : {codec start end count : ℕ} → accepted (record { codec = codec; start = start; end = end; elements = count }) ≡ partAt number source
+      → Lies p source number (Part.Of codec start end count)
   unfolding partOf onAccepted
-  lies {codec} {start} {end} e =
+  lies {codec} {start} {end} {count} e =
       let i = onAccepted-accepted source _ (sym e) in
       let j = onAccepted-accepted (placedRecord (i .0) (number (i .0))) _ (i .2) in
-      let same : _≡_ {A = PartResult} (record { codec = i .0 .content .codec; start = j .0 .start; end = j .0 .start + sizeOf (i .0) (j .0) }) (record { codec = codec; start = start; end = end }) = cc (j .2) in
+      let same : _≡_ {A = PartResult} (record { codec = i .0 .content .codec; start = j .0 .start; end = j .0 .start + sizeOf (i .0) (j .0); elements = elementCount (j .0 .content .groups) })
+      (record { codec = codec; start = start; end = end; elements = count }) = cc (j .2) in
       record {
         origin = i .0;
         stored = stored (i .0) (i .1);
         accepts = i .1;
         placed = j .0;
         found = j .1;
-        is = ap (λ (r : PartResult). Part.Of (r .codec) (r .start) (r .end)) same;
+        is = ap (λ (r : PartResult). Part.Of (r .codec) (r .start) (r .end) (r .elements)) same;
       }
 
   pub part-in : (part : Part) → partAs part ≡ partAt number source → PartIn p part
   unfolding partAs
-  part-in (Part.Of codec start end) e = lies-in (lies e)
+  part-in (Part.Of codec start end count) e = lies-in (lies e)
   part-in (Part.Refused r) e = tt
 
   -- the answer of a refused part
@@ -177,7 +191,7 @@ module _ {p : List ℕ} {source : Answer Source} (stored : (x : Source) → sour
   pub record-answer : (part : Part) (answer : RecordAnswer) → partAs part ≡ partAt number source → RecordIn p part answer
       → recordAs answer ≡ onAccepted source (λ x. onAccepted (placedRecord x (number x)) (λ r. accepted (recordResult (r .content))))
   unfolding partAs recordAs
-  record-answer (Part.Of codec start end) answer e k =
+  record-answer (Part.Of codec start end count) answer e k =
       let h = lies e in
       let k' : RecordIn p (asPart (h .origin) (h .placed)) answer = subst (λ (q : Part). RecordIn p q answer) (sym (h .is)) k in
       ap recordAs (k' _ _ (reads h))
@@ -189,18 +203,17 @@ module _ {p : List ℕ} {source : Answer Source} (stored : (x : Source) → sour
     abbrev pub wantedIn : Answer Found
     wantedIn = onAccepted source (λ x. valueIn choose x (number x))
 
-    pub value-answer : (wanted : Wanted) (part : Part) (answer : ValueAnswer) → ((l : List Located) → pickFrom wanted 0 l ≡ choose l)
-        → partAs part ≡ partAt number source → ValueIn p part wanted answer → valueAs answer ≡ answerValue wantedIn
+    pub value-answer : Sixteen choose → (part : Part) (answer : ValueAnswer) → partAs part ≡ partAt number source → ValueIn p part choose answer
+        → valueAs answer ≡ answerValue wantedIn
     unfolding partAs valueAs valueIn answerValue
-    value-answer wanted (Part.Of codec start end) answer same e k =
+    value-answer sixteen (Part.Of codec start end count) answer e k =
         let h = lies e in
         let l = elements (widthsOf (h .origin .content .codec)) (h .placed .content) in
-        let k' : ValueIn p (asPart (h .origin) (h .placed)) wanted answer = subst (λ (q : Part). ValueIn p q wanted answer) (sym (h .is)) k in
+        let k' : ValueIn p (asPart (h .origin) (h .placed)) choose answer = subst (λ (q : Part). ValueIn p q choose answer) (sym (h .is)) k in
         ap valueAs (k' _ _ (reads h))
-        ∙ moved wanted 0 (h .placed) l
-        ∙ ap (λ (r : Answer Located). answerValue (onAccepted r (λ e. accepted (foundIn (h .placed) e)))) (same l)
+        ∙ shifted-found (h .placed) (choose l) (sixteen l)
         ∙ sym (ap answerValue (onAccepted-passed source _ (h .accepts) ∙ onAccepted-passed (placedRecord (h .origin) (number (h .origin))) _ (h .found)))
-    value-answer wanted (Part.Refused r) answer same e k =
+    value-answer sixteen (Part.Refused r) answer e k =
         ap valueAs k
         ∙ sym (onAccepted-refused wantedIn _ (sym (part-refused (λ x r. onAccepted (choose (elements (widthsOf (x .content .codec)) (r .content))) (λ e. accepted (foundIn r e))) e)))
 
@@ -221,58 +234,66 @@ module _ {p : List ℕ} {source : Answer Source} (stored : (x : Source) → sour
         )
     value-view member (ValueAnswer.Refused r) e = (tt, sym (refused-view wantedIn (sym e)))
 
+-- ---- the look-ups by number and by ID
+
+pub nth-sixteen : (k : ℕ) → Sixteen (nth k)
+unfolding nth
+nth-sixteen k [] n i e = (cc, cc)
+nth-sixteen zero (a ∷ l) n i e = absurd (let z : _≡_ {A = ℕ} 0 1 = cc in omega arith)
+nth-sixteen (suc k) (a ∷ l) n i e = nth-sixteen k l n i e
+
+pub first-sixteen : (id : ℕ) → Sixteen (firstWith id)
+unfolding firstWith
+first-sixteen id [] n i e = (cc, cc)
+first-sixteen id (a ∷ l) n i e = go (eqb (a .id) id) e (first-sixteen id l n i)
+  where
+    go : (t : Bool) → pick t (accepted a) (firstWith id l) ≡ refused n i → (firstWith id l ≡ refused n i → (n ≡ 16) × (i ≡ 0)) → (n ≡ 16) × (i ≡ 0)
+    go true e h = absurd (let z : _≡_ {A = ℕ} 0 1 = cc in omega arith)
+    go false e h = h e
+
+-- ---- what may be asked of a part
+
+module _ (p : List ℕ) (codec start end count : ℕ) {w : Widths} (same : w ≡ widthsOf codec) (h : PartIn p (Part.Of codec start end count)) where
+  pub part-fields : Narrow w × (Readable 255 w (part p start (end - start)) × HasElements 255 w (part p start (end - start)) count)
+  part-fields =
+      subst (λ (w : Widths). Narrow w × (Readable 255 w (part p start (end - start)) × HasElements 255 w (part p start (end - start)) count)) (sym same) (narrow codec, h .1 .1)
+
+  pub part-narrow : Narrow w × Readable 255 w (part p start (end - start))
+  part-narrow = (part-fields .0, part-fields .1 .0)
+
 -- ---- what a search in a part gives
 
--- what holds of each element holds of the one that is picked
-pick-member : (wanted : Wanted) (l : List Located) (e : Located) → pickFrom wanted 0 l ≡ accepted e → (P : Located → Type 0) → All P l → P e
-pick-member (Wanted.Number k) l e h = nth-member k l e (sym (pick-number k l) ∙ h)
-pick-member (Wanted.Id d) l e h = first-member d l e (sym (pick-id d 0 l) ∙ h)
-
-at-moved : (start : ℕ) (v : Value) (c : Answer Located) → ElementAnswer.At v ≡ elementAs c
-    → ValueAnswer.Found (record { id = v .id; kind = v .kind; offset = start + v .offset; size = v .size }) ≡ movedBy start c
-unfolding elementAs movedBy locatedValue
-at-moved start v (accepted e) h =
-    let same : v ≡ locatedValue e = cc in
-    ap (λ (v : Value). ValueAnswer.Found (record { id = v .id; kind = v .kind; offset = start + v .offset; size = v .size })) same
-at-moved start v (refused n i) h = absurd (let z : _≡_ {A = ℕ} 0 1 = cc in omega arith)
-
-nothing-moved : (start : ℕ) (c : Answer Located) → ElementAnswer.Nothing ≡ elementAs c → ValueAnswer.Refused (record { number = 16; index = 0 }) ≡ movedBy start c
-unfolding elementAs movedBy
-nothing-moved start (accepted e) h = absurd (let z : _≡_ {A = ℕ} 0 1 = cc in omega arith)
-nothing-moved start (refused n i) h = refl
-
-at-inside : (w : Widths) (s : List ℕ) (x : AvlRecord) (n : ℕ) (wanted : Wanted) (v : Value) → Bytes s → avlRecord 255 w s 0 ≡ got x n
-    → ElementAnswer.At v ≡ elementAs (pickFrom wanted 0 (elements w x)) → v .offset + v .size ≤ length s
+at-inside : (w : Widths) (s : List ℕ) (x : AvlRecord) (n : ℕ) (c : Answer Located) (v : Value) → Bytes s → avlRecord 255 w s 0 ≡ got x n
+    → ((e : Located) → c ≡ accepted e → (P : Located → Type 0) → All P (elements w x) → P e) → ElementAnswer.At v ≡ elementAs c → v .offset + v .size ≤ length s
 unfolding elementAs locatedValue
-at-inside w s x n wanted v b e h = go (pickFrom wanted 0 (elements w x)) refl h
-  where
-    go : (c : Answer Located) → pickFrom wanted 0 (elements w x) ≡ c → ElementAnswer.At v ≡ elementAs c → v .offset + v .size ≤ length s
-    go (accepted e') k h =
-        let m = pick-member wanted (elements w x) e' k (λ (a : Located). Inside a (recordBytes w x)) (elements-inside w x) in
-        let f = record-exact 255 w .sound s 0 b (omega arith) .if-got _ _ e in
-        let same : v ≡ locatedValue e' = cc in
-        subst (λ (v : Value). v .offset + v .size ≤ length s) (sym same) (omega (arith, m .within, f .0 .inside, f .0 .size))
-    go (refused n i) k h = absurd (let z : _≡_ {A = ℕ} 0 1 = cc in omega arith)
+at-inside w s x n (accepted e') v b e member h =
+    let m = member e' refl (λ (a : Located). Inside a (recordBytes w x)) (elements-inside w x) in
+    let f = record-exact 255 w .sound s 0 b (omega arith) .if-got _ _ e in
+    let same : v ≡ locatedValue e' = cc in
+    subst (λ (v : Value). v .offset + v .size ≤ length s) (sym same) (omega (arith, m .within, f .0 .inside, f .0 .size))
+at-inside w s x n (refused m i) v b e member h = absurd (let z : _≡_ {A = ℕ} 0 1 = cc in omega arith)
 
-module _ (p : List ℕ) (codec start end : ℕ) (wanted : Wanted) {w : Widths} {answer : ElementAnswer} (same : w ≡ widthsOf codec)
-    (found : (x : AvlRecord) (n : ℕ) → avlRecord 255 w (part p start (end - start)) 0 ≡ got x n → answer ≡ elementAs (pickFrom wanted 0 (elements w x))) where
-  searched : (x : AvlRecord) (n : ℕ) → avlRecord 255 (widthsOf codec) (part p start (end - start)) 0 ≡ got x n → answer ≡ elementAs (pickFrom wanted 0 (elements (widthsOf codec) x))
+module _ (p : List ℕ) (codec start end count : ℕ) (look : List Located → Answer Located) {w : Widths} {answer : ElementAnswer} (same : w ≡ widthsOf codec)
+    (found : Finds 255 w (part p start (end - start)) look answer) where
+  searched : Finds 255 (widthsOf codec) (part p start (end - start)) look answer
   searched = rw same at found
 
-  pub value-none : answer ≡ ElementAnswer.Nothing → ValueIn p (Part.Of codec start end) wanted (ValueAnswer.Refused (record { number = 16; index = 0 }))
-  value-none e x n h = nothing-moved start _ (sym e ∙ searched x n h)
+  pub value-found : {r : ValueAnswer} → r ≡ shifted start answer → ValueIn p (Part.Of codec start end count) look r
+  value-found e x n h = e ∙ ap (shifted start) (searched x n h)
 
-  module _ {v : Value} (e : answer ≡ ElementAnswer.At v) where
-    pub value-at : ValueIn p (Part.Of codec start end) wanted (ValueAnswer.Found (record { id = v .id; kind = v .kind; offset = start + v .offset; size = v .size }))
-    value-at x n h = at-moved start v _ (sym e ∙ searched x n h)
-
-    pub value-within : Bytes p → PartIn p (Part.Of codec start end) → start + v .offset ≤ length p
-    unfolding part
-    value-within b k =
-        let r = k .1 .1 in
-        let inside = at-inside (widthsOf codec) _ (r .content) (r .next) wanted v (bytes-take (end - start) (drop start p) (bytes-drop start p b)) (r .reads) (sym e ∙ searched _ _ (r .reads)) in
-        let size = length-take-le (end - start) (drop start p) (simp length-drop (omega arith)) in
-        omega arith
+  pub value-reaches : ((l : List Located) (e : Located) → look l ≡ accepted e → (P : Located → Type 0) → All P l → P e) → length p < 2 ^ 64
+      → Bytes p → PartIn p (Part.Of codec start end count) → Reaches start answer
+  unfolding part
+  value-reaches member few b k = go answer refl
+    where
+      go : (a : ElementAnswer) → answer ≡ a → Reaches start a
+      go ElementAnswer.Nothing e = tt
+      go (ElementAnswer.At v) e =
+          let r = k .1 .1 .0 in
+          let l = elements (widthsOf codec) (r .content) in
+          let inside = at-inside (widthsOf codec) _ (r .content) (r .next) (look l) v (bytes-take (end - start) (drop start p) (bytes-drop start p b)) (r .reads) (member l) (sym e ∙ searched _ _ (r .reads)) in
+          let size = length-take-le (end - start) (drop start p) (simp length-drop (omega arith)) in
+          omega arith
 
 -- ---- what the walks tell
 
@@ -285,12 +306,12 @@ pub record Walked (source : Answer Source) (base n codec count : ℕ) (span : Sp
   pub spanIs : spanOf (widthsOf (content .codec)) n 0 (content .records) ≡ span
 
 module _ {source : Answer Source} {base n codec count : ℕ} {span : Span} (h : Walked source base n codec count span) where
-  pub walked-part : n < count → partAs (Part.Of codec (base + span .start) (base + span .end)) ≡ partOf source n
+  pub walked-part : n < count → partAs (Part.Of codec (base + span .start) (base + span .end) (span .elements)) ≡ partOf source n
   unfolding partAs
   walked-part k =
       sym (ap (λ (s : Answer Source). partOf s n) (h .accepts)
       ∙ part-there (record { content = h .content; base = base }) n (subst (λ (m : ℕ). n < m) (sym (h .countIs)) k)
-      ∙ ap₂ (λ (c : ℕ) (s : Span). accepted (record { codec = c; start = base + s .start; end = base + s .end })) (h .codecIs) (h .spanIs))
+      ∙ ap₂ (λ (c : ℕ) (s : Span). accepted (record { codec = c; start = base + s .start; end = base + s .end; elements = s .elements })) (h .codecIs) (h .spanIs))
 
   pub walked-none : count ≤ n → partAs (Part.Refused (record { number = 16; index = 0 })) ≡ partOf source n
   unfolding partAs

@@ -1,5 +1,5 @@
 -- What the code answers, of what the definitions give.
-use Prim.Native.Nat.{ℕ, _+_, _-_, _≤_}
+use Prim.Native.Nat.{ℕ, _+_, _-_, _^_, _≤_, _<_}
 use mathlib.Core.Path.{_≡_}
 use mathlib.Core.Bool.{Bool}
 use mathlib.Core.List.{List, []}
@@ -7,15 +7,15 @@ use lib.ListN.{length}
 use Rattle.wire.specs.Reading.{got}
 use Rattle.wire.specs.Answers.{Answer, accepted, refused, onAccepted}
 use Rattle.avl.specs.Codecs.{widthsOf}
-use Rattle.avl.specs.Records.{AvlRecord, recordBytes}
+use Rattle.avl.specs.Records.{AvlRecord, elementCount, recordBytes}
 use Rattle.avl.specs.RecordReader.{avlRecord}
 use Rattle.element.specs.declared.Value.{Value}
-use Rattle.element.specs.declared.Wanted.{Wanted}
 use Rattle.element.specs.declared.RecordFields.{RecordFields}
+use Rattle.element.specs.declared.ElementAnswer.{ElementAnswer}
 use Rattle.element.specs.Elements.{Located, elements}
 use Rattle.element.specs.Places.{part}
 use Rattle.element.specs.Results.{recordResult}
-use Rattle.element.specs.Search.{Readable, pickFrom}
+use Rattle.element.specs.Search.{Readable, HasElements, elementAs}
 use Rattle.lookup.specs.declared.Part.{Part}
 use Rattle.lookup.specs.declared.RecordAnswer.{RecordAnswer}
 use Rattle.lookup.specs.declared.ValueAnswer.{ValueAnswer}
@@ -32,46 +32,59 @@ pub record PartResult : Type 0 where
   pub codec : ℕ
   pub start : ℕ
   pub end : ℕ
+  pub elements : ℕ
 
 unfoldable pub partOf : Answer Source → ℕ → Answer PartResult
 partOf source n =
     onAccepted source
     (λ x. onAccepted (placedRecord x n)
     (λ r. accepted
-    (record { codec = x .content .codec; start = r .start; end = r .start + length (recordBytes (widthsOf (x .content .codec)) (r .content)) })))
+    (record {
+      codec = x .content .codec;
+      start = r .start;
+      end = r .start + length (recordBytes (widthsOf (x .content .codec)) (r .content));
+      elements = elementCount (r .content .groups);
+    })))
 
 -- the last record
 unfoldable pub lastPart : Answer Source → Answer PartResult
 lastPart source = onAccepted source (λ x. partOf (accepted x) (length (x .content .records) - 1))
 
 unfoldable pub partAs : Part → Answer PartResult
-partAs (Part.Of codec start end) = accepted (record { codec = codec; start = start; end = end })
+partAs (Part.Of codec start end elements) = accepted (record { codec = codec; start = start; end = end; elements = elements })
 partAs (Part.Refused r) = refused (r .number) (r .index)
 
--- the part is a record of the input, and can be read
+-- the part is a record of the input, which can be read and has so many elements
 abbrev pub PartIn : List ℕ → Part → Type 0
-PartIn p (Part.Of codec start end) = (start ≤ end) × ((end ≤ length p) × Readable 255 (widthsOf codec) (part p start (end - start)))
+PartIn p (Part.Of codec start end elements) =
+    (start ≤ end)
+    × ((end ≤ length p) × (Readable 255 (widthsOf codec) (part p start (end - start)) × HasElements 255 (widthsOf codec) (part p start (end - start)) elements))
 PartIn p (Part.Refused r) = Unit {0}
 
 -- the answer is the fields of the record that the part is
 abbrev pub RecordIn : List ℕ → Part → RecordAnswer → Type 0
-RecordIn p (Part.Of codec start end) answer =
+RecordIn p (Part.Of codec start end elements) answer =
     (x : AvlRecord) (n : ℕ) → avlRecord 255 (widthsOf codec) (part p start (end - start)) 0 ≡ got x n → answer ≡ RecordAnswer.Fields (recordResult x)
 RecordIn p (Part.Refused r) answer = answer ≡ RecordAnswer.Refused r
 
 -- ---- a value
 
--- an element's value, its offset counted from the input's start
-unfoldable pub movedBy : ℕ → Answer Located → ValueAnswer
-movedBy start (accepted e) = ValueAnswer.Found (record { id = e .id; kind = e .kind; offset = start + e .place; size = length (e .value) })
-movedBy start (refused number index) = ValueAnswer.Refused (record { number = 16; index = 0 })
+-- the offset counted from the input's start fits a word
+abbrev pub Reaches : ℕ → ElementAnswer → Type 0
+Reaches start (ElementAnswer.At v) = start + v .offset < 2 ^ 64
+Reaches start ElementAnswer.Nothing = Unit {0}
 
--- the answer is the wanted element of the record that the part is
-abbrev pub ValueIn : List ℕ → Part → Wanted → ValueAnswer → Type 0
-ValueIn p (Part.Of codec start end) wanted answer =
+-- a value of the record at `start`, its offset counted from the input's start
+unfoldable pub shifted : ℕ → ElementAnswer → ValueAnswer
+shifted start (ElementAnswer.At v) = ValueAnswer.Found (record { id = v .id; kind = v .kind; offset = start + v .offset; size = v .size })
+shifted start ElementAnswer.Nothing = ValueAnswer.Refused (record { number = 16; index = 0 })
+
+-- the answer is the element that is looked for in the record that the part is
+abbrev pub ValueIn : List ℕ → Part → (List Located → Answer Located) → ValueAnswer → Type 0
+ValueIn p (Part.Of codec start end count) look answer =
     (x : AvlRecord) (n : ℕ) → avlRecord 255 (widthsOf codec) (part p start (end - start)) 0 ≡ got x n
-    → answer ≡ movedBy start (pickFrom wanted 0 (elements (widthsOf codec) x))
-ValueIn p (Part.Refused r) wanted answer = answer ≡ ValueAnswer.Refused r
+    → answer ≡ shifted start (elementAs (look (elements (widthsOf codec) x)))
+ValueIn p (Part.Refused r) look answer = answer ≡ ValueAnswer.Refused r
 
 -- the bytes of a value, which lie in the input
 abbrev pub Within : List ℕ → ValueAnswer → Type 0

@@ -3,12 +3,12 @@ use avl::Widths;
 use element::ElementAnswer;
 use element::RecordFields;
 use element::Value;
-use element::Wanted;
 use walk::DataWalk;
 use wire::Refusal;
 ghost use mathlib.Core.Path.{_≡_};
 ghost use Rattle.lookup.specs.Lookups.{tcpSource, udpSource, recordByNumber, valueByNumber, valueById, view, lastKnown};
-ghost use Rattle.lookup.specs.Answers.{recordAs, partAs, partOf, lastPart, PartIn, RecordIn, ValueIn, Within, viewOf, answerValue, valueAs, answerKnown, knownAs, knownView};
+ghost use Rattle.element.specs.Elements.{nth, firstWith};
+ghost use Rattle.lookup.specs.Answers.{recordAs, partAs, partOf, lastPart, PartIn, RecordIn, ValueIn, Reaches, shifted, Within, viewOf, answerValue, valueAs, answerKnown, knownAs, knownView};
 
 pub enum RecordAnswer {
     Fields(RecordFields),
@@ -26,9 +26,14 @@ pub enum KnownAnswer {
     Refused(Refusal),
 }
 
-// A record as a part of the input: its codec, its first byte, the one behind its last.
+// A record as a part of the input: its codec, its first byte, the one behind its last, the number of its elements.
 enum Part {
-    Of { codec: u8, start: usize, end: usize },
+    Of {
+        codec: u8,
+        start: usize,
+        end: usize,
+        elements: usize,
+    },
     Refused(Refusal),
 }
 
@@ -40,11 +45,12 @@ fn packet_part(p: &[u8], n: usize) -> Part
     match packet::judge_packet(packet::LARGEST, packet::LONGEST, p, n) {
         DataWalk::Refused(r) => Part::Refused(r),
         DataWalk::Taken { codec, count, span } => {
-            if n < (count as usize) {
+            if n < count {
                 return Part::Of {
-                    codec,
+                    codec: codec as u8,
                     start: 10 + span.start,
                     end: 10 + span.end,
+                    elements: span.elements,
                 };
             }
             Part::Refused(Refusal {
@@ -61,11 +67,12 @@ fn datagram_part(p: &[u8], n: usize) -> Part
     match datagram::judge_datagram(datagram::LARGEST, datagram::LONGEST, p, n) {
         DataWalk::Refused(r) => Part::Refused(r),
         DataWalk::Taken { codec, count, span } => {
-            if n < (count as usize) {
+            if n < count {
                 return Part::Of {
-                    codec,
+                    codec: codec as u8,
                     start: 25 + span.start,
                     end: 25 + span.end,
+                    elements: span.elements,
                 };
             }
             Part::Refused(Refusal {
@@ -98,9 +105,15 @@ fn record_in(p: &[u8], part: Part) -> RecordAnswer
 {
     match part {
         Part::Refused(r) => RecordAnswer::Refused(r),
-        Part::Of { codec, start, end } => RecordAnswer::Fields(element::fields_of(
+        Part::Of {
+            codec,
+            start,
+            end,
+            elements,
+        } => RecordAnswer::Fields(element::fields_of(
             walk::widths_of(codec),
             &p[start..end],
+            elements,
         )),
     }
 }
@@ -119,53 +132,85 @@ pub fn record_in_datagram(p: &[u8], n: usize) -> RecordAnswer
 
 // ---- values by number and by ID
 
-fn value_in(p: &[u8], part: Part, wanted: Wanted) -> ValueAnswer
+// A value of the record that starts at `start`, its offset counted from the input's start.
+fn moved(start: usize, found: ElementAnswer) -> ValueAnswer
+    requires { ⌜ Reaches start found ⌝ }
+    ensures { λ r. ⌜ r ≡ shifted start found ⌝ }
+{
+    match found {
+        ElementAnswer::Nothing => ValueAnswer::Refused(Refusal {
+            number: 16,
+            index: 0,
+        }),
+        ElementAnswer::At(v) => ValueAnswer::Found(Value {
+            id: v.id,
+            kind: v.kind,
+            offset: start + v.offset,
+            size: v.size,
+        }),
+    }
+}
+
+// The value with this number in a record.
+fn number_in(p: &[u8], part: Part, k: usize) -> ValueAnswer
     requires { ⌜ PartIn (now p) part ⌝ }
-    ensures { λ r. ⌜ ValueIn (now (p .entry)) part wanted r ⌝ }
+    ensures { λ r. ⌜ ValueIn (now (p .entry)) part (nth k) r ⌝ }
 {
     match part {
         Part::Refused(r) => ValueAnswer::Refused(r),
-        Part::Of { codec, start, end } => match element::find_element(
-            walk::widths_of(codec),
-            &p[start..end],
-            wanted,
-        ) {
-            ElementAnswer::Nothing => ValueAnswer::Refused(Refusal {
-                number: 16,
-                index: 0,
-            }),
-            ElementAnswer::At(v) => ValueAnswer::Found(Value {
-                id: v.id,
-                kind: v.kind,
-                offset: start + v.offset,
-                size: v.size,
-            }),
-        },
+        Part::Of {
+            codec,
+            start,
+            end,
+            elements: _,
+        } => moved(
+            start,
+            element::nth_element(walk::widths_of(codec), &p[start..end], k),
+        ),
+    }
+}
+
+// The first value with this ID in a record. Apart from the look-up by number: a choice between the two costs time.
+fn id_in(p: &[u8], part: Part, id: u16) -> ValueAnswer
+    requires { ⌜ PartIn (now p) part ⌝ }
+    ensures { λ r. ⌜ ValueIn (now (p .entry)) part (firstWith id) r ⌝ }
+{
+    match part {
+        Part::Refused(r) => ValueAnswer::Refused(r),
+        Part::Of {
+            codec,
+            start,
+            end,
+            elements: _,
+        } => moved(
+            start,
+            element::find_id(walk::widths_of(codec), &p[start..end], id),
+        ),
     }
 }
 
 pub fn value_in_packet(p: &[u8], n: usize, k: usize) -> ValueAnswer
     ensures { λ r. ⌜ valueAs r ≡ answerValue (valueByNumber (tcpSource 1280 255 (now (p .entry))) n k) ⌝ }
 {
-    value_in(p, packet_part(p, n), Wanted::Number(k))
+    number_in(p, packet_part(p, n), k)
 }
 
 pub fn value_in_datagram(p: &[u8], n: usize, k: usize) -> ValueAnswer
     ensures { λ r. ⌜ valueAs r ≡ answerValue (valueByNumber (udpSource 1280 255 (now (p .entry))) n k) ⌝ }
 {
-    value_in(p, datagram_part(p, n), Wanted::Number(k))
+    number_in(p, datagram_part(p, n), k)
 }
 
 pub fn id_in_packet(p: &[u8], n: usize, id: u16) -> ValueAnswer
     ensures { λ r. ⌜ valueAs r ≡ answerValue (valueById (tcpSource 1280 255 (now (p .entry))) n id) ⌝ }
 {
-    value_in(p, packet_part(p, n), Wanted::Id(id))
+    id_in(p, packet_part(p, n), id)
 }
 
 pub fn id_in_datagram(p: &[u8], n: usize, id: u16) -> ValueAnswer
     ensures { λ r. ⌜ valueAs r ≡ answerValue (valueById (udpSource 1280 255 (now (p .entry))) n id) ⌝ }
 {
-    value_in(p, datagram_part(p, n), Wanted::Id(id))
+    id_in(p, datagram_part(p, n), id)
 }
 
 // ---- the same as views: parts of the input, empty on every refusal
@@ -217,13 +262,13 @@ pub fn last_known(newer: &[u8], older: &[u8], id: u16) -> KnownAnswer
     if let Part::Refused(r) = part {
         return KnownAnswer::Refused(r);
     }
-    if let ValueAnswer::Found(value) = value_in(newer, part, Wanted::Id(id)) {
+    if let ValueAnswer::Found(value) = id_in(newer, part, id) {
         return KnownAnswer::Found {
             older: false,
             value,
         };
     }
-    match value_in(older, last_part(older), Wanted::Id(id)) {
+    match id_in(older, last_part(older), id) {
         ValueAnswer::Found(value) => KnownAnswer::Found { older: true, value },
         ValueAnswer::Refused(r) => KnownAnswer::Refused(r),
     }

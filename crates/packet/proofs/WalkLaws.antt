@@ -13,8 +13,9 @@ use Rattle.frame.specs.Frame.{unframe, framing}
 use Rattle.frame.proofs.FramingLaws.{framing-field, framing-unframed}
 use Rattle.avl.specs.DataField.{readData, dataResult}
 use Rattle.walk.specs.declared.Span.{Span}
-use Rattle.walk.proofs.TakenLaws.{TakenOf}
+use Rattle.walk.proofs.TakenLaws.{TakenOf, taken-fits}
 use Rattle.packet.specs.DataPackets.{readPacket, answerPacket, acknowledged, tcpAcknowledgement}
+use Rattle.packet.proofs.PacketLaws.{packet-exact}
 
 pub unframed-refused : (largest longest : ℕ) (p : List ℕ) (n : ℕ) → framing (unframe largest p) ≡ Framed.Unframed n → readPacket largest longest p ≡ refused n 0
 unfolding readPacket onAccepted
@@ -44,6 +45,10 @@ module _ (largest : ℕ) (p : List ℕ) (n : ℕ) (e : framing (unframe largest 
 -- ---- what the walk tells of the answers
 
 module _ (largest longest : ℕ) (p : List ℕ) where
+  -- codec and count fit a byte
+  pub packet-fits : {want codec count : ℕ} {span : Span} → Bytes p → TakenOf want (readPacket largest longest p) codec count span → (codec < 256) × (count < 256)
+  packet-fits b k = taken-fits k (packet-exact largest longest p (k .content) b .0 (k .accepts) .rules)
+
   pub answer-taken : {want codec count : ℕ} {span : Span} → TakenOf want (readPacket largest longest p) codec count span
       → answerPacket largest longest p ≡ accepted (record { codec = codec; count = count })
   unfolding answerPacket dataResult

@@ -42,7 +42,10 @@ pub fn read_packet(p: &[u8]) -> PacketAnswer
             codec,
             count,
             span: _,
-        } => PacketAnswer::Accepted { codec, count },
+        } => PacketAnswer::Accepted {
+            codec: codec as u8,
+            count: count as u8,
+        },
         DataWalk::Refused(r) => PacketAnswer::Refused(r),
     }
 }
@@ -55,7 +58,7 @@ fn record_count(p: &[u8]) -> u8
             codec: _,
             count,
             span: _,
-        } => count,
+        } => count as u8,
         DataWalk::Refused(_) => 0,
     }
 }

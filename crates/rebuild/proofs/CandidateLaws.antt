@@ -13,7 +13,6 @@ use Rattle.wire.specs.Numbers.{Bytes, pick}
 use Rattle.wire.specs.Sequences.{joined}
 use Rattle.wire.specs.Answers.{Answer, accepted, refused, onAccepted}
 use Rattle.wire.specs.Buffers.{writing, leaving, writtenAs}
-use Rattle.wire.specs.declared.Refusal.{Refusal}
 use Rattle.wire.specs.declared.Written.{Written}
 use Rattle.wire.proofs.BufferLaws.{sets-front, writing-done, writing-short, leaving-done, leaving-short}
 use Rattle.wire.proofs.Storing.{drop-sets, drop-at-sets}
@@ -40,7 +39,7 @@ use Rattle.rebuild.specs.Candidates.{hasForm}
 
 -- ---- the candidate
 
-pub data-long : (a : AvlData) → 3 ≤ length (dataBytes a)
+data-long : (a : AvlData) → 3 ≤ length (dataBytes a)
 unfolding dataBytes
 data-long a = omega (arith, length-enclosed (a .codec) (length (a .records)) (joined (recordBytes (widthsOf (a .codec))) (a .records)))
 
@@ -50,11 +49,6 @@ unfolding readPacket packetBytes
 packet-read a b h =
     onAccepted-passed (unframe 1280 (framed (dataBytes a))) (readData 255)
     (frame-complete 1280 (dataBytes a) (record { bytes = b; least = data-long a; most = omega arith; counted = omega arith }))
-
--- the data field at the start of an array
-pub field-front : (z field : List ℕ) {d : List ℕ} (n : ℕ) → d ≡ sets z 0 field → n ≡ length field → n ≤ length z → take (n - 0) (drop 0 d) ≡ field
-field-front z field n e size h =
-    ap (take (n - 0)) (e ∙ sets-front field z (omega arith)) ∙ take-at field (drop (length field) z) (n - 0) (omega arith)
 
 -- ---- the comparison
 
@@ -69,59 +63,78 @@ unfolding onAccepted
 none (accepted a) only h = absurd (h a refl)
 none (refused n i) only h = ap₂ refused (only n i refl .0) (only n i refl .1)
 
-module _ (f : List ℕ) (b : Bytes f) where
+module _ (f : List ℕ) where
   abbrev field : List ℕ
   field = dataBytes (decoded f)
 
-  -- what an accepted form stands for
-  reads : (a : AvlData) → readForm 1280 255 f ≡ accepted a → (readData 255 field ≡ accepted a) × (f ≡ form a) × (length field ≤ 1268)
-  reads a e =
-      let k = form-exact 1280 255 f a b (lit< tt) .0 e in
-      let again : decoded f ≡ a = ap decoded (k .form) ∙ form-decoded 255 a (lit< tt) (k .packet .rules) in
-      let is = ap dataBytes again in (ap (readData 255) is ∙ data-complete 255 a (k .packet .rules), k .form, omega (arith, ap length is, k .packet .frame .most))
+  module _ (b : Bytes f) where
+    -- what an accepted form stands for
+    reads : (a : AvlData) → readForm 1280 255 f ≡ accepted a → (readData 255 field ≡ accepted a) × (f ≡ form a) × (length field ≤ 1268)
+    reads a e =
+        let k = form-exact 1280 255 f a b (lit< tt) .0 e in
+        let again : decoded f ≡ a = ap decoded (k .form) ∙ form-decoded 255 a (lit< tt) (k .packet .rules) in
+        let is = ap dataBytes again in (ap (readData 255) is ∙ data-complete 255 a (k .packet .rules), k .form, omega (arith, ap length is, k .packet .frame .most))
 
-  refused-form : ((a : AvlData) → readForm 1280 255 f ≡ accepted a → ⊥) → packetOfForm 1280 255 f ≡ refused 17 0
-  unfolding packetOfForm
-  refused-form h = none (readForm 1280 255 f) (form-refusal 1280 255 f) h
+    refused-form : ((a : AvlData) → readForm 1280 255 f ≡ accepted a → ⊥) → packetOfForm 1280 255 f ≡ refused 17 0
+    unfolding packetOfForm
+    refused-form h = none (readForm 1280 255 f) (form-refusal 1280 255 f) h
 
-  pub long-refused : 5120 < length f → packetOfForm 1280 255 f ≡ refused 17 0
-  long-refused h =
-      refused-form (λ a e.
-      let k = reads a e in
-      omega (arith, h, form-size 255 field a (bytes-field f b) (data-long (decoded f)) (k .0), ap length (k .1), k .2))
+    pub long-refused : 5120 < length f → packetOfForm 1280 255 f ≡ refused 17 0
+    long-refused h =
+        refused-form (λ a e.
+        let k = reads a e in
+        omega (arith, h, form-size 255 field a (bytes-field f b) (data-long (decoded f)) (k .0), ap length (k .1), k .2))
 
-  pub over-refused : 1268 < length field → packetOfForm 1280 255 f ≡ refused 17 0
-  over-refused h = refused-form (λ a e. omega (arith, h, reads a e .2))
+    pub over-refused : 1268 < length field → packetOfForm 1280 255 f ≡ refused 17 0
+    over-refused h = refused-form (λ a e. omega (arith, h, reads a e .2))
 
-  pub other-refused : hasForm (formOfField 255 field) f ≡ false → packetOfForm 1280 255 f ≡ refused 17 0
-  unfolding formOfField hasForm readForm
-  other-refused h =
-      refused-form (λ a e.
-      let k = reads a e in
-      let i = onAccepted-accepted (or17 (readPacket 1280 255 (packetBytes (decoded f)))) _ e in
-      let c = check-accepted (same (form (i .0)) f) 17 (accepted (i .0)) (i .2) in
-      let is : i .0 ≡ a = cc in
-      let equal : same (form a) f ≡ true = ap (λ (x : AvlData). same (form x) f) (sym is) ∙ c .0 in
-      let yes : true ≡ false = sym (ap (λ r. hasForm r f) (onAccepted-passed (readData 255 field) _ (k .0)) ∙ equal) ∙ h in
-      let z : _≡_ {A = ℕ} 0 1 = cc in
-      omega arith)
+    other-refused : hasForm (formOfField 255 field) f ≡ false → packetOfForm 1280 255 f ≡ refused 17 0
+    unfolding formOfField hasForm readForm
+    other-refused h =
+        refused-form (λ a e.
+        let k = reads a e in
+        let i = onAccepted-accepted (or17 (readPacket 1280 255 (packetBytes (decoded f)))) _ e in
+        let c = check-accepted (same (form (i .0)) f) 17 (accepted (i .0)) (i .2) in
+        let is : i .0 ≡ a = cc in
+        let equal : same (form a) f ≡ true = ap (λ (x : AvlData). same (form x) f) (sym is) ∙ c .0 in
+        let yes : true ≡ false = sym (ap (λ r. hasForm r f) (onAccepted-passed (readData 255 field) _ (k .0)) ∙ equal) ∙ h in
+        let z : _≡_ {A = ℕ} 0 1 = cc in
+        omega arith)
 
-  pub found : length field ≤ 1268 → hasForm (formOfField 255 field) f ≡ true → packetOfForm 1280 255 f ≡ accepted (framed field)
-  unfolding packetOfForm packetBytes formOfField readForm or17
-  found short h =
-      let g = hasForm-true (formOfField 255 field) f h in
-      let i = onAccepted-accepted (readData 255 field) _ (g .1) in
-      let a = i .0 in
-      let packet = packetBytes (decoded f) in
-      let accepts : readPacket 1280 255 packet ≡ accepted a = packet-read (decoded f) (bytes-field f b) short ∙ i .1 in
-      let formed : form a ≡ g .0 = cc in
-      let equal = ap (λ (x : List ℕ). same x f) formed ∙ g .2 in
-      onAccepted-passed (readForm 1280 255 f) _
-      (onAccepted-passed (or17 (readPacket 1280 255 packet)) _ (ap or17 accepts) ∙ check-passed (same (form a) f) 17 (accepted a) equal)
-      ∙ ap accepted (sym (packet-exact 1280 255 packet a (bytes-decoded f b) .0 accepts .whole))
+    found : length field ≤ 1268 → hasForm (formOfField 255 field) f ≡ true → packetOfForm 1280 255 f ≡ accepted (framed field)
+    unfolding packetOfForm packetBytes formOfField readForm or17
+    found short h =
+        let g = hasForm-true (formOfField 255 field) f h in
+        let i = onAccepted-accepted (readData 255 field) _ (g .1) in
+        let a = i .0 in
+        let packet = packetBytes (decoded f) in
+        let accepts : readPacket 1280 255 packet ≡ accepted a = packet-read (decoded f) (bytes-field f b) short ∙ i .1 in
+        let formed : form a ≡ g .0 = cc in
+        let equal = ap (λ (x : List ℕ). same x f) formed ∙ g .2 in
+        onAccepted-passed (readForm 1280 255 f) _
+        (onAccepted-passed (or17 (readPacket 1280 255 packet)) _ (ap or17 accepts) ∙ check-passed (same (form a) f) 17 (accepted a) equal)
+        ∙ ap accepted (sym (packet-exact 1280 255 packet a (bytes-decoded f b) .0 accepts .whole))
 
-pub seen : (f : List ℕ) {x field : List ℕ} {r t : Bool} → r ≡ hasForm (formOfField 255 x) f → x ≡ field → r ≡ t → hasForm (formOfField 255 field) f ≡ t
-seen f e is k = sym (ap (λ (y : List ℕ). hasForm (formOfField 255 y) f) is) ∙ sym e ∙ k
+  -- the data field at the start of an array, and what the comparison tells
+  module _ (z : List ℕ) {d : List ℕ} (n : ℕ) (stored : d ≡ sets z 0 field) (size : n ≡ length field) (fits : n ≤ length z) where
+    abbrev part : List ℕ
+    part = take (n - 0) (drop 0 d)
+
+    front : part ≡ field
+    front = ap (take (n - 0)) (stored ∙ sets-front field z (omega arith)) ∙ take-at field (drop (length field) z) (n - 0) (omega arith)
+
+    pub part-size : (length part ≡ n) × (3 ≤ n)
+    part-size = (ap length front ∙ sym size, omega (arith, size, data-long (decoded f)))
+
+    module _ (b : Bytes f) {r : Bool} (told : r ≡ hasForm (formOfField 255 part) f) where
+      seen : {t : Bool} → r ≡ t → hasForm (formOfField 255 field) f ≡ t
+      seen k = sym (ap (λ (x : List ℕ). hasForm (formOfField 255 x) f) front) ∙ sym told ∙ k
+
+      pub part-found : n ≤ 1268 → r ≡ true → packetOfForm 1280 255 f ≡ accepted (framed part)
+      part-found short k = found b (omega arith) (seen k) ∙ ap (λ (x : List ℕ). accepted (framed x)) (sym front)
+
+      pub part-other : r ≡ false → packetOfForm 1280 255 f ≡ refused 17 0
+      part-other k = other-refused b (seen k)
 
 -- ---- bytes compared one by one
 
@@ -194,31 +207,33 @@ form-written result before after f {n} e k =
 pub answers-refused : {result : Answer (List ℕ)} {out : List ℕ} {r : Written} → result ≡ refused 17 0 → r ≡ Written.Refused (record { number = 17; index = 0 }) → Answers result out out r
 answers-refused {result} {out} e k = subst (λ (x : Written). Answers result out out x) (sym k) (refused-whole e)
 
-module _ (result : Answer (List ℕ)) (field out : List ℕ) (n : ℕ) (e : result ≡ accepted (framed field)) (size : n ≡ length field) where
-  pub answers-short : {r : Written} → length out < n + 12 → r ≡ Written.Refused (record { number = 18; index = 0 }) → Answers result out out r
+pub answers-found : {result : Answer (List ℕ)} {p after : List ℕ} (before : List ℕ) (r : Written) → result ≡ accepted p → Answers (accepted p) before after r → Answers result before after r
+answers-found {after = after} before r e k = subst (λ y. Answers y before after r) (sym e) k
+
+module _ (field out : List ℕ) where
+  pub answers-short : {r : Written} → length out < length field + 12 → r ≡ Written.Refused (record { number = 18; index = 0 }) → Answers (accepted (framed field)) out out r
   unfolding writtenAs
   answers-short h k =
-      let long : length out < length (framed field) = omega (arith, size, length-framed field) in (
-        ap writtenAs k ∙ sym (ap (λ y. writing y out) e ∙ writing-short (framed field) out long),
-        sym (ap (λ y. leaving y out) e ∙ leaving-short (framed field) out long),
-      )
+      let long : length out < length (framed field) = omega (arith, length-framed field) in
+      (ap writtenAs k ∙ sym (writing-short (framed field) out long), sym (leaving-short (framed field) out long))
 
   -- the field behind the first eight bytes, then the frame around it
-  pub answers-done : {mid after : List ℕ} → n + 12 ≤ length out → mid ≡ sets out 8 field → after ≡ sets mid 0 (framed (take n (drop 8 mid))) → Answers result out after (Written.Bytes (n + 12))
+  pub answers-done : {mid after : List ℕ} → length field + 12 ≤ length out → mid ≡ sets out 8 field → after ≡ sets mid 0 (framed (take (length field) (drop 8 mid)))
+      → Answers (accepted (framed field)) out after (Written.Bytes (length field + 12))
   unfolding writtenAs
   answers-done {mid} h m k =
       let p = framed field in
-      let whole = length-framed field in
+      let size = length-framed field in
       let fits : length p ≤ length out = omega arith in
       let room : 8 + length field ≤ length out = omega arith in
       let behind : drop 8 mid ≡ field ++ drop (8 + length field) out = ap (drop 8) m ∙ drop-at-sets out 8 field room in
-      let content : take n (drop 8 mid) ≡ field = ap (take n) behind ∙ take-at field (drop (8 + length field) out) n (sym size) in
+      let content : take (length field) (drop 8 mid) ≡ field = ap (take (length field)) behind ∙ take-at field (drop (8 + length field) out) (length field) refl in
       let long : length mid ≡ length out = ap length m ∙ length-sets out 8 field in
       let rest : drop (length p) mid ≡ drop (length p) out = ap (drop (length p)) m ∙ drop-sets out 8 field (length p) (omega arith) in (
-        ap accepted (omega arith) ∙ sym (ap (λ y. writing y out) e ∙ writing-done p out fits),
+        ap accepted (omega arith) ∙ sym (writing-done p out fits),
         k
             ∙ ap (λ (x : List ℕ). sets mid 0 (framed x)) content
             ∙ sets-front p mid (omega arith)
             ∙ ap (λ (x : List ℕ). p ++ x) rest
-            ∙ sym (ap (λ y. leaving y out) e ∙ leaving-done p out fits),
+            ∙ sym (leaving-done p out fits),
       )

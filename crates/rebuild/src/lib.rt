@@ -9,10 +9,12 @@ ghost use lib.ListN.{length, getD, set};
 ghost use lib.Seq.{sets};
 ghost use Rattle.wire.specs.Numbers.{be, littleAt};
 ghost use Rattle.wire.specs.Sequences.{joined};
+ghost use Rattle.wire.specs.Answers.{accepted};
 ghost use Rattle.wire.specs.Buffers.{writing, leaving, writtenAs};
 ghost use Rattle.avl.specs.Codecs.{kinds};
 ghost use Rattle.avl.specs.Records.{elementBytes, groupBytes, groupsBytes, fixedBytes, recordBytes, total};
 ghost use Rattle.avl.specs.DataField.{dataBytes};
+ghost use Rattle.frame.specs.Frame.{framed};
 ghost use Rattle.walk.specs.Walks.{Narrow};
 ghost use Rattle.tlv.specs.Decoding.{entryElement, run, behind, fixedOf, groupsOf, recordsOf, decoded};
 ghost use Rattle.tlv.specs.PacketOf.{same, packetOfForm};
@@ -372,30 +374,61 @@ fn same_form(d: &[u8], f: &[u8], g: &mut [u8]) -> bool
     }
 }
 
-// The same of a short field, whose form needs a shorter array: clearing a long one costs time.
-fn short_has_form(d: &[u8], f: &[u8]) -> bool
-    requires { ⌜ (3 ≤ length (now d)) × (length (now d) ≤ 128) ⌝ }
-    ensures { λ r. ⌜ r ≡ hasForm (formOfField 255 (now (d .entry))) (now (f .entry)) ⌝ }
-{
-    let mut g = [0u8; 512];
-    same_form(d, f, &mut g)
-}
-
-fn has_form(d: &[u8], f: &[u8]) -> bool
-    requires { ⌜ (3 ≤ length (now d)) × (length (now d) ≤ 1268) ⌝ }
-    ensures { λ r. ⌜ r ≡ hasForm (formOfField 255 (now (d .entry))) (now (f .entry)) ⌝ }
-{
-    if d.len() <= 128 {
-        return short_has_form(d, f);
-    }
-    let mut g = [0u8; 5120];
-    same_form(d, f, &mut g)
-}
-
 fn refused(number: usize) -> Written
     ensures { λ r. ⌜ r ≡ Written.Refused (record { number = number; index = 0 }) ⌝ }
 {
     Written::Refused(Refusal { number, index: 0 })
+}
+
+// Writes the packet around a data field.
+fn put_packet(d: &[u8], out: &mut [u8]) -> Written
+    requires { ⌜ length (now d) ≤ 1268 ⌝ }
+    ensures answer { λ r. ⌜ writtenAs r ≡ writing (accepted (framed (now (d .entry)))) (now (out .entry)) ⌝ }
+    ensures buffer { λ r. ⌜ now (out .exit) ≡ leaving (accepted (framed (now (d .entry)))) (now (out .entry)) ⌝ }
+{
+    let n = d.len();
+    if out.len() < n + 12 {
+        return refused(18);
+    }
+    wire::put_bytes(out, 8, d);
+    frame::put_frame(out, n);
+    Written::Bytes(n + 12)
+}
+
+// The packet of a form, in arrays long enough for the longest.
+fn long_packet(f: &[u8], out: &mut [u8]) -> Written
+    requires { ⌜ length (now f) ≤ 65536 ⌝ }
+    ensures answer { λ r. ⌜ writtenAs r ≡ writing (packetOfForm 1280 255 (now (f .entry))) (now (out .entry)) ⌝ }
+    ensures buffer { λ r. ⌜ now (out .exit) ≡ leaving (packetOfForm 1280 255 (now (f .entry))) (now (out .entry)) ⌝ }
+{
+    let mut d = [0u8; 1268];
+    let n = decode_form(f, &mut d);
+    if 1268 < n {
+        return refused(17);
+    }
+    let mut g = [0u8; 5120];
+    if same_form(&d[0..n], f, &mut g) {
+        return put_packet(&d[0..n], out);
+    }
+    refused(17)
+}
+
+// The same in short arrays, where they are enough: clearing long ones costs time.
+fn short_packet(f: &[u8], out: &mut [u8]) -> Written
+    requires { ⌜ length (now f) ≤ 65536 ⌝ }
+    ensures answer { λ r. ⌜ writtenAs r ≡ writing (packetOfForm 1280 255 (now (f .entry))) (now (out .entry)) ⌝ }
+    ensures buffer { λ r. ⌜ now (out .exit) ≡ leaving (packetOfForm 1280 255 (now (f .entry))) (now (out .entry)) ⌝ }
+{
+    let mut d = [0u8; 64];
+    let n = decode_form(f, &mut d);
+    if 64 < n {
+        return long_packet(f, out);
+    }
+    let mut g = [0u8; 256];
+    if same_form(&d[0..n], f, &mut g) {
+        return put_packet(&d[0..n], out);
+    }
+    refused(17)
 }
 
 // The TCP data packet of a form; 17 where no acceptable packet has it.
@@ -406,18 +439,8 @@ pub fn packet_of_form(f: &[u8], out: &mut [u8]) -> Written
     if 5120 < f.len() {
         return refused(17);
     }
-    let mut d = [0u8; 1268];
-    let n = decode_form(f, &mut d);
-    if 1268 < n {
-        return refused(17);
+    if f.len() <= 96 {
+        return short_packet(f, out);
     }
-    if has_form(&d[0..n], f) {
-        if out.len() < n + 12 {
-            return refused(18);
-        }
-        wire::put_bytes(out, 8, &d[0..n]);
-        frame::put_frame(out, n);
-        return Written::Bytes(n + 12);
-    }
-    refused(17)
+    long_packet(f, out)
 }

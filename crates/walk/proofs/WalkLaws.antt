@@ -1,6 +1,6 @@
 -- How the walk's functions go from one definition to the next: what each step reads, and what an answer tells of it.
 use Prim.Native.Nat.{ℕ, zero, suc, _+_, _-_, _*_, _%_, _^_, _≤_, _<_}
-use native.Mathlib.Nat.{mul-le-mul, suc-mul, pow-le-pow-right, zero-add, add-zero, add-mod-right, mod-eq-of-lt}
+use native.Mathlib.Nat.{mul-le-mul, suc-mul, pow-le-pow-right, zero-add, add-zero, add-assoc, add-mod-right, mod-eq-of-lt}
 use native.Mathlib.Numerals.{add-one}
 use native.Mathlib.Omega.{arith}
 use mathlib.Core.Path.{_≡_, refl, sym, ap, ap₂, subst, _∙_}
@@ -21,7 +21,7 @@ use Rattle.wire.proofs.Widths.{number-lt, byte-pos}
 use Rattle.wire.proofs.Enclosed.{bytes-inner}
 use Rattle.wire.proofs.Accepting.{by-length, pick-true, pick-false, pick-either, check-passed, check-failed}
 use Rattle.wire.proofs.Exactness.{Exact, then-got, here-got, require-got, repeat-sound}
-use Rattle.wire.proofs.Walking.{short, then-bad, require-bad, bytes-got, bytes-bad, number-there, number-missing, upTo-there, walked-on, walked-stopped, walked-got, walked-bad}
+use Rattle.wire.proofs.Walking.{short, then-bad, require-bad, bytes-got, bytes-bad, number-there, number-missing, upTo-there, walked-on, walked-stopped, walked-bad}
 use Rattle.avl.specs.declared.Widths.{Widths}
 use Rattle.walk.specs.declared.Counted.{Counted}
 use Rattle.walk.specs.declared.Counted.the-variants.{Of}
@@ -35,7 +35,7 @@ use Rattle.avl.specs.Codecs.{codec8, codec8E, codec16, widthsOf, isDataCodec, k
 use Rattle.avl.specs.Records.{Element, Fixed, AvlRecord, total, elementCount, recordBytes}
 use Rattle.avl.specs.RecordReader.{valueSize, element, group, groups, fixedFields, avlRecord, tagged, inRecord, avlRecords, atEnd, allRecords}
 use Rattle.avl.specs.DataField.{AvlData, readData}
-use Rattle.walk.specs.Walks.{Narrow, counted, tallied, spanOf, spanned, dataWalk}
+use Rattle.walk.specs.Walks.{Narrow, counted, elementsOf, tallied, spanOf, spanned, dataWalk}
 use Rattle.walk.proofs.KindLaws.{kind-known, next-kind}
 use Rattle.avl.proofs.RecordLaws.{element-exact, group-exact, record-exact, all-sound}
 
@@ -198,9 +198,9 @@ module _ (w : Widths) (kind : ℕ) (s : List ℕ) (some : 1 ≤ kind) (ne : kind
 
 -- ---- a group
 
-pub group-missing : (w : Widths) (kind : ℕ) (s : List ℕ) (at : ℕ) → length s < at + w .count → counted (group w kind s at) ≡ Counted.Stopped (short at)
+pub group-missing : (w : Widths) (kind : ℕ) (s : List ℕ) (at : ℕ) → length s < at + w .count → counted length (group w kind s at) ≡ Counted.Stopped (short at)
 unfolding group counted
-group-missing w kind s at h = ap counted (number-missing _ s at (w .count) h)
+group-missing w kind s at h = ap (counted length) (number-missing _ s at (w .count) h)
 
 -- of a group whose count is known
 module _ (w : Widths) (kind : ℕ) (s : List ℕ) (at : ℕ) {n : ℕ} (is : n ≡ numberAt s at (w .count)) where
@@ -215,17 +215,17 @@ module _ (w : Widths) (kind : ℕ) (s : List ℕ) (at : ℕ) {n : ℕ} (is : n �
   group-repeats h = number-there _ s at (w .count) h ∙ ap (λ (k : ℕ). repeat k (element w kind) s (at + w .count)) (sym is)
 
   pub group-stops : {x : Fault} → at + w .count ≤ length s → walked (repeat n (element w kind) s (at + w .count)) ≡ Walk.Stopped x
-      → counted (group w kind s at) ≡ Counted.Stopped x
+      → counted length (group w kind s at) ≡ Counted.Stopped x
   unfolding counted
-  group-stops h e = ap counted (group-repeats h ∙ walked-stopped _ e)
+  group-stops h e = ap (counted length) (group-repeats h ∙ walked-stopped _ e)
 
   pub group-of : {next : ℕ} → Bytes s → at + w .count ≤ length s → walked (repeat n (element w kind) s (at + w .count)) ≡ On next
-      → counted (group w kind s at) ≡ Of n next
+      → counted length (group w kind s at) ≡ Of n next
   unfolding counted
   group-of {next} b h e =
       let l = walked-on _ e in
       let size = repeat-sound (element-exact w kind) n s (at + w .count) b h .if-got _ _ (l .1) .1 .0 in
-      ap counted (group-repeats h ∙ l .1) ∙ ap (λ (k : ℕ). Of k next) size
+      ap (counted length) (group-repeats h ∙ l .1) ∙ ap (λ (k : ℕ). Of k next) size
 
 -- what is known of a group that was read
 pub record GroupRead (w : Widths) (kind : ℕ) (s : List ℕ) (at n next : ℕ) : Type 0 where
@@ -235,20 +235,30 @@ pub record GroupRead (w : Widths) (kind : ℕ) (s : List ℕ) (at n next : ℕ) 
   pub few : n ≤ 65535
   pub inside : next ≤ length s
 
-counted-of : (r : Read (List Element)) {n next : ℕ} → counted r ≡ Of n next → (g : List Element) × (r ≡ got g next) × (length g ≡ n)
-unfolding counted
-counted-of (got g m) e = (g, ap (got g) (cc), cc)
-counted-of (bad x) e = absurd (let z : _≡_ {A = ℕ} 0 1 = cc in omega arith)
+module _ {A : Type 0} (size : A → ℕ) where
+  counted-of : (r : Read A) {n next : ℕ} → counted size r ≡ Of n next → (a : A) × (r ≡ got a next) × (size a ≡ n)
+  unfolding counted
+  counted-of (got a m) e = (a, ap (got a) (cc), cc)
+  counted-of (bad x) e = absurd (let z : _≡_ {A = ℕ} 0 1 = cc in omega arith)
 
-counted-stopped : (r : Read (List Element)) {x : Fault} → counted r ≡ Counted.Stopped x → r ≡ bad x
-unfolding counted
-counted-stopped (got g m) e = absurd (let z : _≡_ {A = ℕ} 0 1 = cc in omega arith)
-counted-stopped (bad y) e = ap bad (cc)
+  counted-stopped : (r : Read A) {x : Fault} → counted size r ≡ Counted.Stopped x → r ≡ bad x
+  unfolding counted
+  counted-stopped (got a m) e = absurd (let z : _≡_ {A = ℕ} 0 1 = cc in omega arith)
+  counted-stopped (bad y) e = ap bad (cc)
 
-pub group-read : (w : Widths) (kind : ℕ) (s : List ℕ) (at : ℕ) {n next : ℕ} → Narrow w → Bytes s → at ≤ length s → counted (group w kind s at) ≡ Of n next
+  counted-bad : (r : Read A) {x : Fault} → r ≡ bad x → counted size r ≡ Counted.Stopped x
+  unfolding counted
+  counted-bad r e = ap (counted size) e
+
+  -- what was counted lies inside
+  pub counted-inside : {m : Reader A} {write : A → List ℕ} {Ok : A → Type 0} → Exact m write Ok → (s : List ℕ) (at : ℕ) {n to : ℕ} → Bytes s → at ≤ length s
+      → counted size (m s at) ≡ Of n to → to ≤ length s
+  counted-inside x s at b h e = x .sound s at b h .if-got _ _ (counted-of _ e .1) .0 .inside
+
+pub group-read : (w : Widths) (kind : ℕ) (s : List ℕ) (at : ℕ) {n next : ℕ} → Narrow w → Bytes s → at ≤ length s → counted length (group w kind s at) ≡ Of n next
     → GroupRead w kind s at n next
 group-read w kind s at narrow b h e =
-    let g = counted-of _ e in
+    let g = counted-of length _ e in
     let sound = group-exact w kind .sound s at b h .if-got _ _ (g .1) in
     record {
       elements = g .0;
@@ -265,20 +275,20 @@ module _ (w : Widths) (k : ℕ) (ks : List ℕ) (s : List ℕ) (at : ℕ) where
   unfolding groups
   groups-on g = list-on (group w k) (groups w ks) s at (g .read)
 
-  pub groups-stop : {x : Fault} → counted (group w k s at) ≡ Counted.Stopped x → groups w (k ∷ ks) s at ≡ bad x
+  pub groups-stop : {x : Fault} → counted length (group w k s at) ≡ Counted.Stopped x → groups w (k ∷ ks) s at ≡ bad x
   unfolding groups
-  groups-stop e = then-bad (group w k) _ s at (counted-stopped _ e)
+  groups-stop e = then-bad (group w k) _ s at (counted-stopped length _ e)
 
 -- ---- the tally, group by group
 
--- of the groups from number `k` on, where those before them add up to `sum`
-unfoldable pub tallyFrom : ℕ → ℕ → Read (List (List Element)) → Tally
-tallyFrom k sum (got gs next) = Sums (sum + elementCount (take (4 - k) gs)) next
-tallyFrom k sum (bad x) = Unsummed x
+-- of the groups from number `k` on, where those before them add up to `sum` and have `most` elements
+unfoldable pub tallyFrom : ℕ → ℕ → ℕ → Read (List (List Element)) → Tally
+tallyFrom k sum most (got gs next) = Sums (sum + elementCount (take (4 - k) gs)) (most + elementCount gs) next
+tallyFrom k sum most (bad x) = Unsummed x
 
-pub tally-whole : (r : Read (List (List Element))) → tallied r ≡ tallyFrom 0 0 r
+pub tally-whole : (r : Read (List (List Element))) → tallied r ≡ tallyFrom 0 0 0 r
 unfolding tallied tallyFrom total
-tally-whole (got gs next) = ap (λ (n : ℕ). Sums n next) (sym (zero-add (elementCount (take 4 gs))))
+tally-whole (got gs next) = ap₂ (λ (n m : ℕ). Sums n m next) (sym (zero-add (elementCount (take 4 gs)))) (sym (zero-add (elementCount gs)))
 tally-whole (bad x) = refl
 
 -- a group's share of the total
@@ -296,70 +306,75 @@ share-consed k sum g gs = go (leb (suc k) 4) refl
         let less : 4 - (k + 1) ≡ 0 = omega (arith, leb-false (suc k) 4 e) in
         ap (λ (n : ℕ). sum + elementCount (take n (g ∷ gs))) none ∙ omega arith ∙ ap (λ (n : ℕ). sum + 0 + elementCount (take n gs)) (sym less)
 
-tally-consed : (k sum : ℕ) (g : List Element) (r : Read (List (List Element))) → tallyFrom k sum (consed g r) ≡ tallyFrom (k + 1) (sum + pick (leb (suc k) 4) (length g) 0) r
-unfolding tallyFrom consed
-tally-consed k sum g (bad x) = refl
-tally-consed k sum g (got gs next) = ap (λ (n : ℕ). Sums n next) (share-consed k sum g gs)
+tally-consed : (k sum most : ℕ) (g : List Element) (r : Read (List (List Element)))
+    → tallyFrom k sum most (consed g r) ≡ tallyFrom (k + 1) (sum + pick (leb (suc k) 4) (length g) 0) (most + length g) r
+unfolding tallyFrom consed elementCount
+tally-consed k sum most g (bad x) = refl
+tally-consed k sum most g (got gs next) = ap₂ (λ (n m : ℕ). Sums n m next) (share-consed k sum g gs) (sym (add-assoc most (length g) (elementCount gs)))
 
 -- of all groups from number `k` on
-module _ (w : Widths) (s : List ℕ) (k sum at : ℕ) where
+module _ (w : Widths) (s : List ℕ) (k sum most at : ℕ) where
   unfoldable pub tallyOf : Tally
-  tallyOf = tallyFrom k sum (groups w (drop k (kinds w)) s at)
+  tallyOf = tallyFrom k sum most (groups w (drop k (kinds w)) s at)
 
   module _ {kind : ℕ} (h : k < length (kinds w)) (e : kind ≡ getD (kinds w) k 0) where
-    pub tally-stop : {x : Fault} → counted (group w kind s at) ≡ Counted.Stopped x → tallyOf ≡ Unsummed x
+    pub tally-stop : {x : Fault} → counted length (group w kind s at) ≡ Counted.Stopped x → tallyOf ≡ Unsummed x
     unfolding tallyOf tallyFrom
-    tally-stop z = ap (λ (ks : List ℕ). tallyFrom k sum (groups w ks s at)) (next-kind w k h e) ∙ ap (tallyFrom k sum) (groups-stop w kind _ s at z)
+    tally-stop z = ap (λ (ks : List ℕ). tallyFrom k sum most (groups w ks s at)) (next-kind w k h e) ∙ ap (tallyFrom k sum most) (groups-stop w kind _ s at z)
 
-  pub tally-done : length (kinds w) ≤ k → tallyOf ≡ Sums sum at
+  pub tally-done : length (kinds w) ≤ k → tallyOf ≡ Sums sum most at
   unfolding tallyOf tallyFrom groups pure elementCount
   tally-done h =
-      ap (λ (ks : List ℕ). tallyFrom k sum (groups w ks s at)) (drop-of-length-le (kinds w) h)
-      ∙ ap (λ (n : ℕ). Sums n at) (ap (λ (gs : List (List Element)). sum + elementCount gs) (take-nil (4 - k)) ∙ add-zero sum)
+      ap (λ (ks : List ℕ). tallyFrom k sum most (groups w ks s at)) (drop-of-length-le (kinds w) h)
+      ∙ ap₂ (λ (n m : ℕ). Sums n m at) (ap (λ (gs : List (List Element)). sum + elementCount gs) (take-nil (4 - k)) ∙ add-zero sum) (add-zero most)
 
-pub tally-on : (w : Widths) (s : List ℕ) (k sum at : ℕ) {kind n mid : ℕ} → k < length (kinds w) → kind ≡ getD (kinds w) k 0 → GroupRead w kind s at n mid
-    → tallyOf w s (k + 1) (sum + pick (leb (suc k) 4) n 0) mid ≡ tallyOf w s k sum at
+pub tally-on : (w : Widths) (s : List ℕ) (k sum most at : ℕ) {kind n mid : ℕ} → k < length (kinds w) → kind ≡ getD (kinds w) k 0 → GroupRead w kind s at n mid
+    → tallyOf w s (k + 1) (sum + pick (leb (suc k) 4) n 0) (most + n) mid ≡ tallyOf w s k sum most at
 unfolding tallyOf
-tally-on w s k sum at {mid = mid} h e g =
-    sym (ap (λ (ks : List ℕ). tallyFrom k sum (groups w ks s at)) (next-kind w k h e)
-    ∙ ap (tallyFrom k sum) (groups-on w _ _ s at g)
-    ∙ tally-consed k sum (g .elements) _
-    ∙ ap (λ (m : ℕ). tallyFrom (k + 1) (sum + pick (leb (suc k) 4) m 0) (groups w (drop (k + 1) (kinds w)) s mid)) (g .size))
+tally-on w s k sum most at {mid = mid} h e g =
+    sym (ap (λ (ks : List ℕ). tallyFrom k sum most (groups w ks s at)) (next-kind w k h e)
+    ∙ ap (tallyFrom k sum most) (groups-on w _ _ s at g)
+    ∙ tally-consed k sum most (g .elements) _
+    ∙ ap (λ (m : ℕ). tallyFrom (k + 1) (sum + pick (leb (suc k) 4) m 0) (most + m) (groups w (drop (k + 1) (kinds w)) s mid)) (g .size))
 
 -- what the groups before number `k` leave to do
-pub record Tallying (w : Widths) (s : List ℕ) (at total next k : ℕ) : Type 0 where
+pub record Tallying (w : Widths) (s : List ℕ) (at total most next k : ℕ) : Type 0 where
   pub few : total ≤ k * 65535
+  pub fewElements : most ≤ k * 65535
   pub inside : next ≤ length s
-  pub rest : tallyOf w s k total next ≡ tallied (groups w (kinds w) s at)
+  pub rest : tallyOf w s k total most next ≡ tallied (groups w (kinds w) s at)
 
-pub tallying-start : (w : Widths) (s : List ℕ) (at : ℕ) → at ≤ length s → Tallying w s at 0 at 0
+pub tallying-start : (w : Widths) (s : List ℕ) (at : ℕ) → at ≤ length s → Tallying w s at 0 0 at 0
 unfolding tallyOf
-tallying-start w s at h = record { few = omega arith; inside = h; rest = sym (tally-whole (groups w (kinds w) s at)) }
+tallying-start w s at h = record { few = omega arith; fewElements = omega arith; inside = h; rest = sym (tally-whole (groups w (kinds w) s at)) }
 
-module _ (w : Widths) {s : List ℕ} {at total next k : ℕ} (t : Tallying w s at total next k) {kind : ℕ} (h : k < length (kinds w)) (e : kind ≡ getD allKinds k 0) where
+module _ (w : Widths) {s : List ℕ} {at total most next k : ℕ} (t : Tallying w s at total most next k) {kind : ℕ} (h : k < length (kinds w)) (e : kind ≡ getD allKinds k 0) where
   known : kind ≡ getD (kinds w) k 0
   known = e ∙ kind-known w k h
 
-  pub tallying-stops : {x : Fault} → counted (group w kind s next) ≡ Counted.Stopped x → Unsummed x ≡ tallied (groups w (kinds w) s at)
-  tallying-stops z = sym (tally-stop w s k total next h known z) ∙ t .rest
+  pub tallying-stops : {x : Fault} → counted length (group w kind s next) ≡ Counted.Stopped x → Unsummed x ≡ tallied (groups w (kinds w) s at)
+  tallying-stops z = sym (tally-stop w s k total most next h known z) ∙ t .rest
 
-  pub tallying-on : {n mid part : ℕ} → GroupRead w kind s next n mid → part ≡ pick (leb (suc k) 4) n 0 → (total + part ≤ (k + 1) * 65535) × Tallying w s at (total + part) mid (k + 1)
+  pub tallying-on : {n mid part : ℕ} → GroupRead w kind s next n mid → part ≡ pick (leb (suc k) 4) n 0 → (total + part ≤ (k + 1) * 65535) × (most + n ≤ (k + 1) * 65535) × Tallying w s at (total + part) (most + n) mid (k + 1)
   tallying-on {n} {mid} {part} g is =
       let small : part ≤ n = subst (λ (x : ℕ). x ≤ n) (sym is) (pick-either (λ (x : ℕ). x ≤ n) (leb (suc k) 4) n 0 (omega arith) (omega arith)) in
-      let few : total + part ≤ (k + 1) * 65535 = omega (arith, t .few, g .few) in (
+      let few : total + part ≤ (k + 1) * 65535 = omega (arith, t .few, g .few) in
+      let elements : most + n ≤ (k + 1) * 65535 = omega (arith, t .fewElements, g .few) in (
         few,
+        elements,
         record {
           few = few;
+          fewElements = elements;
           inside = g .inside;
-          rest = ap (λ (x : ℕ). tallyOf w s (k + 1) (total + x) mid) is ∙ tally-on w s k total next h known g ∙ t .rest;
+          rest = ap (λ (x : ℕ). tallyOf w s (k + 1) (total + x) (most + n) mid) is ∙ tally-on w s k total most next h known g ∙ t .rest;
         },
       )
 
 -- ---- a record
 
-tallied-sums : (r : Read (List (List Element))) {t next : ℕ} → tallied r ≡ Sums t next → (gs : List (List Element)) × (r ≡ got gs next) × (total gs ≡ t)
+tallied-sums : (r : Read (List (List Element))) {t n next : ℕ} → tallied r ≡ Sums t n next → (gs : List (List Element)) × (r ≡ got gs next) × (total gs ≡ t) × (elementCount gs ≡ n)
 unfolding tallied
-tallied-sums (got gs m) e = (gs, ap (got gs) (cc), cc)
+tallied-sums (got gs m) e = (gs, ap (got gs) (cc), cc, cc)
 tallied-sums (bad x) e = absurd (let z : _≡_ {A = ℕ} 0 1 = cc in omega arith)
 
 tallied-unsummed : (r : Read (List (List Element))) {x : Fault} → tallied r ≡ Unsummed x → r ≡ bad x
@@ -368,30 +383,30 @@ tallied-unsummed (got gs m) e = absurd (let z : _≡_ {A = ℕ} 0 1 = cc in omeg
 tallied-unsummed (bad y) e = ap bad (cc)
 
 module _ (longest : ℕ) (w : Widths) (s : List ℕ) (at : ℕ) where
-  pub record-unfixed : {x : Fault} → walked (fixedFields w s at) ≡ Stopped x → walked (avlRecord longest w s at) ≡ Stopped x
+  pub record-unfixed : {x : Fault} → walked (fixedFields w s at) ≡ Stopped x → counted elementsOf (avlRecord longest w s at) ≡ Counted.Stopped x
   unfolding avlRecord
-  record-unfixed e = walked-bad _ (here-got _ s at ∙ then-bad (fixedFields w) _ s at (walked-stopped _ e))
+  record-unfixed e = counted-bad elementsOf _ (here-got _ s at ∙ then-bad (fixedFields w) _ s at (walked-stopped _ e))
 
   module _ {a₁ : ℕ} (fixed : walked (fixedFields w s at) ≡ On a₁) where
-    pub record-missing : length s < a₁ + w .count → walked (avlRecord longest w s at) ≡ Stopped (short a₁)
+    pub record-missing : length s < a₁ + w .count → counted elementsOf (avlRecord longest w s at) ≡ Counted.Stopped (short a₁)
     unfolding avlRecord
     record-missing h =
-        walked-bad _ (here-got _ s at ∙ then-got (fixedFields w) _ s at (walked-on _ fixed .1) ∙ number-missing _ s a₁ (w .count) h)
+        counted-bad elementsOf _ (here-got _ s at ∙ then-got (fixedFields w) _ s at (walked-on _ fixed .1) ∙ number-missing _ s a₁ (w .count) h)
 
     pub record-unsummed : {x : Fault} → a₁ + w .count ≤ length s → tallied (groups w (kinds w) s (a₁ + w .count)) ≡ Unsummed x
-        → walked (avlRecord longest w s at) ≡ Stopped x
+        → counted elementsOf (avlRecord longest w s at) ≡ Counted.Stopped x
     unfolding avlRecord
     record-unsummed h e =
-        walked-bad _
+        counted-bad elementsOf _
         (here-got _ s at
         ∙ then-got (fixedFields w) _ s at (walked-on _ fixed .1)
         ∙ number-there _ s a₁ (w .count) h
         ∙ then-bad (groups w (kinds w)) _ s (a₁ + w .count) (tallied-unsummed _ e))
 
-    module _ {sum t end : ℕ} (h : a₁ + w .count ≤ length s) (is : sum ≡ numberAt s a₁ (w .count))
-        (sums : tallied (groups w (kinds w) s (a₁ + w .count)) ≡ Sums t end) where
+    module _ {sum t n end : ℕ} (h : a₁ + w .count ≤ length s) (is : sum ≡ numberAt s a₁ (w .count))
+        (sums : tallied (groups w (kinds w) s (a₁ + w .count)) ≡ Sums t n end) where
       -- the two rules at the end of a record
-      record-rules : (r : AvlRecord) × (avlRecord longest w s at ≡ (require (eqb sum t) 9 at >> (require (leb end (at + longest)) 12 at >> pure r)) s end)
+      record-rules : (r : AvlRecord) × (avlRecord longest w s at ≡ (require (eqb sum t) 9 at >> (require (leb end (at + longest)) 12 at >> pure r)) s end) × (elementsOf r ≡ n)
       unfolding avlRecord
       record-rules =
           let f = walked-on _ fixed in
@@ -404,30 +419,32 @@ module _ (longest : ℕ) (w : Widths) (s : List ℕ) (at : ℕ) where
                 ∙ then-got (groups w (kinds w)) _ s (a₁ + w .count) (g .1)
                 ∙ here-got _ s end
                 ∙ ap₂ (λ (a b : ℕ). (require (eqb a b) 9 at >> (require (leb end (at + longest)) 12 at >> pure r)) s end) (sym is) (g .2),
+            g .3,
           )
 
-      pub record-uneven : (sum ≡ t → ⊥) → walked (avlRecord longest w s at) ≡ Stopped (record { number = 9; index = 0; place = at })
-      record-uneven ne = walked-bad _ (record-rules .1 ∙ require-bad _ 9 at _ s end (ne-eqb sum t ne))
+      pub record-uneven : (sum ≡ t → ⊥) → counted elementsOf (avlRecord longest w s at) ≡ Counted.Stopped (record { number = 9; index = 0; place = at })
+      record-uneven ne = counted-bad elementsOf _ (record-rules .1 ∙ require-bad _ 9 at _ s end (ne-eqb sum t ne))
 
-      pub record-long : sum ≡ t → at + longest < end → walked (avlRecord longest w s at) ≡ Stopped (record { number = 12; index = 0; place = at })
+      pub record-long : sum ≡ t → at + longest < end → counted elementsOf (avlRecord longest w s at) ≡ Counted.Stopped (record { number = 12; index = 0; place = at })
       record-long e k =
-          walked-bad _ (record-rules .1 ∙ require-got _ 9 at _ s end (eq-eqb sum t e) ∙ require-bad _ 12 at _ s end (lt-leb end (at + longest) k))
+          counted-bad elementsOf _ (record-rules .1 ∙ require-got _ 9 at _ s end (eq-eqb sum t e) ∙ require-bad _ 12 at _ s end (lt-leb end (at + longest) k))
 
-      pub record-on : sum ≡ t → end ≤ at + longest → walked (avlRecord longest w s at) ≡ On end
-      unfolding pure
+      pub record-on : sum ≡ t → end ≤ at + longest → counted elementsOf (avlRecord longest w s at) ≡ Of n end
+      unfolding pure counted
       record-on e k =
-          walked-got _ (record-rules .1 ∙ require-got _ 9 at _ s end (eq-eqb sum t e) ∙ require-got _ 12 at _ s end (le-leb end (at + longest) k))
+          ap (counted elementsOf) (record-rules .1 ∙ require-got _ 9 at _ s end (eq-eqb sum t e) ∙ require-got _ 12 at _ s end (le-leb end (at + longest) k))
+          ∙ ap (λ (m : ℕ). Of m end) (record-rules .2)
 
 -- ---- records
 
 abbrev pub nowhere : Span
-nowhere = record { start = 0; end = 0 }
+nowhere = record { start = 0; end = 0; elements = 0 }
 
 -- where the record `want` lies among records, the first of which begins at `at` and has this index; what was found before where it is none of them
 unfoldable pub spanFrom : Widths → ℕ → ℕ → Span → ℕ → List AvlRecord → Span
 spanFrom w want index found at [] = found
 spanFrom w want index found at (r ∷ rs) =
-    spanFrom w want (suc index) (pick (eqb index want) (record { start = at; end = at + length (recordBytes w r) }) found) (at + length (recordBytes w r)) rs
+    spanFrom w want (suc index) (pick (eqb index want) (record { start = at; end = at + length (recordBytes w r); elements = elementsOf r }) found) (at + length (recordBytes w r)) rs
 
 span-past : (w : Widths) (want index : ℕ) (found : Span) (at : ℕ) (rs : List AvlRecord) → want < index → spanFrom w want index found at rs ≡ found
 unfolding spanFrom
@@ -466,7 +483,7 @@ module _ (w : Widths) (s : List ℕ) (count want : ℕ) where
       go false = refl
 
   answered-consed : (index : ℕ) (found : Span) (at : ℕ) (r : AvlRecord) (x : Read (List AvlRecord)) → answered index found at (consed r x)
-      ≡ answered (suc index) (pick (eqb index want) (record { start = at; end = at + length (recordBytes w r) }) found) (at + length (recordBytes w r)) x
+      ≡ answered (suc index) (pick (eqb index want) (record { start = at; end = at + length (recordBytes w r); elements = elementsOf r }) found) (at + length (recordBytes w r)) x
   unfolding answered consed spanFrom
   answered-consed index found at r (got rs next) = refl
   answered-consed index found at r (bad x) = refl
@@ -491,22 +508,23 @@ module _ (w : Widths) (s : List ℕ) (count want : ℕ) where
           ap (λ (n : ℕ). avlRecords longest w i n s next) more
           ∙ ap (λ (k : ℕ). (inRecord i (avlRecord longest w) >>= λ r. avlRecords longest w k (count - (i + 1)) >>= λ rs. pure (r ∷ rs)) s next) (sym (add-one i))
 
-      pub answer-broken : {x : Fault} → i < count → walked (avlRecord longest w s next) ≡ Stopped x
+      pub answer-broken : {x : Fault} → i < count → counted elementsOf (avlRecord longest w s next) ≡ Counted.Stopped x
           → answerFrom i found next ≡ Broken (record { number = x .number; index = i; place = x .place })
       unfolding answerFrom answered inRecord tagged
       answer-broken h e =
-          ap (answered i found next) (one-more h ∙ then-bad (inRecord i (avlRecord longest w)) _ s next (ap (tagged i) (walked-stopped _ e)))
+          ap (answered i found next) (one-more h ∙ then-bad (inRecord i (avlRecord longest w)) _ s next (ap (tagged i) (counted-stopped elementsOf _ e)))
 
-      pub answer-on : {to : ℕ} → Bytes s → next ≤ length s → i < count → walked (avlRecord longest w s next) ≡ On to
-          → answerFrom (i + 1) (pick (eqb i want) (record { start = next; end = to }) found) to ≡ answerFrom i found next
+      pub answer-on : {n to : ℕ} → Bytes s → next ≤ length s → i < count → counted elementsOf (avlRecord longest w s next) ≡ Of n to
+          → answerFrom (i + 1) (pick (eqb i want) (record { start = next; end = to; elements = n }) found) to ≡ answerFrom i found next
       unfolding answerFrom inRecord tagged
-      answer-on {to} b k h e =
-          let r = walked-on _ e in
+      answer-on {n} {to} b k h e =
+          let r = counted-of elementsOf _ e in
           let rest = avlRecords longest w (i + 1) (count - (i + 1)) in
           let size = record-exact longest w .sound s next b k .if-got _ _ (r .1) .0 .size in
           sym (ap (answered i found next) (one-more h ∙ list-on (inRecord i (avlRecord longest w)) rest s next (ap (tagged i) (r .1)))
           ∙ answered-consed i found next (r .0) (rest s to)
-          ∙ ap₂ (λ (m n : ℕ). answered m (pick (eqb i want) (record { start = next; end = n }) found) n (rest s to)) (sym (add-one i)) (sym size))
+          ∙ ap₂ (λ (m end : ℕ). answered m (pick (eqb i want) (record { start = next; end = end; elements = elementsOf (r .0) }) found) end (rest s to)) (sym (add-one i)) (sym size)
+          ∙ ap (λ (m : ℕ). answered (i + 1) (pick (eqb i want) (record { start = next; end = to; elements = m }) found) to (rest s to)) (r .2))
 
       pub answer-over : count ≤ i → (next ≡ length s → ⊥) → answerFrom i found next ≡ Broken (record { number = 8; index = count; place = next })
       unfolding answerFrom answered avlRecords pure

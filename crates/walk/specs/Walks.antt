@@ -15,7 +15,7 @@ use Rattle.walk.specs.declared.Records.the-variants.{All, Broken}
 use Rattle.walk.specs.declared.DataWalk.{DataWalk}
 use Rattle.walk.specs.declared.DataWalk.the-variants.{Taken, Refused}
 use Rattle.avl.specs.Codecs.{widthsOf}
-use Rattle.avl.specs.Records.{Element, AvlRecord, total, recordBytes}
+use Rattle.avl.specs.Records.{Element, AvlRecord, elementCount, total, recordBytes}
 use Rattle.avl.specs.DataField.{AvlData}
 
 -- every width set is this narrow
@@ -25,20 +25,23 @@ pub record Narrow (w : Widths) : Type 0 where
   pub count : w .count ≤ 2
   pub id : w .id ≤ 2
 
--- how many elements a group has
-unfoldable pub counted : Read (List Element) → Counted
-counted (got g next) = Of (length g) next
-counted (bad x) = Stopped x
+-- how many elements a group or a record has
+unfoldable pub counted : {A : Type 0} → (A → ℕ) → Read A → Counted
+counted size (got a next) = Of (size a) next
+counted size (bad x) = Stopped x
 
--- the total that the groups ask for
+abbrev pub elementsOf : AvlRecord → ℕ
+elementsOf r = elementCount (r .groups)
+
+-- the total that the groups ask for, and how many elements they have
 unfoldable pub tallied : Read (List (List Element)) → Tally
-tallied (got gs next) = Sums (total gs) next
+tallied (got gs next) = Sums (total gs) (elementCount gs) next
 tallied (bad x) = Unsummed x
 
--- where the record with number `n` lies, of records that begin at `at`; 0 and 0 where there is none
+-- where the record with number `n` lies, of records that begin at `at`, and how many elements it has; 0 where there is none
 unfoldable pub spanOf : Widths → ℕ → ℕ → List AvlRecord → Span
-spanOf w n at [] = record { start = 0; end = 0 }
-spanOf w zero at (r ∷ rs) = record { start = at; end = at + length (recordBytes w r) }
+spanOf w n at [] = record { start = 0; end = 0; elements = 0 }
+spanOf w zero at (r ∷ rs) = record { start = at; end = at + length (recordBytes w r); elements = elementsOf r }
 spanOf w (suc n) at (r ∷ rs) = spanOf w n (at + length (recordBytes w r)) rs
 
 -- the records that fill the space between the counts, and where the wanted one lies in it

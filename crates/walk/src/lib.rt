@@ -12,7 +12,7 @@ ghost use Rattle.wire.specs.Reading.{walked, repeat};
 ghost use Rattle.avl.specs.Codecs.{codec8, codec8E, codec16, widthsOf, isDataCodec, kinds, allKinds};
 ghost use Rattle.avl.specs.RecordReader.{fixedFields, element, group, groups, avlRecord, allRecords};
 ghost use Rattle.avl.specs.DataField.{readData};
-ghost use Rattle.walk.specs.Walks.{Narrow, counted, tallied, spanned, dataWalk};
+ghost use Rattle.walk.specs.Walks.{Narrow, counted, elementsOf, tallied, spanned, dataWalk};
 
 pub struct Codec8;
 
@@ -133,22 +133,23 @@ fn missing(at: usize) -> Walk
     })
 }
 
-// How many elements a group has and where it ends, or why it is broken.
+// How many elements a group or a record has and where it ends, or why it is broken.
 enum Counted {
     Of(usize, usize),
     Stopped(Fault),
 }
 
-// The total that the groups of a record ask for and where they end, or why they are broken.
+// The total that the groups of a record ask for, how many elements they have and where they end, or why they are broken.
 enum Tally {
-    Sums(usize, usize),
+    Sums(usize, usize, usize),
     Unsummed(Fault),
 }
 
-// A record's first byte and the one behind its last.
+// A record's first byte, the one behind its last, and the number of its elements.
 pub struct Span {
     pub start: usize,
     pub end: usize,
+    pub elements: usize,
 }
 
 // Where the wanted record lies among the records, or why they are broken.
@@ -157,9 +158,13 @@ pub enum Records {
     Broken(Fault),
 }
 
-// A data field's codec and count and where the wanted record lies between the counts; or the refusal.
+// A data field's codec and count and where the wanted record lies between the counts; or the refusal. Whole words: bytes among them make an answer slow to copy.
 pub enum DataWalk {
-    Taken { codec: u8, count: u8, span: Span },
+    Taken {
+        codec: usize,
+        count: usize,
+        span: Span,
+    },
     Refused(Refusal),
 }
 
@@ -306,7 +311,7 @@ fn group_at(w: Widths, kind: usize, s: &[u8], at: usize) -> Counted
     requires { ⌜ Narrow w ⌝ }
     requires { ⌜ (1 ≤ kind) × (kind ≤ 9) ⌝ }
     requires { ⌜ at ≤ length (now s) ⌝ }
-    ensures { λ r. ⌜ r ≡ counted (group w kind (now (s .entry)) at) ⌝ }
+    ensures { λ r. ⌜ r ≡ counted length (group w kind (now (s .entry)) at) ⌝ }
 {
     let count = w.count;
     let id = w.id;
@@ -378,56 +383,62 @@ fn groups_at(w: Widths, s: &[u8], at: usize) -> Tally
 {
     let n = kind_count(w);
     let mut total: usize = 0;
+    let mut elements: usize = 0;
     let mut next = at;
     let mut k: usize = 0;
     while k < n {
         match group_at(w, kind_at(k), s, next) {
             Counted::Of(count, to) => {
                 total += share(k, count);
+                elements += count;
                 next = to;
             }
             Counted::Stopped(x) => return Tally::Unsummed(x),
         }
         k += 1;
     }
-    Tally::Sums(total, next)
+    Tally::Sums(total, elements, next)
 }
 
 // A record: its fixed fields, its total, its groups; then the total's rule and the record's length.
-fn record_at(longest: usize, w: Widths, s: &[u8], at: usize) -> Walk
+fn record_at(longest: usize, w: Widths, s: &[u8], at: usize) -> Counted
     requires { ⌜ Narrow w ⌝ }
     requires { ⌜ longest ≤ 65535 ⌝ }
     requires { ⌜ at ≤ length (now s) ⌝ }
-    ensures { λ r. ⌜ r ≡ walked (avlRecord longest w (now (s .entry)) at) ⌝ }
+    ensures { λ r. ⌜ r ≡ counted elementsOf (avlRecord longest w (now (s .entry)) at) ⌝ }
 {
     let count = w.count;
     let a1 = match fixed_fields(w, s, at) {
         Walk::On(to) => to,
-        Walk::Stopped(x) => return Walk::Stopped(x),
+        Walk::Stopped(x) => return Counted::Stopped(x),
     };
     let a2 = a1 + count;
     if s.len() < a2 {
-        return missing(a1);
+        return Counted::Stopped(Fault {
+            number: 8,
+            index: 0,
+            place: a1,
+        });
     }
     let sum = wire::short_number(s, a1, count) as usize;
     match groups_at(w, s, a2) {
-        Tally::Unsummed(x) => Walk::Stopped(x),
-        Tally::Sums(total, end) => {
+        Tally::Unsummed(x) => Counted::Stopped(x),
+        Tally::Sums(total, elements, end) => {
             if sum != total {
-                return Walk::Stopped(Fault {
+                return Counted::Stopped(Fault {
                     number: 9,
                     index: 0,
                     place: at,
                 });
             }
             if at + longest < end {
-                return Walk::Stopped(Fault {
+                return Counted::Stopped(Fault {
                     number: 12,
                     index: 0,
                     place: at,
                 });
             }
-            Walk::On(end)
+            Counted::Of(elements, end)
         }
     }
 }
@@ -441,17 +452,19 @@ fn all_records(longest: usize, w: Widths, s: &[u8], count: usize, want: usize) -
     let mut next: usize = 0;
     let mut start: usize = 0;
     let mut end: usize = 0;
+    let mut elements: usize = 0;
     let mut i: usize = 0;
     while i < count {
         match record_at(longest, w, s, next) {
-            Walk::On(to) => {
+            Counted::Of(n, to) => {
                 if i == want {
                     start = next;
                     end = to;
+                    elements = n;
                 }
                 next = to;
             }
-            Walk::Stopped(x) => {
+            Counted::Stopped(x) => {
                 return Records::Broken(Fault {
                     number: x.number,
                     index: i,
@@ -468,7 +481,11 @@ fn all_records(longest: usize, w: Widths, s: &[u8], count: usize, want: usize) -
             place: next,
         });
     }
-    Records::All(Span { start, end })
+    Records::All(Span {
+        start,
+        end,
+        elements,
+    })
 }
 
 // The data field `d`: codec, count, records, count again.
@@ -499,7 +516,11 @@ pub fn read_data(longest: usize, d: &[u8], want: usize) -> DataWalk
         });
     }
     match all_records(longest, widths_of(codec), &d[2..last], count as usize, want) {
-        Records::All(span) => DataWalk::Taken { codec, count, span },
+        Records::All(span) => DataWalk::Taken {
+            codec: codec as usize,
+            count: count as usize,
+            span,
+        },
         Records::Broken(x) => DataWalk::Refused(Refusal {
             number: x.number,
             index: x.index,

@@ -55,6 +55,11 @@ unfolding told
 told-accepted (got b n) e = (n, ap (λ x. got x n) (cc))
 told-accepted (bad x) e = absurd (let z : _≡_ {A = ℕ} 0 1 = cc in omega arith)
 
+pub told-refused : {A : Type 0} (r : Read A) {n i : ℕ} → told r ≡ refused n i → (x : Fault) × (r ≡ bad x) × (x .number ≡ n) × (x .index ≡ i)
+unfolding told
+told-refused (got b n) e = absurd (let z : _≡_ {A = ℕ} 0 1 = cc in omega arith)
+told-refused (bad x) e = (x, refl, cc, cc)
+
 pub told-bad : {A : Type 0} (r : Read A) {x : Fault} → r ≡ bad x → told r ≡ refused (x .number) (x .index)
 unfolding told
 told-bad r e = ap told e

@@ -10,5 +10,6 @@ pub mod Shifts
 pub mod Complement
 pub mod Walking
 pub mod DigitLaws
+pub mod ImeiWord
 pub mod BufferLaws
 pub mod Storing

@@ -1,10 +1,11 @@
 -- An IMEI: a number of 15 decimal digits, as text (login, UDP) or two digits a byte (codec 14).
-use Prim.Native.Nat.{ℕ, zero, suc, _+_, _-_, _*_, _/_, _%_}
+use Prim.Native.Nat.{ℕ, zero, suc, _+_, _-_, _*_, _/_, _%_, _^_}
 use mathlib.Core.Bool.{false}
 use mathlib.Core.List.{List, [], _∷_}
 use lib.Dec.{eqb, leb}
 use Rattle.wire.specs.Numbers.{be, digits, valueFrom, pick}
 use Rattle.wire.specs.Sequences.{fields, joined}
+use Rattle.wire.specs.Answers.{Answer, accepted, check}
 use Rattle.wire.specs.Reading.{Reader, _>>=_, _>>_, pure, here, require, number, repeat}
 
 -- ---- as text: the length 15 in two bytes, then 15 ASCII digits
@@ -30,6 +31,10 @@ readImei = do
   require (eqb size 15) 15 start
   ds ← repeat 15 textDigit
   pure (valueFrom 10 0 ds)
+
+-- what the code's word says: the IMEI, or 15 where no IMEI is as large
+unfoldable pub imeiOf : ℕ → Answer ℕ
+imeiOf word = check (leb (suc word) (10 ^ 15)) 15 (accepted word)
 
 -- ---- packed: two digits a byte, the higher first, and the first digit of all is 0
 

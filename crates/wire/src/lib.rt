@@ -5,7 +5,11 @@ ghost use lib.ListN.{length};
 ghost use lib.Seq.{sets};
 ghost use Rattle.wire.specs.Numbers.{numberAt, signed, valueFrom, be, le};
 ghost use Rattle.wire.specs.Reading.{numbered, _>>=_ as bind, pure, repeat};
-ghost use Rattle.wire.specs.Imei.{textDigit, readImei, pairUpTo, readPacked};
+ghost use Rattle.wire.specs.Answers.{told};
+ghost use Rattle.wire.specs.Imei.{imeiOf, textDigit, readImei, pairUpTo, readPacked};
+
+// In a word that holds an IMEI: there is none. An IMEI is below it.
+pub const NO_IMEI: u64 = 1_000_000_000_000_000;
 
 // Why a walk stopped: the refusal's number, the record's index, and the offset at which the offending field starts.
 pub struct Fault {
@@ -116,28 +120,35 @@ fn unread(number: usize, place: usize) -> Decimal
     })
 }
 
-fn text_digit(s: &[u8], at: usize) -> Decimal
-    requires { ⌜ at < length (now s) ⌝ }
-    ensures { λ r. ⌜ r ≡ numbered (textDigit (now (s .entry)) at) ⌝ }
+// The value of `n` ASCII digits, which are there. A byte less 48 is a digit where that is below 10: one test for both ends.
+pub fn text_number(n: usize, s: &[u8], at: usize) -> u64
+    requires { ⌜ (n ≤ 15) × (at + n ≤ length (now s)) ⌝ }
+    ensures { λ r. ⌜ imeiOf r ≡ told (bind (repeat n textDigit) (λ ds. pure (valueFrom 10 0 ds)) (now (s .entry)) at) ⌝ }
 {
-    let c = s[at];
-    if c < 48 {
-        return unread(15, at);
+    let mut value: u64 = 0;
+    let mut next = at;
+    let mut left = n;
+    while 0 < left {
+        let c = s[next];
+        let d = ((c as u64) + 208) % 256;
+        if 9 < d {
+            return NO_IMEI;
+        }
+        value = value * 10 + d;
+        next += 1;
+        left -= 1;
     }
-    if 57 < c {
-        return unread(15, at);
-    }
-    Decimal::Of((c - 48) as u64, at + 1)
+    value
 }
 
 // An IMEI as text: its length, 15, and its digits. Its 17 bytes are there.
-pub fn read_imei(s: &[u8], at: usize) -> Decimal
+pub fn read_imei(s: &[u8], at: usize) -> u64
     requires { ⌜ at + 17 ≤ length (now s) ⌝ }
-    ensures { λ r. ⌜ r ≡ numbered (readImei (now (s .entry)) at) ⌝ }
+    ensures { λ r. ⌜ imeiOf r ≡ told (readImei (now (s .entry)) at) ⌝ }
 {
     let size = be16(s, at);
     if size != 15 {
-        return unread(15, at);
+        return NO_IMEI;
     }
     text_number(15, s, at + 2)
 }
@@ -194,27 +205,6 @@ pub fn read_packed(s: &[u8], at: usize, w: usize) -> Decimal
         Decimal::Of(first, next) => pairs_from(first, w - 1, s, next),
         Decimal::Unread(x) => Decimal::Unread(x),
     }
-}
-
-// The value of `n` ASCII digits, which are there.
-pub fn text_number(n: usize, s: &[u8], at: usize) -> Decimal
-    requires { ⌜ (n ≤ 15) × (at + n ≤ length (now s)) ⌝ }
-    ensures { λ r. ⌜ r ≡ numbered (bind (repeat n textDigit) (λ ds. pure (valueFrom 10 0 ds)) (now (s .entry)) at) ⌝ }
-{
-    let mut value: u64 = 0;
-    let mut next = at;
-    let mut left = n;
-    while 0 < left {
-        match text_digit(s, next) {
-            Decimal::Of(d, to) => {
-                value = value * 10 + d;
-                next = to;
-            }
-            Decimal::Unread(x) => return Decimal::Unread(x),
-        }
-        left -= 1;
-    }
-    Decimal::Of(value, next)
 }
 
 // Stores the `w` lowest bytes of `n`, the highest first.

@@ -1,14 +1,14 @@
 -- The length, then the digits.
-use mathlib.Core.Path.{sym, ap, _∙_}
-use borrow.Author.Tests.{eq-eqb, ne-eqb}
-use borrow.Author.Needs.{needs}
-use Rattle.wire.specs.Imei.{textDigit}
-use Rattle.wire.specs.Answers.{check, told}
-use Rattle.wire.proofs.DigitLaws.{numbered-of, numbered-unread}
-use Rattle.wire.proofs.Accepting.{check-passed, told-got}
-use Rattle.command.specs.Writing.{givenImei}
-use Rattle.command.specs.Walks.{givenAs}
 use Rattle.command.proofs.WriterLaws.{told-value}
+use Rattle.command.specs.Walks.{givenAs}
+use Rattle.command.specs.Writing.{givenImei}
+use Rattle.wire.proofs.ImeiWord.{word-imei, word-none}
+use Rattle.wire.proofs.Accepting.{check-passed}
+use Rattle.wire.specs.Answers.{check}
+use Rattle.wire.specs.Imei.{textDigit}
+use borrow.Author.Tests.{eq-eqb, ne-eqb}
+use mathlib.Core.Path.{sym, ap, _∙_}
+use borrow.Author.Needs.{needs}
 use Rattle.command.proofs.given_imei.Statement.{statement}
 use Rattle.command.proofs.given_imei.Tie as tie
 
@@ -25,19 +25,16 @@ returns c = simp (c .not-given .ensures, ne-eqb _ _ (λ e. c .before .if1 .taken
 text-number-requires : tie.Need-text-number-requires
 text-number-requires c κs = search needs
 
-enum-known-imei : tie.Need-enum-known-imei
-enum-known-imei c = search needs
-
-enum-known-x : tie.Need-enum-known-x
-enum-known-x c = search needs
-
 returns-2 : tie.Need-returns-2
 unfolding givenAs givenImei
-returns-2 c = sym (check-passed _ 15 _ (eq-eqb _ _ (c .before .before .before .before .if1 .left ∙ c .before .before .before .before .before .digit-count .ensures)) ∙ sym (told-value 10 _ textDigit (c .before .before .before .before .before .before .before .args .s .now) 0) ∙ told-got _ (numbered-of _ (sym (c .before .before .before .text-number .ensures) ∙ c .before .imei .given .1)))
+returns-2 c = sym (check-passed _ 15 _ (eq-eqb _ _ (c .before .before .if1 .left ∙ c .before .before .before .digit-count .ensures)) ∙ sym (told-value 10 _ textDigit (c .before .before .before .before .before .args .s .now) 0) ∙ sym (c .before .text-number .ensures) ∙ word-imei _ (c .if2 .taken))
+
+not-given-requires-2 : tie.Need-not-given-requires-2
+not-given-requires-2 c κs = search needs
 
 returns-3 : tie.Need-returns-3
-unfolding givenAs givenImei told
-returns-3 c = sym (check-passed _ 15 _ (eq-eqb _ _ (c .before .before .before .before .if1 .left ∙ c .before .before .before .before .before .digit-count .ensures)) ∙ sym (told-value 10 _ textDigit (c .before .before .before .before .before .before .before .args .s .now) 0) ∙ ap told (numbered-unread _ (sym (c .before .before .before .text-number .ensures) ∙ c .before .x .given .1)))
+unfolding givenAs givenImei
+returns-3 c = ap givenAs (c .not-given2 .ensures) ∙ sym (check-passed _ 15 _ (eq-eqb _ _ (c .before .before .before .if1 .left ∙ c .before .before .before .before .digit-count .ensures)) ∙ sym (told-value 10 _ textDigit (c .before .before .before .before .before .before .args .s .now) 0) ∙ sym (c .before .before .text-number .ensures) ∙ word-none _ (c .before .if2 .left))
 
 pub given-imei-spec : {M : Type 1} → statement M
 given-imei-spec =
@@ -47,7 +44,6 @@ given-imei-spec =
     not-given-requires
     returns
     text-number-requires
-    enum-known-imei
-    enum-known-x
     returns-2
+    not-given-requires-2
     returns-3)

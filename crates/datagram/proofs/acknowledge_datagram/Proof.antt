@@ -6,7 +6,7 @@ use Rattle.wire.proofs.BufferLaws.{writing-done, writing-short, leaving-done, l
 use Rattle.wire.proofs.Widths.{getD-bytes}
 use Rattle.wire.specs.Answers.{onAccepted}
 use Rattle.wire.specs.Buffers.{writing, leaving, writtenAs}
-use Rattle.datagram.proofs.WalkLaws.{acknowledged-taken, acknowledged-refused}
+use Rattle.datagram.proofs.WalkLaws.{acknowledged-taken, acknowledged-refused, carried-fits}
 use Rattle.datagram.proofs.acknowledge_datagram.Statement.{statement}
 use Rattle.datagram.proofs.acknowledge_datagram.Tie as tie
 
@@ -24,12 +24,15 @@ unfolding writtenAs
 returns c = let p = c .before .before .before .before .before .before .before .args .p .now in
     let b = answerBytes p (c .before .before .count .given .0 .1 .0) in
     let out = c .before .before .before .before .before .before .before .args .out .now in
-    rw (acknowledged-taken p (getD-bytes p (λ k. c .before .before .before .before .before .before .shared-slice-known .given k .fits)) (sym (c .before .before .before .before .judge-datagram .ensures) ∙ c .before .before .count .given .1) (omega arith) .1)
+    rw (acknowledged-taken p (getD-bytes p (λ k. c .before .before .before .before .before .before .shared-slice-known .given k .fits)) (sym (c .before .before .before .before .judge-datagram .ensures) ∙ c .before .before .count .given .1) .1)
     (sym (writing-short b out (omega arith)), sym (leaving-short b out (omega arith)))
+
+cast-put-acknowledgement : tie.Need-cast-put-acknowledgement
+cast-put-acknowledgement c = omega (arith, carried-fits 1280 255 0 (c .before .before .before .before .before .before .before .args .p .now) (getD-bytes (c .before .before .before .before .before .before .before .args .p .now) (λ k. c .before .before .before .before .before .before .shared-slice-known .given k .fits)) (sym (c .before .before .before .before .judge-datagram .ensures) ∙ c .before .before .count .given .1))
 
 put-acknowledgement-requires : tie.Need-put-acknowledgement-requires
 put-acknowledgement-requires c κs = let p = c .before .before .before .before .before .before .before .before .args .p .now in
-    (acknowledged-taken p (getD-bytes p (λ k. c .before .before .before .before .before .before .before .shared-slice-known .given k .fits)) (sym (c .before .before .before .before .before .judge-datagram .ensures) ∙ c .before .before .before .count .given .1) (omega arith) .0, omega arith)
+    (acknowledged-taken p (getD-bytes p (λ k. c .before .before .before .before .before .before .before .shared-slice-known .given k .fits)) (sym (c .before .before .before .before .before .judge-datagram .ensures) ∙ c .before .before .before .count .given .1) .0, omega arith)
 
 returns-2 : tie.Need-returns-2
 unfolding writtenAs writing leaving onAccepted
@@ -44,7 +47,7 @@ unfolding writtenAs
 returns-3 c = let p = c .before .before .before .before .before .before .before .before .before .before .before .args .p .now in
     let b = answerBytes p (c .before .before .before .before .before .before .count .given .0 .1 .0) in
     let out = c .before .before .before .before .before .before .before .before .before .before .before .args .out .now in
-    rw (acknowledged-taken p (getD-bytes p (λ k. c .before .before .before .before .before .before .before .before .before .before .shared-slice-known .given k .fits)) (sym (c .before .before .before .before .before .before .before .before .judge-datagram .ensures) ∙ c .before .before .before .before .before .before .count .given .1) (omega arith) .1)
+    rw (acknowledged-taken p (getD-bytes p (λ k. c .before .before .before .before .before .before .before .before .before .before .shared-slice-known .given k .fits)) (sym (c .before .before .before .before .before .before .before .before .judge-datagram .ensures) ∙ c .before .before .before .before .before .before .count .given .1) .1)
     (sym (writing-done b out (omega arith)), c .before .before .put-acknowledgement .ensures ∙ sym (leaving-done b out (omega arith)))
 
 pub acknowledge-datagram-spec : {M : Type 1} → statement M
@@ -55,6 +58,7 @@ acknowledge-datagram-spec =
     enum-known-r
     enum-known-count
     returns
+    cast-put-acknowledgement
     put-acknowledgement-requires
     returns-2
     same-length

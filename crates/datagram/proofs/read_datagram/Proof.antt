@@ -1,10 +1,12 @@
+use Rattle.wire.proofs.Widths.{getD-bytes}
+use native.Mathlib.Omega.{arith}
 use native.Mathlib.Omega.{arith}
 use mathlib.Core.Path.{sym, ap, _∙_}
 use borrow.Author.Needs.{needs}
 use Rattle.datagram.specs.Datagrams.{headerAs, datagramAs}
 use Rattle.walk.specs.Walks.{dataWalk}
 use Rattle.avl.specs.DataField.{readData}
-use Rattle.datagram.proofs.WalkLaws.{payload-part, payload-long, answer-refused, answer-taken, answer-stopped}
+use Rattle.datagram.proofs.WalkLaws.{payload-part, payload-long, answer-refused, answer-taken, answer-stopped, carried-fits, walk-on}
 use Rattle.datagram.proofs.read_datagram.Statement.{statement}
 use Rattle.datagram.proofs.read_datagram.Tie as tie
 
@@ -39,6 +41,14 @@ read-data-requires c κs = (omega arith, payload-long 1280 (c .before .before .b
 enum-known-codec : tie.Need-enum-known-codec
 enum-known-codec c = search needs
 
+cast-t16 : tie.Need-cast-t16
+unfolding headerAs
+cast-t16 c = omega (arith, carried-fits 1280 255 0 (c .before .before .before .before .before .before .before .before .before .before .args .p .now) (getD-bytes (c .before .before .before .before .before .before .before .before .before .before .args .p .now) (λ k. c .before .before .before .before .before .before .before .before .before .shared-slice-known .given k .fits)) (sym (walk-on 1280 255 (c .before .before .before .before .before .before .before .before .before .before .args .p .now) (sym (c .before .before .before .before .before .before .before .before .read-header .ensures) ∙ ap headerAs (c .before .before .before .before .before .before .h .given .1)) 0) ∙ ap (λ l. dataWalk 0 (readData 255 l)) (sym (payload-part (c .before .before .before .before .before .before .before .before .before .before .args .p .now))) ∙ sym (c .before .before .before .read-data .ensures) ∙ c .before .codec .given .1))
+
+cast-t17 : tie.Need-cast-t17
+unfolding headerAs
+cast-t17 c = omega (arith, carried-fits 1280 255 0 (c .before .before .before .before .before .before .before .before .before .before .args .p .now) (getD-bytes (c .before .before .before .before .before .before .before .before .before .before .args .p .now) (λ k. c .before .before .before .before .before .before .before .before .before .shared-slice-known .given k .fits)) (sym (walk-on 1280 255 (c .before .before .before .before .before .before .before .before .before .before .args .p .now) (sym (c .before .before .before .before .before .before .before .before .read-header .ensures) ∙ ap headerAs (c .before .before .before .before .before .before .h .given .1)) 0) ∙ ap (λ l. dataWalk 0 (readData 255 l)) (sym (payload-part (c .before .before .before .before .before .before .before .before .before .before .args .p .now))) ∙ sym (c .before .before .before .read-data .ensures) ∙ c .before .codec .given .1))
+
 enum-known-r-2 : tie.Need-enum-known-r-2
 enum-known-r-2 c = search needs
 
@@ -63,6 +73,8 @@ read-datagram-spec =
     part-read-data-end
     read-data-requires
     enum-known-codec
+    cast-t16
+    cast-t17
     enum-known-r-2
     returns-2
     returns-3)

@@ -1,11 +1,11 @@
-use Prim.Native.Nat.{ℕ, _+_}
-use mathlib.Core.Path.{sym, ap, _∙_}
-use borrow.Author.Needs.{needs}
+use Rattle.datagram.proofs.WalkLaws.{header-short, header-large, header-length, header-imei, header-is}
 use Rattle.datagram.specs.Datagrams.{headerAs}
-use Rattle.wire.proofs.DigitLaws.{numbered-of, numbered-unread}
+use Rattle.wire.proofs.ImeiWord.{word-imei, word-none}
 use Rattle.wire.proofs.Shifts.{number-one}
 use Rattle.wire.specs.Answers.{accepted}
-use Rattle.datagram.proofs.WalkLaws.{header-short, header-large, header-length, header-imei, header-is}
+use mathlib.Core.Path.{sym, ap, _∙_}
+use Prim.Native.Nat.{ℕ, _+_}
+use borrow.Author.Needs.{needs}
 use Rattle.datagram.proofs.read_header.Statement.{statement}
 use Rattle.datagram.proofs.read_header.Tie as tie
 
@@ -42,30 +42,27 @@ returns-3 c = ap headerAs (c .refused3 .ensures) ∙ sym (header-length (c .befo
 read-imei-requires : tie.Need-read-imei-requires
 read-imei-requires c κs = search needs
 
-enum-known-imei : tie.Need-enum-known-imei
-enum-known-imei c = search needs
-
 be16-requires-2 : tie.Need-be16-requires-2
 be16-requires-2 c κs = search needs
 
-shared-slice-read-t14 : tie.Need-shared-slice-read-t14
-shared-slice-read-t14 c = search needs
+shared-slice-read-t11 : tie.Need-shared-slice-read-t11
+shared-slice-read-t11 c = search needs
 
-shared-slice-read-t16 : tie.Need-shared-slice-read-t16
-shared-slice-read-t16 c = search needs
-
-enum-known-x : tie.Need-enum-known-x
-enum-known-x c = search needs
+shared-slice-read-t13 : tie.Need-shared-slice-read-t13
+shared-slice-read-t13 c = search needs
 
 returns-4 : tie.Need-returns-4
 unfolding headerAs
-returns-4 c = let s = c .before .before .before .before .before .before .before .before .before .before .before .before .args .p .now in
-    (λ i. accepted (record { packet = c .before .before .be162 .ensures i; unused = sym (number-one s 4) i; avl = sym (number-one s 5) i; imei = c .before .before .before .before .imei .given .0 .0 }))
-    ∙ sym (header-is (c .before .before .before .before .before .before .before .before .before .before .before .before .args .largest) s (c .before .before .before .before .before .before .before .before .before .before .if1 .left) (c .before .before .before .before .before .before .before .before .before .if2 .left) (c .before .before .before .before .before .before .before .if3 .left ∙ ap (λ (n : ℕ). n + 2) (c .before .before .before .before .before .before .before .before .be16 .ensures)) (numbered-of _ (sym (c .before .before .before .before .before .before .read-imei .ensures) ∙ c .before .before .before .before .imei .given .1)))
+returns-4 c = let s = c .before .before .before .before .before .before .before .before .before .before .args .p .now in
+    (λ i. accepted (record { packet = c .before .before .be162 .ensures i; unused = sym (number-one s 4) i; avl = sym (number-one s 5) i; imei = c .before .before .before .before .read-imei .result }))
+    ∙ sym (header-is (c .before .before .before .before .before .before .before .before .before .before .args .largest) s (c .before .before .before .before .before .before .before .before .if1 .left) (c .before .before .before .before .before .before .before .if2 .left) (c .before .before .before .before .before .if3 .left ∙ ap (λ (n : ℕ). n + 2) (c .before .before .before .before .before .before .be16 .ensures)) (sym (c .before .before .before .before .read-imei .ensures) ∙ word-imei _ (c .before .before .before .if4 .taken)))
+
+refused-requires-4 : tie.Need-refused-requires-4
+refused-requires-4 c κs = search needs
 
 returns-5 : tie.Need-returns-5
 unfolding headerAs
-returns-5 c = sym (header-imei (c .before .before .before .before .before .before .before .before .before .args .largest) (c .before .before .before .before .before .before .before .before .before .args .p .now) (c .before .before .before .before .before .before .before .if1 .left) (c .before .before .before .before .before .before .if2 .left) (c .before .before .before .before .if3 .left ∙ ap (λ (n : ℕ). n + 2) (c .before .before .before .before .before .be16 .ensures)) (numbered-unread _ (sym (c .before .before .before .read-imei .ensures) ∙ c .before .x .given .1)))
+returns-5 c = ap headerAs (c .refused4 .ensures) ∙ sym (header-imei (c .before .before .before .before .before .before .before .before .args .largest) (c .before .before .before .before .before .before .before .before .args .p .now) (c .before .before .before .before .before .before .if1 .left) (c .before .before .before .before .before .if2 .left) (c .before .before .before .if3 .left ∙ ap (λ (n : ℕ). n + 2) (c .before .before .before .before .be16 .ensures)) (sym (c .before .before .read-imei .ensures) ∙ word-none _ (c .before .if4 .left)))
 
 pub read-header-spec : {M : Type 1} → statement M
 read-header-spec =
@@ -81,10 +78,9 @@ read-header-spec =
     refused-requires-3
     returns-3
     read-imei-requires
-    enum-known-imei
     be16-requires-2
-    shared-slice-read-t14
-    shared-slice-read-t16
-    enum-known-x
+    shared-slice-read-t11
+    shared-slice-read-t13
     returns-4
+    refused-requires-4
     returns-5)

@@ -1,8 +1,9 @@
-use mathlib.Core.Path.{sym, _∙_}
-use native.Mathlib.Omega.{arith}
-use Rattle.wire.proofs.Widths.{getD-bytes}
-use Rattle.lookup.proofs.PlaceLaws.{udp-stored}
 use Rattle.lookup.proofs.PartLaws.{walked-part, walked-none, walked-in, udp-walked, udp-refused}
+use Rattle.lookup.proofs.PlaceLaws.{udp-stored}
+use Rattle.datagram.proofs.WalkLaws.{carried-fits}
+use Rattle.wire.proofs.Widths.{getD-bytes}
+use native.Mathlib.Omega.{arith}
+use mathlib.Core.Path.{sym, _∙_}
 use borrow.Author.Needs.{needs}
 use Rattle.lookup.proofs.datagram_part.Statement.{statement}
 use Rattle.lookup.proofs.datagram_part.Tie as tie
@@ -16,8 +17,8 @@ enum-known-r c = search needs
 enum-known-codec : tie.Need-enum-known-codec
 enum-known-codec c = search needs
 
-cast-if1 : tie.Need-cast-if1
-cast-if1 c = search needs
+cast-t10 : tie.Need-cast-t10
+cast-t10 c = omega (arith, carried-fits 1280 255 (c .before .before .before .before .before .before .args .n) (c .before .before .before .before .before .before .args .p .now) (getD-bytes (c .before .before .before .before .before .before .args .p .now) (λ k. c .before .before .before .before .before .shared-slice-known .given k .fits)) (sym (c .before .before .before .before .judge-datagram .ensures) ∙ c .before .before .codec .given .1))
 
 add-t11 : tie.Need-add-t11
 add-t11 c = omega (arith, walked-in (udp-walked 1280 255 (c .before .before .before .before .before .before .before .args .p .now) (c .before .before .before .before .before .before .before .args .n) (sym (c .before .before .before .before .before .judge-datagram .ensures) ∙ c .before .before .before .codec .given .1)) (λ x. udp-stored 1280 255 (c .before .before .before .before .before .before .before .args .p .now) x (getD-bytes (c .before .before .before .before .before .before .before .args .p .now) (λ k. c .before .before .before .before .before .before .shared-slice-known .given k .fits))) (c .before .if1 .taken))
@@ -41,7 +42,7 @@ datagram-part-spec =
     judge-datagram-requires
     enum-known-r
     enum-known-codec
-    cast-if1
+    cast-t10
     add-t11
     add-t12
     returns

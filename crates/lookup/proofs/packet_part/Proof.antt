@@ -1,8 +1,11 @@
-use mathlib.Core.Path.{sym, _∙_}
-use native.Mathlib.Omega.{arith}
-use Rattle.wire.proofs.Widths.{getD-bytes}
-use Rattle.lookup.proofs.PlaceLaws.{tcp-stored}
 use Rattle.lookup.proofs.PartLaws.{walked-part, walked-none, walked-in, tcp-walked, tcp-refused}
+use Rattle.lookup.proofs.PlaceLaws.{tcp-stored}
+use Rattle.packet.proofs.WalkLaws.{packet-fits}
+use Rattle.packet.specs.DataPackets.{readPacket}
+use Rattle.walk.proofs.TakenLaws.{taken}
+use Rattle.wire.proofs.Widths.{getD-bytes}
+use native.Mathlib.Omega.{arith}
+use mathlib.Core.Path.{sym, _∙_}
 use borrow.Author.Needs.{needs}
 use Rattle.lookup.proofs.packet_part.Statement.{statement}
 use Rattle.lookup.proofs.packet_part.Tie as tie
@@ -16,8 +19,8 @@ enum-known-r c = search needs
 enum-known-codec : tie.Need-enum-known-codec
 enum-known-codec c = search needs
 
-cast-if1 : tie.Need-cast-if1
-cast-if1 c = search needs
+cast-t10 : tie.Need-cast-t10
+cast-t10 c = omega (arith, packet-fits 1280 255 (c .before .before .before .before .before .before .args .p .now) (getD-bytes (c .before .before .before .before .before .before .args .p .now) (λ k. c .before .before .before .before .before .shared-slice-known .given k .fits)) (taken (c .before .before .before .before .before .before .args .n) (readPacket 1280 255 (c .before .before .before .before .before .before .args .p .now)) (sym (c .before .before .before .before .judge-packet .ensures) ∙ c .before .before .codec .given .1)))
 
 add-t11 : tie.Need-add-t11
 add-t11 c = omega (arith, walked-in (tcp-walked 1280 255 (c .before .before .before .before .before .before .before .args .p .now) (c .before .before .before .before .before .before .before .args .n) (sym (c .before .before .before .before .before .judge-packet .ensures) ∙ c .before .before .before .codec .given .1)) (λ x. tcp-stored 1280 255 (c .before .before .before .before .before .before .before .args .p .now) x (getD-bytes (c .before .before .before .before .before .before .before .args .p .now) (λ k. c .before .before .before .before .before .before .shared-slice-known .given k .fits))) (c .before .if1 .taken))
@@ -41,7 +44,7 @@ packet-part-spec =
     judge-packet-requires
     enum-known-r
     enum-known-codec
-    cast-if1
+    cast-t10
     add-t11
     add-t12
     returns

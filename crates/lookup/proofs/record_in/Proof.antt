@@ -1,15 +1,13 @@
-use mathlib.Core.Path.{refl, sym, ap, _∙_, subst}
-use Rattle.lookup.specs.declared.Part.{Part}
+use Rattle.lookup.proofs.PartLaws.{part-fields}
+use Rattle.lookup.specs.Answers.{PartIn, RecordIn}
 use Rattle.lookup.specs.declared.RecordAnswer.{RecordAnswer}
-use Prim.Native.Nat.{_-_}
+use Rattle.lookup.specs.declared.Part.{Part}
 use Rattle.element.specs.Places.{part}
-use Rattle.element.specs.Search.{Readable}
-use Rattle.walk.specs.Walks.{Narrow}
 use Rattle.avl.specs.RecordReader.{avlRecord}
 use Rattle.avl.specs.declared.Widths.{Widths}
+use mathlib.Core.Path.{refl, sym, ap, _∙_, subst}
 use native.Mathlib.Omega.{arith}
-use Rattle.walk.proofs.WalkLaws.{narrow}
-use Rattle.lookup.specs.Answers.{PartIn, RecordIn}
+use Prim.Native.Nat.{_-_}
 use borrow.Author.Needs.{needs}
 use Rattle.lookup.proofs.record_in.Statement.{statement}
 use Rattle.lookup.proofs.record_in.Tie as tie
@@ -34,7 +32,7 @@ part-fields-of-end c = omega (arith, subst (PartIn (c .before .before .before .b
 
 fields-of-requires : tie.Need-fields-of-requires
 unfolding part
-fields-of-requires c κs = subst (λ (w : Widths). Narrow w × Readable 255 w (part (c .before .before .before .before .before .before .args .p .now) (c .before .before .before .part2 .given .0 .1 .0) (c .before .before .before .part2 .given .0 .1 .1 .0 - c .before .before .before .part2 .given .0 .1 .0))) (sym (c .before .widths-of .ensures)) (narrow (c .before .before .before .part2 .given .0 .0), subst (PartIn (c .before .before .before .before .before .before .args .p .now)) (c .before .before .before .part2 .given .1) (c .before .before .before .before .before .before .pre) .1 .1)
+fields-of-requires c κs = part-fields (c .before .before .before .before .before .before .args .p .now) (c .before .before .before .part2 .given .0 .0) (c .before .before .before .part2 .given .0 .1 .0) (c .before .before .before .part2 .given .0 .1 .1 .0) (c .before .before .before .part2 .given .0 .1 .1 .1 .0) (c .before .widths-of .ensures) (subst (PartIn (c .before .before .before .before .before .before .args .p .now)) (c .before .before .before .part2 .given .1) (c .before .before .before .before .before .before .pre))
 
 returns : tie.Need-returns
 returns c = subst (λ (q : Part). RecordIn (c .before .before .before .before .args .p .now) q (RecordAnswer.Refused (c .before .part .given .0 .0))) (sym (c .before .part .given .1)) refl

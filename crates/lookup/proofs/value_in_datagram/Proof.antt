@@ -1,12 +1,10 @@
 use Rattle.wire.specs.Answers.{onAccepted}
 use Rattle.wire.proofs.Widths.{getD-bytes}
-use Rattle.element.proofs.SearchLaws.{pick-number}
-use Rattle.element.specs.declared.Wanted.{Wanted}
 use Rattle.element.specs.Elements.{nth}
 use Rattle.lookup.specs.Lookups.{valueByNumber}
 use Rattle.lookup.specs.Answers.{partOf}
 use Rattle.lookup.proofs.PlaceLaws.{udp-stored}
-use Rattle.lookup.proofs.PartLaws.{part-in, value-answer}
+use Rattle.lookup.proofs.PartLaws.{part-in, nth-sixteen, value-answer}
 use borrow.Author.Needs.{needs}
 use Rattle.lookup.proofs.value_in_datagram.Statement.{statement}
 use Rattle.lookup.proofs.value_in_datagram.Tie as tie
@@ -14,13 +12,13 @@ use Rattle.lookup.proofs.value_in_datagram.Tie as tie
 datagram-part-requires : tie.Need-datagram-part-requires
 datagram-part-requires c κs = search needs
 
-value-in-requires : tie.Need-value-in-requires
+number-in-requires : tie.Need-number-in-requires
 unfolding partOf onAccepted
-value-in-requires c κs = part-in (λ x. udp-stored 1280 255 (c .before .before .args .p .now) x (getD-bytes (c .before .before .args .p .now) (λ k. c .before .shared-slice-known .given k .fits))) _ _ (c .datagram-part .ensures)
+number-in-requires c κs = part-in (λ x. udp-stored 1280 255 (c .before .before .args .p .now) x (getD-bytes (c .before .before .args .p .now) (λ k. c .before .shared-slice-known .given k .fits))) _ _ (c .datagram-part .ensures)
 
 returns : tie.Need-returns
 unfolding partOf valueByNumber onAccepted
-returns c = value-answer (λ x. udp-stored 1280 255 (c .before .before .before .args .p .now) x (getD-bytes (c .before .before .before .args .p .now) (λ k. c .before .before .shared-slice-known .given k .fits))) (λ x. c .before .before .before .args .n) (nth (c .before .before .before .args .k)) (Wanted.Number (c .before .before .before .args .k)) _ _ (pick-number (c .before .before .before .args .k)) (c .before .datagram-part .ensures) (c .value-in .ensures)
+returns c = value-answer (λ x. udp-stored 1280 255 (c .before .before .before .args .p .now) x (getD-bytes (c .before .before .before .args .p .now) (λ k. c .before .before .shared-slice-known .given k .fits))) (λ x. c .before .before .before .args .n) (nth (c .before .before .before .args .k)) (nth-sixteen (c .before .before .before .args .k)) _ _ (c .before .datagram-part .ensures) (c .number-in .ensures)
 
 pub value-in-datagram-spec : {M : Type 1} → statement M
-value-in-datagram-spec = tie.close (tie.spec datagram-part-requires value-in-requires returns)
+value-in-datagram-spec = tie.close (tie.spec datagram-part-requires number-in-requires returns)

@@ -1,7 +1,9 @@
-use Rattle.packet.proofs.WalkLaws.{answer-taken, answer-refused}
+use Rattle.packet.proofs.WalkLaws.{packet-fits, answer-taken, answer-refused}
 use Rattle.packet.specs.DataPackets.{readPacket, packetAs}
 use Rattle.walk.proofs.TakenLaws.{taken, not-taken}
+use Rattle.wire.proofs.Widths.{getD-bytes}
 use mathlib.Core.Path.{sym, _∙_}
+use native.Mathlib.Omega.{arith}
 use borrow.Author.Needs.{needs}
 use Rattle.packet.proofs.read_packet.Statement.{statement}
 use Rattle.packet.proofs.read_packet.Tie as tie
@@ -11,6 +13,12 @@ judge-packet-requires c κs = search needs
 
 enum-known-codec : tie.Need-enum-known-codec
 enum-known-codec c = search needs
+
+cast-t7 : tie.Need-cast-t7
+cast-t7 c = omega (arith, packet-fits 1280 255 (c .before .before .before .before .before .args .p .now) (getD-bytes (c .before .before .before .before .before .args .p .now) (λ k. c .before .before .before .before .shared-slice-known .given k .fits)) (taken 0 (readPacket 1280 255 (c .before .before .before .before .before .args .p .now)) (sym (c .before .before .before .judge-packet .ensures) ∙ c .before .codec .given .1)))
+
+cast-t8 : tie.Need-cast-t8
+cast-t8 c = omega (arith, packet-fits 1280 255 (c .before .before .before .before .before .args .p .now) (getD-bytes (c .before .before .before .before .before .args .p .now) (λ k. c .before .before .before .before .shared-slice-known .given k .fits)) (taken 0 (readPacket 1280 255 (c .before .before .before .before .before .args .p .now)) (sym (c .before .before .before .judge-packet .ensures) ∙ c .before .codec .given .1)))
 
 enum-known-r : tie.Need-enum-known-r
 enum-known-r c = search needs
@@ -25,4 +33,12 @@ returns-2 c = sym (answer-refused 1280 255 (c .before .before .before .before .b
 
 pub read-packet-spec : {M : Type 1} → statement M
 read-packet-spec =
-    tie.close (tie.spec judge-packet-requires enum-known-codec enum-known-r returns returns-2)
+    tie.close
+    (tie.spec
+    judge-packet-requires
+    enum-known-codec
+    cast-t7
+    cast-t8
+    enum-known-r
+    returns
+    returns-2)

@@ -1,7 +1,9 @@
-use Rattle.packet.proofs.WalkLaws.{count-taken, count-refused}
+use Rattle.packet.proofs.WalkLaws.{packet-fits, count-taken, count-refused}
 use Rattle.packet.specs.DataPackets.{readPacket}
 use Rattle.walk.proofs.TakenLaws.{taken, not-taken}
+use Rattle.wire.proofs.Widths.{getD-bytes}
 use mathlib.Core.Path.{sym, _∙_}
+use native.Mathlib.Omega.{arith}
 use borrow.Author.Needs.{needs}
 use Rattle.packet.proofs.record_count.Statement.{statement}
 use Rattle.packet.proofs.record_count.Tie as tie
@@ -11,6 +13,9 @@ judge-packet-requires c κs = search needs
 
 enum-known-count : tie.Need-enum-known-count
 enum-known-count c = search needs
+
+cast-result : tie.Need-cast-result
+cast-result c = omega (arith, packet-fits 1280 255 (c .before .before .before .before .before .args .p .now) (getD-bytes (c .before .before .before .before .before .args .p .now) (λ k. c .before .before .before .before .shared-slice-known .given k .fits)) (taken 0 (readPacket 1280 255 (c .before .before .before .before .before .args .p .now)) (sym (c .before .before .before .judge-packet .ensures) ∙ c .before .count .given .1)))
 
 enum-told : tie.Need-enum-told
 enum-told c = search needs
@@ -23,4 +28,5 @@ returns-2 c = sym (count-refused 1280 255 (c .before .before .before .before .ar
 
 pub record-count-spec : {M : Type 1} → statement M
 record-count-spec =
-    tie.close (tie.spec judge-packet-requires enum-known-count enum-told returns returns-2)
+    tie.close
+    (tie.spec judge-packet-requires enum-known-count cast-result enum-told returns returns-2)

@@ -5,9 +5,9 @@ use Rattle.rebuild.proofs.OffsetLaws.{body-part}
 use Rattle.rebuild.proofs.Bounds.{records-room}
 use Rattle.walk.proofs.WalkLaws.{narrow}
 use Rattle.walk.specs.Walks.{Narrow}
-use lib.ListN.{length, take, drop, getD}
+use lib.ListN.{length, getD}
 use mathlib.Core.List.{List}
-use mathlib.Core.Path.{_≡_, sym, ap, _∙_}
+use mathlib.Core.Path.{ap, _∙_}
 use native.Mathlib.Omega.{arith}
 use Prim.Native.Nat.{ℕ, _-_, min}
 use borrow.Author.Needs.{needs}

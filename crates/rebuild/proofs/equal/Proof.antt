@@ -2,12 +2,12 @@ use borrow.Author.Needs.{needs}
 use mathlib.Core.Logic.{⊎-elim}
 use mathlib.Core.Path.{_≡_, refl, sym, ap, _∙_}
 use mathlib.Core.Bool.{Bool, false}
-use Prim.Native.Nat.{ℕ, _+_, _-_, _≤_}
+use Prim.Native.Nat.{_+_, _-_, _≤_}
 use native.Mathlib.Omega.{arith}
 use lib.ListN.{length, drop}
 use Rattle.wire.specs.Numbers.{pick}
 use Rattle.tlv.specs.PacketOf.{same}
-use Rattle.rebuild.proofs.CandidateLaws.{Compared, same-length, same-on, same-off, same-done}
+use Rattle.rebuild.proofs.CandidateLaws.{same-length, same-on, same-off, same-done}
 use Rattle.rebuild.proofs.equal.Statement.{statement}
 use Rattle.rebuild.proofs.equal.Tie as tie
 

@@ -4,9 +4,9 @@ use Rattle.rebuild.proofs.Bounds.{few}
 use Rattle.walk.proofs.KindLaws.{kinds-few, kind-known}
 use Rattle.avl.specs.Codecs.{kinds}
 use lib.ListN.{length}
-use mathlib.Core.Path.{_≡_, _∙_}
+use mathlib.Core.Path.{_∙_}
 use native.Mathlib.Omega.{arith}
-use Prim.Native.Nat.{_^_, _-_, _≤_, _<_}
+use Prim.Native.Nat.{_^_, _-_, _<_}
 use borrow.Author.Needs.{needs}
 use Rattle.rebuild.proofs.put_groups.Statement.{statement}
 use Rattle.rebuild.proofs.put_groups.Tie as tie

@@ -3,7 +3,6 @@ use Rattle.rebuild.proofs.StoredLaws.{left-length}
 use lib.ListN.{length}
 use native.Mathlib.Omega.{arith}
 use Prim.Native.Nat.{_^_, _-_}
-use borrow.Author.Needs.{needs}
 use Rattle.rebuild.proofs.put_records.Statement.{statement}
 use Rattle.rebuild.proofs.put_records.Tie as tie
 

@@ -18,10 +18,10 @@ use Rattle.walk.proofs.kind_count.Reads as kind-count-reads
 use Rattle.walk.proofs.share.Reads as share-reads
 
 abbrev Inv-loop : tie.InvT-loop
-Inv-loop w s at n total₀ next₀ k₀ total next k = Tallying w s at total next k
+Inv-loop w s at n total₀ elements₀ next₀ k₀ total elements next k = Tallying w s at total elements next k
 
 abbrev μ-loop : tie.MeasureT-loop
-μ-loop w s at n total₀ next₀ k₀ total next k = n - k
+μ-loop w s at n total₀ elements₀ next₀ k₀ total elements next k = n - k
 
 kind-count-requires : tie.Need-kind-count-requires Inv-loop μ-loop
 kind-count-requires c κs = tt
@@ -48,8 +48,9 @@ share-requires c κs = tt
 -- the group as it was read, and what is left behind it
 behind : (c : lts.After-share (kind-count-reads.Asked, kind-count-reads.Learnt, kind-at-reads.Asked, kind-at-reads.Learnt, group-at-reads.Asked, group-at-reads.Learnt, share-reads.Asked, share-reads.Learnt) reads.Pre reads.Post Inv-loop μ-loop)
     → let total = c .before .before .before .before .before .before .before .loop .total + c .share .result in
+    let elements = c .before .before .before .before .before .before .before .loop .elements + c .before .before .count .given .0 .0 in
     let k = c .before .before .before .before .before .before .before .loop .k in
-    (total ≤ (k + 1) * 65535) × Tallying (c .before .before .before .before .before .before .before .before .before .before .args .w) (c .before .before .before .before .before .before .before .before .before .before .args .s .now) (c .before .before .before .before .before .before .before .before .before .before .args .at) total (c .before .before .count .given .0 .1 .0) (k + 1)
+    (total ≤ (k + 1) * 65535) × (elements ≤ (k + 1) * 65535) × Tallying (c .before .before .before .before .before .before .before .before .before .before .args .w) (c .before .before .before .before .before .before .before .before .before .before .args .s .now) (c .before .before .before .before .before .before .before .before .before .before .args .at) total elements (c .before .before .count .given .0 .1 .0) (k + 1)
 behind c =
     let start = c .before .before .before .before .before .before .before .before .before .before in
     let s = start .args .s .now in
@@ -61,6 +62,9 @@ behind c =
 
 add-total : tie.Need-add-total Inv-loop μ-loop
 add-total c = omega (arith, behind c .0, kinds-few (c .before .before .before .before .before .before .before .before .before .before .args .w), c .before .before .before .before .before .before .before .before .kind-count .ensures, c .before .before .before .before .before .before .loop-test .taken)
+
+add-elements : tie.Need-add-elements Inv-loop μ-loop
+add-elements c = omega (arith, behind c .1, kinds-few (c .before .before .before .before .before .before .before .before .before .before .args .w), c .before .before .before .before .before .before .before .before .kind-count .ensures, c .before .before .before .before .before .before .loop-test .taken)
 
 enum-known-x : tie.Need-enum-known-x Inv-loop μ-loop
 enum-known-x c = search needs
@@ -79,12 +83,12 @@ loop-less : tie.Need-loop-less Inv-loop μ-loop
 loop-less c = search needs
 
 loop-again : tie.Need-loop-again Inv-loop μ-loop
-loop-again c = behind c .1
+loop-again c = behind c .2
 
 returns-2 : tie.Need-returns-2 Inv-loop μ-loop
 returns-2 c =
     let args = c .before .before .before .before .args in
-    sym (tally-done (args .w) (args .s .now) (c .before .loop .k) (c .before .loop .total) (c .before .loop .next) (omega (arith, c .loop-test .left, c .before .before .kind-count .ensures))) ∙ c .before .loop .inv .rest
+    sym (tally-done (args .w) (args .s .now) (c .before .loop .k) (c .before .loop .total) (c .before .loop .elements) (c .before .loop .next) (omega (arith, c .loop-test .left, c .before .before .kind-count .ensures))) ∙ c .before .loop .inv .rest
 
 pub groups-at-spec : {M : Type 1} → statement M
 groups-at-spec =
@@ -99,6 +103,7 @@ groups-at-spec =
     enum-known-count
     share-requires
     add-total
+    add-elements
     enum-known-x
     returns
     add-k

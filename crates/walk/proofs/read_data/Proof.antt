@@ -88,6 +88,12 @@ all-records-requires c κs = (subst Narrow (sym (c .before .widths-of .ensures))
 enum-known-span : tie.Need-enum-known-span
 enum-known-span c = search needs
 
+cast-t26 : tie.Need-cast-t26
+cast-t26 c = omega (arith, c .before .before .before .before .before .before .before .before .before .before .before .before .before .shared-slice-known .given 0 .fits)
+
+cast-t27 : tie.Need-cast-t27
+cast-t27 c = omega (arith, c .before .before .before .before .before .before .before .before .before .before .before .before .before .shared-slice-known .given 1 .fits)
+
 enum-known-x : tie.Need-enum-known-x
 enum-known-x c = search needs
 
@@ -125,6 +131,8 @@ read-data-spec =
     cast-all-records
     all-records-requires
     enum-known-span
+    cast-t26
+    cast-t27
     enum-known-x
     returns-4
     returns-5)
