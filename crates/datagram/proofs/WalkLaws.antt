@@ -21,12 +21,8 @@ use Rattle.walk.specs.declared.DataWalk.{DataWalk}
 use Rattle.walk.specs.Walks.{dataWalk}
 use Rattle.walk.proofs.TakenLaws.{taken, taken-fits, not-taken}
 use Rattle.datagram.specs.declared.Header.{Header}
-use Rattle.datagram.specs.Datagrams.{Datagram, headerBytes, contentBytes, datagramBytes, readHeader, judgeHeader, acknowledgementBytes, answerBytes, udpAcknowledgement, readDatagram, payloadOf, answerDatagram}
+use Rattle.datagram.specs.Datagrams.{Datagram, headerBytes, contentBytes, datagramBytes, readHeader, judgeHeader, acknowledgementBytes, answerBytes, udpAcknowledgement, readDatagram, payloadOf, answerDatagram, headerAt}
 use Rattle.datagram.proofs.DatagramLaws.{datagram-exact}
-
--- the header that stands at 2, with this IMEI
-abbrev pub headerAt : List ℕ → ℕ → Header
-headerAt p imei = record { packet = numberAt p 2 2; unused = numberAt p 4 1; avl = numberAt p 5 1; imei = imei }
 
 module _ (largest : ℕ) (p : List ℕ) where
   pub header-short : length p < 26 → judgeHeader largest p ≡ refused 1 0
@@ -143,6 +139,10 @@ carried-fits largest longest want p b walk =
     let t = taken want (accepted (c .0 .payload)) (sym (ap (λ r. dataWalk want (payloadOf r)) (c .1)) ∙ walk) in
     let same : _≡_ {A = AvlData} (c .0 .payload) (t .content) = cc (t .accepts) in
     taken-fits t (subst (DataRules longest) same (datagram-exact largest longest p (c .0) b .0 (c .1) .payload))
+
+pub payload-fits : (largest longest : ℕ) (p : List ℕ) {h : Header} {codec count : ℕ} {span : Span} → Bytes p → judgeHeader largest p ≡ accepted h
+    → dataWalk 0 (readData longest (drop 23 p)) ≡ DataWalk.Taken codec count span → (codec < 256) × (count < 256)
+payload-fits largest longest p b e walk = carried-fits largest longest 0 p b (sym (walk-on largest longest p e 0) ∙ walk)
 
 -- ---- the acknowledgement
 

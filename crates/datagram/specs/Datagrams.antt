@@ -94,9 +94,13 @@ unfoldable pub datagramAs : DatagramAnswer → Answer DatagramResult
 datagramAs (Accepted codec count header) = accepted (record { payload = record { codec = codec; count = count }; header = header })
 datagramAs (Refused r) = refused (r .number) (r .index)
 
-unfoldable pub headerAs : HeaderAnswer → Answer Header
-headerAs (HeaderAnswer.Of h) = accepted h
-headerAs (HeaderAnswer.Refused r) = refused (r .number) (r .index)
+-- the header that stands at 2, with this IMEI
+abbrev pub headerAt : List ℕ → ℕ → Header
+headerAt p imei = record { packet = numberAt p 2 2; unused = numberAt p 4 1; avl = numberAt p 5 1; imei = imei }
+
+unfoldable pub headerAs : List ℕ → HeaderAnswer → Answer Header
+headerAs p (HeaderAnswer.Of imei) = accepted (headerAt p imei)
+headerAs p (HeaderAnswer.Refused r) = refused (r .number) (r .index)
 
 -- the same bytes as they stand in the datagram
 abbrev pub answerBytes : List ℕ → ℕ → List ℕ

@@ -33,9 +33,9 @@ pub enum DatagramAnswer {
     Refused(Refusal),
 }
 
-// The header of a datagram, or the refusal.
+// The IMEI of a header that is well-formed, or the refusal. Its other fields are read once the datagram is accepted.
 enum HeaderAnswer {
-    Of(Header),
+    Of(u64),
     Refused(Refusal),
 }
 
@@ -46,7 +46,7 @@ fn refused(number: usize) -> HeaderAnswer
 }
 
 fn read_header(largest: usize, p: &[u8]) -> HeaderAnswer
-    ensures { λ r. ⌜ headerAs r ≡ judgeHeader largest (now (p .entry)) ⌝ }
+    ensures { λ r. ⌜ headerAs (now (p .entry)) r ≡ judgeHeader largest (now (p .entry)) ⌝ }
 {
     if p.len() < 26 {
         return refused(1);
@@ -60,12 +60,7 @@ fn read_header(largest: usize, p: &[u8]) -> HeaderAnswer
     }
     let imei = wire::read_imei(p, 6);
     if imei < wire::NO_IMEI {
-        return HeaderAnswer::Of(Header {
-            packet: wire::be16(p, 2),
-            unused: p[4],
-            avl: p[5],
-            imei,
-        });
+        return HeaderAnswer::Of(imei);
     }
     refused(15)
 }
@@ -84,8 +79,8 @@ pub fn judge_datagram(largest: usize, longest: usize, p: &[u8], want: usize) -> 
 pub fn read_datagram(p: &[u8]) -> DatagramAnswer
     ensures { λ r. ⌜ datagramAs r ≡ answerDatagram 1280 255 (now (p .entry)) ⌝ }
 {
-    let header = match read_header(LARGEST, p) {
-        HeaderAnswer::Of(h) => h,
+    let imei = match read_header(LARGEST, p) {
+        HeaderAnswer::Of(imei) => imei,
         HeaderAnswer::Refused(r) => return DatagramAnswer::Refused(r),
     };
     match walk::read_data(LONGEST, &p[23..], 0) {
@@ -96,7 +91,12 @@ pub fn read_datagram(p: &[u8]) -> DatagramAnswer
         } => DatagramAnswer::Accepted {
             codec: codec as u8,
             count: count as u8,
-            header,
+            header: Header {
+                packet: wire::be16(p, 2),
+                unused: p[4],
+                avl: p[5],
+                imei,
+            },
         },
         DataWalk::Refused(r) => DatagramAnswer::Refused(r),
     }

@@ -1,8 +1,6 @@
 use Rattle.datagram.proofs.WalkLaws.{header-short, header-large, header-length, header-imei, header-is}
 use Rattle.datagram.specs.Datagrams.{headerAs}
 use Rattle.wire.proofs.ImeiWord.{word-imei, word-none}
-use Rattle.wire.proofs.Shifts.{number-one}
-use Rattle.wire.specs.Answers.{accepted}
 use mathlib.Core.Path.{sym, ap, _∙_}
 use Prim.Native.Nat.{ℕ, _+_}
 use borrow.Author.Needs.{needs}
@@ -14,14 +12,14 @@ refused-requires c κs = search needs
 
 returns : tie.Need-returns
 unfolding headerAs
-returns c = ap headerAs (c .refused .ensures) ∙ sym (header-short (c .before .before .before .args .largest) (c .before .before .before .args .p .now) (c .before .if1 .taken))
+returns c = ap (headerAs (c .before .before .before .args .p .now)) (c .refused .ensures) ∙ sym (header-short (c .before .before .before .args .largest) (c .before .before .before .args .p .now) (c .before .if1 .taken))
 
 refused-requires-2 : tie.Need-refused-requires-2
 refused-requires-2 c κs = search needs
 
 returns-2 : tie.Need-returns-2
 unfolding headerAs
-returns-2 c = ap headerAs (c .refused2 .ensures) ∙ sym (header-large (c .before .before .before .before .args .largest) (c .before .before .before .before .args .p .now) (c .before .before .if1 .left) (c .before .if2 .taken))
+returns-2 c = ap (headerAs (c .before .before .before .before .args .p .now)) (c .refused2 .ensures) ∙ sym (header-large (c .before .before .before .before .args .largest) (c .before .before .before .before .args .p .now) (c .before .before .if1 .left) (c .before .if2 .taken))
 
 be16-requires : tie.Need-be16-requires
 be16-requires c κs = search needs
@@ -37,32 +35,21 @@ refused-requires-3 c κs = search needs
 
 returns-3 : tie.Need-returns-3
 unfolding headerAs
-returns-3 c = ap headerAs (c .refused3 .ensures) ∙ sym (header-length (c .before .before .before .before .before .before .args .largest) (c .before .before .before .before .before .before .args .p .now) (c .before .before .before .before .if1 .left) (c .before .before .before .if2 .left) (λ e. c .before .if3 .taken (e ∙ ap (λ (n : ℕ). n + 2) (sym (c .before .before .be16 .ensures)))))
+returns-3 c = ap (headerAs (c .before .before .before .before .before .before .args .p .now)) (c .refused3 .ensures) ∙ sym (header-length (c .before .before .before .before .before .before .args .largest) (c .before .before .before .before .before .before .args .p .now) (c .before .before .before .before .if1 .left) (c .before .before .before .if2 .left) (λ e. c .before .if3 .taken (e ∙ ap (λ (n : ℕ). n + 2) (sym (c .before .before .be16 .ensures)))))
 
 read-imei-requires : tie.Need-read-imei-requires
 read-imei-requires c κs = search needs
 
-be16-requires-2 : tie.Need-be16-requires-2
-be16-requires-2 c κs = search needs
-
-shared-slice-read-t11 : tie.Need-shared-slice-read-t11
-shared-slice-read-t11 c = search needs
-
-shared-slice-read-t13 : tie.Need-shared-slice-read-t13
-shared-slice-read-t13 c = search needs
-
 returns-4 : tie.Need-returns-4
 unfolding headerAs
-returns-4 c = let s = c .before .before .before .before .before .before .before .before .before .before .args .p .now in
-    (λ i. accepted (record { packet = c .before .before .be162 .ensures i; unused = sym (number-one s 4) i; avl = sym (number-one s 5) i; imei = c .before .before .before .before .read-imei .result }))
-    ∙ sym (header-is (c .before .before .before .before .before .before .before .before .before .before .args .largest) s (c .before .before .before .before .before .before .before .before .if1 .left) (c .before .before .before .before .before .before .before .if2 .left) (c .before .before .before .before .before .if3 .left ∙ ap (λ (n : ℕ). n + 2) (c .before .before .before .before .before .before .be16 .ensures)) (sym (c .before .before .before .before .read-imei .ensures) ∙ word-imei _ (c .before .before .before .if4 .taken)))
+returns-4 c = sym (header-is (c .before .before .before .before .before .before .before .args .largest) (c .before .before .before .before .before .before .before .args .p .now) (c .before .before .before .before .before .if1 .left) (c .before .before .before .before .if2 .left) (c .before .before .if3 .left ∙ ap (λ (n : ℕ). n + 2) (c .before .before .before .be16 .ensures)) (sym (c .before .read-imei .ensures) ∙ word-imei _ (c .if4 .taken)))
 
 refused-requires-4 : tie.Need-refused-requires-4
 refused-requires-4 c κs = search needs
 
 returns-5 : tie.Need-returns-5
 unfolding headerAs
-returns-5 c = ap headerAs (c .refused4 .ensures) ∙ sym (header-imei (c .before .before .before .before .before .before .before .before .args .largest) (c .before .before .before .before .before .before .before .before .args .p .now) (c .before .before .before .before .before .before .if1 .left) (c .before .before .before .before .before .if2 .left) (c .before .before .before .if3 .left ∙ ap (λ (n : ℕ). n + 2) (c .before .before .before .before .be16 .ensures)) (sym (c .before .before .read-imei .ensures) ∙ word-none _ (c .before .if4 .left)))
+returns-5 c = ap (headerAs (c .before .before .before .before .before .before .before .before .args .p .now)) (c .refused4 .ensures) ∙ sym (header-imei (c .before .before .before .before .before .before .before .before .args .largest) (c .before .before .before .before .before .before .before .before .args .p .now) (c .before .before .before .before .before .before .if1 .left) (c .before .before .before .before .before .if2 .left) (c .before .before .before .if3 .left ∙ ap (λ (n : ℕ). n + 2) (c .before .before .before .before .be16 .ensures)) (sym (c .before .before .read-imei .ensures) ∙ word-none _ (c .before .if4 .left)))
 
 pub read-header-spec : {M : Type 1} → statement M
 read-header-spec =
@@ -78,9 +65,6 @@ read-header-spec =
     refused-requires-3
     returns-3
     read-imei-requires
-    be16-requires-2
-    shared-slice-read-t11
-    shared-slice-read-t13
     returns-4
     refused-requires-4
     returns-5)
