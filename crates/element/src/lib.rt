@@ -11,9 +11,10 @@ ghost use Rattle.element.specs.Elements.{fixedSize, locateGroup, nth, fi
 ghost use Rattle.element.specs.Results.{recordResult};
 ghost use Rattle.element.specs.Search.{Readable, HasElements, ReadableElement, ReadableGroup, Finds, valueAt, searched, elementAs};
 
-// A record's fixed fields, and the number of its elements.
+// A record's fixed fields, and the number of its elements. Whole words first: a refusal stands in their place, and they are copied as words.
 pub struct RecordFields {
     pub timestamp: u64,
+    pub elements: usize,
     pub priority: u8,
     pub longitude: i32,
     pub latitude: i32,
@@ -23,7 +24,6 @@ pub struct RecordFields {
     pub speed: u16,
     pub event: u16,
     pub generation: u8,
-    pub elements: usize,
 }
 
 // A value: its ID, kind, offset from the input's start, and length.
