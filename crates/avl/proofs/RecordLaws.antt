@@ -10,7 +10,7 @@ use lib.Dec.{eqb, leb}
 use borrow.Author.Tests.{le-leb, leb-true, eq-eqb, eqb-true}
 use Rattle.wire.specs.Numbers.{Bytes, be, pick}
 use Rattle.wire.specs.Sequences.{joined, All}
-use Rattle.wire.specs.Reading.{Read, got, bad, Reader, _>>=_, _>>_, pure, here, require, number, bytes, upTo}
+use Rattle.wire.specs.Reading.{Read, got, bad, Reader, pure, here, require, number, bytes, upTo}
 use Rattle.wire.proofs.Placed.{Between, between-nil, between-join, between-split, between-moved, between-bytes, between-whole, whole-between}
 use Rattle.wire.proofs.Exactness.{Meets, meets-then, meets-next, meets-pure, meets-weaken, meets-got, meets-pick, meets-here, meets-require, then-got, next-got, here-got, require-got, Exact, number-exact, bytes-exact, upTo-exact, repeat-sound, repeat-complete}
 use Rattle.avl.specs.declared.Widths.{Widths}

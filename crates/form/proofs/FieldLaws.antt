@@ -1,14 +1,14 @@
 -- The form of a data field.
 use Prim.Native.Nat.{ℕ, _+_, _-_, _*_, _≤_, _<_}
 use native.Mathlib.Omega.{arith}
-use mathlib.Core.Path.{_≡_, refl, sym, ap, ap₂, _∙_, subst}
+use mathlib.Core.Path.{_≡_, refl, sym, ap, _∙_, subst}
 use mathlib.Core.List.{List, [], _∷_, _++_}
 use lib.ListN.{length, take, drop, getD, length-drop}
 use lib.Seq.{sets, length-take-le}
 use Rattle.wire.specs.Numbers.{Bytes, le}
-use Rattle.wire.specs.Envelope.{codecOf, firstCount, lastCount, inner}
-use Rattle.wire.specs.Reading.{got, Reader, _>>=_, _>>_, pure}
-use Rattle.wire.specs.Answers.{Answer, accepted, refused, check, told, onAccepted}
+use Rattle.wire.specs.Envelope.{codecOf, firstCount, inner}
+use Rattle.wire.specs.Reading.{got}
+use Rattle.wire.specs.Answers.{accepted}
 use Rattle.wire.proofs.Widths.{bytes-take, bytes-drop}
 use Rattle.wire.proofs.Storing.{sets-append}
 use Rattle.wire.proofs.Exactness.{Meets, meets-then, meets-next, meets-pure}
@@ -21,7 +21,7 @@ use Rattle.avl.specs.DataField.{AvlData, readData}
 use Rattle.tlv.specs.Entries.{entryBytes}
 use Rattle.tlv.specs.Form.{recordsEntries, formEntries, form}
 use Rattle.wire.specs.declared.Written.{Written}
-use Rattle.wire.specs.Buffers.{writing, leaving, writtenAs}
+use Rattle.wire.specs.Buffers.{writtenAs}
 use Rattle.wire.proofs.BufferLaws.{writing-done, writing-short, leaving-done, leaving-short, sets-front}
 use Rattle.form.specs.declared.Moved.{Moved}
 use Rattle.form.specs.Moves.{Ready, Copies, dataEntries, Field, Writes}

@@ -6,7 +6,7 @@ use mathlib.Core.Bool.{Bool, true, false}
 use mathlib.Core.List.{List, [], _∷_}
 use lib.ListN.{length, length-append}
 use lib.Dec.{eqb, lit≤}
-use Rattle.wire.specs.Numbers.{Bytes, digits, be, le, pick}
+use Rattle.wire.specs.Numbers.{Bytes, be, le, pick}
 use Rattle.wire.specs.Sequences.{joined, All}
 use Rattle.wire.specs.Answers.{accepted}
 use Rattle.wire.proofs.Widths.{length-digits}
@@ -15,7 +15,7 @@ use Rattle.wire.proofs.Enclosed.{length-enclosed}
 use Rattle.avl.specs.declared.Widths.{Widths}
 use Rattle.avl.specs.Codecs.{widthsOf, kinds, codec8, codec8E, codec16}
 use Rattle.avl.specs.Records.{Element, Fixed, AvlRecord, ElementRules, GroupsRules, RecordRules, lengthBytes, elementBytes, groupBytes, groupsBytes, fixedBytes, recordBytes}
-use Rattle.avl.specs.DataField.{AvlData, DataRules, dataBytes, readData}
+use Rattle.avl.specs.DataField.{AvlData, dataBytes, readData}
 use Rattle.avl.proofs.DataLaws.{data-exact}
 use Rattle.walk.proofs.KindLaws.{KindRange, kinds-range}
 use Rattle.tlv.specs.Entries.{entryBytes}

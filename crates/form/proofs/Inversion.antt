@@ -1,21 +1,21 @@
 -- What is known of the bytes where a reader has read something.
-use Prim.Native.Nat.{ℕ, suc, _+_, _*_, _≤_, _<_}
+use Prim.Native.Nat.{ℕ, _+_, _*_, _≤_, _<_}
 use native.Mathlib.Omega.{arith}
 use mathlib.Core.Path.{_≡_, refl, sym, ap, _∙_}
 use mathlib.Core.Bool.{Bool, true, false}
-use mathlib.Core.List.{List, [], _∷_}
+use mathlib.Core.List.{List, _∷_}
 use lib.ListN.{length, take, drop}
 use lib.Dec.{eqb, leb}
 use borrow.Author.Tests.{leb-true, leb-false, eqb-false}
 use Rattle.wire.specs.declared.Fault.{Fault}
 use Rattle.wire.specs.Numbers.{numberAt, pick}
 use Rattle.wire.specs.Reading.{Read, got, bad, Reader, _>>=_, _>>_, pure, here, require, number, bytes, upTo, repeat}
-use Rattle.wire.proofs.Exactness.{Meets, meets-then, meets-next, meets-got, meets-pure, meets-here, meets-require, then-got}
+use Rattle.wire.proofs.Exactness.{Meets, meets-then, meets-next, meets-got, meets-pure, meets-require, then-got}
 use Rattle.wire.proofs.Walking.{then-bad, number-got, number-bad, bytes-got, bytes-bad, number-there, number-missing, upTo-there, upTo-missing, upTo-over}
 use Rattle.avl.specs.declared.Widths.{Widths}
 use Rattle.avl.specs.Codecs.{kinds}
 use Rattle.avl.specs.Records.{Element, Fixed, AvlRecord, total}
-use Rattle.avl.specs.RecordReader.{valueSize, element, group, groups, fixedFields, avlRecord, tagged, inRecord, avlRecords, atEnd, allRecords}
+use Rattle.avl.specs.RecordReader.{valueSize, element, group, groups, fixedFields, avlRecord}
 
 module _ {A : Type 0} {Q : A → ℕ → Type 0} {r : Read A} where
   pub meets-is : {q : Read A} → r ≡ q → Meets q Q → Meets r Q

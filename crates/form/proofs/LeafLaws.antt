@@ -1,8 +1,8 @@
 -- The entries that are stored at once: that of the fixed fields, and that of an element.
 use Prim.Native.Nat.{ℕ, _+_, _-_, _≤_}
 use native.Mathlib.Omega.{arith}
-use mathlib.Core.Path.{_≡_, refl, sym, ap, ap₂, _∙_}
-use mathlib.Core.List.{List, [], _∷_, _++_, append-nil}
+use mathlib.Core.Path.{_≡_, sym, ap, ap₂, _∙_}
+use mathlib.Core.List.{List, [], _++_, append-nil}
 use lib.ListN.{length, take, drop, length-append, length-drop}
 use lib.Seq.{sets, length-sets, length-take-le}
 use mir.Val.{Fits}
@@ -16,7 +16,7 @@ use Rattle.avl.specs.RecordReader.{valueSize, element, fixedFields}
 use Rattle.tlv.specs.Entries.{entryBytes}
 use Rattle.tlv.specs.Form.{fixedEntry, elementEntry}
 use Rattle.form.specs.Moves.{Ready, Copies, elementEntries, fixedEntries}
-use Rattle.form.proofs.Inversion.{fixedAt, fixed-read, ElementRead, element-read, SizeRead, size-read}
+use Rattle.form.proofs.Inversion.{fixedAt, fixed-read, ElementRead, element-read, size-read}
 use Rattle.form.proofs.MoveLaws.{moved, laid, copies-of}
 
 -- a place to store at is a small number, and so is one a little further on

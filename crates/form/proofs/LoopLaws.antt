@@ -1,20 +1,16 @@
 -- Loops over content: what is left, read and stored from here on, gives what the whole gives.
-use Prim.Native.Nat.{ℕ, zero, suc, _+_, _-_, _*_, _≤_, _<_}
+use Prim.Native.Nat.{ℕ, zero, suc, _+_, _-_, _≤_, _<_}
 use native.Mathlib.Numerals.{add-one}
 use native.Mathlib.Omega.{arith}
 use mathlib.Core.Path.{_≡_, refl, sym, ap, ap₂, _∙_, subst}
-use mathlib.Core.Bool.{Bool, true, false}
 use mathlib.Core.List.{List, [], _∷_, _++_}
 use lib.ListN.{length, drop, getD, drop-of-length-le}
-use lib.Seq.{sets, drop-cons, getD-take}
-use Rattle.wire.specs.Numbers.{numberAt, pick}
-use Rattle.wire.specs.Sequences.{All}
-use Rattle.wire.proofs.Accepting.{pick-either}
-use Rattle.wire.specs.Reading.{Read, got, bad, Reader, _>>=_, pure, number, repeat}
+use lib.Seq.{sets}
+use Rattle.wire.specs.Numbers.{numberAt}
+use Rattle.wire.specs.Reading.{Read, got, bad, Reader, pure, repeat}
 use Rattle.wire.proofs.Walking.{number-there}
 use Rattle.avl.specs.declared.Widths.{Widths}
 use Rattle.avl.specs.Codecs.{kinds}
-use Rattle.avl.specs.Records.{Element, AvlRecord}
 use Rattle.avl.specs.RecordReader.{element, group, groups, fixedFields, avlRecord, tagged, inRecord, avlRecords}
 use Rattle.walk.proofs.KindLaws.{next-kind}
 use Rattle.tlv.specs.Entries.{Entry}

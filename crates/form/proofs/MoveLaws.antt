@@ -1,29 +1,26 @@
 -- Content that is read part by part, and its entries stored part by part, is read and stored as a whole.
-use Prim.Native.Nat.{ℕ, zero, suc, _+_, _-_, _*_, _≤_, _<_}
+use Prim.Native.Nat.{ℕ, zero, suc, _+_, _-_, _*_, _≤_}
 use native.Mathlib.Nat.{add-zero}
-use native.Mathlib.Numerals.{add-one}
 use native.Mathlib.Omega.{arith}
-use mathlib.Core.Path.{_≡_, refl, sym, ap, ap₂, _∙_, subst, subst₂}
+use mathlib.Core.Path.{_≡_, refl, sym, ap, ap₂, _∙_, subst₂}
 use mathlib.Core.List.{List, [], _∷_, _++_, append-assoc}
-use lib.ListN.{length, take, drop, getD, length-append, length-drop}
-use lib.Seq.{sets, length-take-le, drop-cons}
-use Rattle.wire.specs.Numbers.{Bytes, numberAt, le}
+use lib.ListN.{length, drop, length-append, length-drop}
+use lib.Seq.{sets, length-take-le}
+use Rattle.wire.specs.Numbers.{le}
 use Rattle.wire.specs.Sequences.{joined, All}
-use Rattle.wire.specs.Reading.{Read, got, Reader, _>>=_, pure, number, repeat}
-use Rattle.wire.proofs.Exactness.{Meets, meets-weaken, meets-pure, meets-then}
-use Rattle.wire.proofs.Accepting.{pick-either}
+use Rattle.wire.specs.Reading.{got, Reader, repeat}
+use Rattle.wire.proofs.Exactness.{Meets, meets-weaken, meets-pure}
 use Rattle.wire.proofs.Storing.{sets-append}
-use Rattle.wire.proofs.Walking.{number-there}
 use Rattle.avl.specs.declared.Widths.{Widths}
 use Rattle.avl.specs.Codecs.{kinds}
-use Rattle.avl.specs.Records.{Element, Fixed, AvlRecord}
-use Rattle.avl.specs.RecordReader.{element, group, groups, fixedFields, avlRecord, tagged, inRecord, avlRecords, atEnd, allRecords}
+use Rattle.avl.specs.Records.{Element}
+use Rattle.avl.specs.RecordReader.{element, group, groups, fixedFields, avlRecord}
 use Rattle.walk.proofs.KindLaws.{KindRange, kinds-range}
 use Rattle.tlv.specs.Entries.{Entry, entryBytes}
-use Rattle.tlv.specs.Form.{fixedEntry, elementEntry, groupEntries, groupsEntries, recordsEntries}
+use Rattle.tlv.specs.Form.{fixedEntry, elementEntry, groupEntries, groupsEntries}
 use Rattle.form.specs.declared.Moved.{Moved}
 use Rattle.form.specs.Moves.{Ready, Copies, elementEntries, fixedEntries, recordEntries}
-use Rattle.form.proofs.Inversion.{meets-is, meets-self, number-on, size-read, element-read, fixed-read, record-read, listed, list-read}
+use Rattle.form.proofs.Inversion.{number-on, size-read, element-read, fixed-read, record-read, listed, list-read}
 
 abbrev pub moved : ℕ → ℕ → Moved
 moved from to = record { from = from; to = to }

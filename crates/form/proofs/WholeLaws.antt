@@ -1,7 +1,7 @@
 -- The form of a packet and of a datagram is that of its data field.
-use Prim.Native.Nat.{ℕ, _+_, _-_, _≤_}
+use Prim.Native.Nat.{ℕ, _-_, _≤_}
 use native.Mathlib.Omega.{arith}
-use mathlib.Core.Path.{_≡_, refl, sym, ap, _∙_, subst}
+use mathlib.Core.Path.{_≡_, sym, ap, _∙_, subst}
 use mathlib.Core.List.{List}
 use lib.ListN.{length, take, drop, length-drop, length-take}
 use lib.Dec.{leb}
@@ -9,7 +9,7 @@ use borrow.Author.Tests.{leb-true}
 use Rattle.wire.specs.declared.Written.{Written}
 use Rattle.wire.specs.declared.Refusal.{Refusal}
 use Rattle.wire.specs.Numbers.{Bytes}
-use Rattle.wire.specs.Answers.{Answer, accepted, refused, check, onAccepted}
+use Rattle.wire.specs.Answers.{Answer, accepted, refused, onAccepted}
 use Rattle.wire.specs.Buffers.{writing, leaving, writtenAs}
 use Rattle.wire.proofs.Accepting.{check-accepted, onAccepted-accepted, onAccepted-passed, onAccepted-refused}
 use Rattle.frame.specs.Frame.{unframe, framing}

@@ -1,16 +1,14 @@
 -- What is written of a decoded form is bytes.
 use Prim.Native.Nat.{ℕ, zero, suc, _+_}
-use mathlib.Core.Bool.{Bool, true, false}
 use mathlib.Core.List.{List, [], _∷_}
-use lib.ListN.{length, take, drop, getD}
+use lib.ListN.{length, drop, getD}
 use lib.Dec.{eqb}
-use Rattle.wire.specs.Numbers.{Bytes, littleAt, pick}
+use Rattle.wire.specs.Numbers.{Bytes, littleAt}
 use Rattle.wire.specs.Sequences.{All}
 use Rattle.wire.proofs.Widths.{bytes-take, bytes-drop}
 use Rattle.wire.proofs.Accepting.{pick-either}
 use Rattle.avl.specs.Codecs.{widthsOf, kinds}
-use Rattle.avl.specs.Records.{Element, AvlRecord}
-use Rattle.avl.specs.DataField.{AvlData, dataBytes}
+use Rattle.avl.specs.DataField.{dataBytes}
 use Rattle.avl.proofs.ByteLaws.{ByteValues, bytes-data}
 use Rattle.frame.proofs.FrameLaws.{bytes-framed}
 use Rattle.packet.specs.DataPackets.{packetBytes}

@@ -2,13 +2,13 @@
 use Prim.Native.Nat.{ℕ, zero, suc, _+_, _^_, _≤_, _<_}
 use native.Mathlib.Nat.{not-suc-le-zero, le-of-suc-le-suc}
 use native.Mathlib.Omega.{arith}
-use mathlib.Core.Path.{_≡_, refl, sym, ap, ap₂, _∙_, subst}
-use mathlib.Core.List.{List, [], _∷_, _++_, append-assoc}
+use mathlib.Core.Path.{_≡_, refl, sym, ap, _∙_}
+use mathlib.Core.List.{List, [], _∷_, _++_}
 use lib.ListN.{length, take, drop, length-append}
 use lib.Seq.{take-at, drop-at, drop-drop}
 use Rattle.wire.specs.Numbers.{littleAt, le}
 use Rattle.wire.specs.Sequences.{fields, joined, All}
-use Rattle.wire.proofs.Widths.{little-le, length-le}
+use Rattle.wire.proofs.Widths.{little-le}
 use Rattle.tlv.specs.Entries.{Entry, entryBytes, entriesFrom, entriesOf}
 
 -- an entry's kind and length fit their two bytes

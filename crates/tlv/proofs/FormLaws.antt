@@ -1,22 +1,21 @@
 -- A form that was written of data is decoded to that data, so a form stands for one data field at most.
-use Prim.Native.Nat.{ℕ, zero, suc, _+_, _^_, _≤_, _<_}
+use Prim.Native.Nat.{ℕ, _+_, _^_, _≤_, _<_}
 use native.Mathlib.Nat.{lt-of-lt-of-le, pow-le-pow-right}
 use native.Mathlib.Omega.{arith}
-use mathlib.Core.Path.{_≡_, refl, sym, ap, ap₂, _∙_, subst}
-use mathlib.Core.Bool.{Bool, true, false}
+use mathlib.Core.Path.{_≡_, refl, sym, ap, ap₂, _∙_}
 use mathlib.Core.List.{List, [], _∷_, _++_, append-assoc}
-use lib.ListN.{length, take, drop, getD, length-append}
+use lib.ListN.{length, length-append}
 use lib.Dec.{eqb, lit<, lit≤}
-use borrow.Author.Tests.{eq-eqb, ne-eqb, eqb-false}
+use borrow.Author.Tests.{eq-eqb, ne-eqb}
 use Rattle.wire.specs.Numbers.{digits, be, littleAt, le, pick}
 use Rattle.wire.specs.Sequences.{fields, joined, All}
-use Rattle.wire.proofs.Widths.{little-le, length-le, all-append}
+use Rattle.wire.proofs.Widths.{little-le, all-append}
 use Rattle.wire.proofs.Accepting.{pick-true, pick-false, pick-either}
 use Rattle.avl.specs.declared.Widths.{Widths}
 use Rattle.avl.specs.Codecs.{widthsOf, kinds, codec8, codec8E, codec16}
-use Rattle.avl.specs.Records.{Element, Fixed, AvlRecord, FixedRules, ElementRules, GroupRules, GroupsRules, RecordRules, total, lengthBytes, elementBytes, groupBytes, groupsBytes, fixedBytes, recordBytes}
-use Rattle.avl.specs.DataField.{AvlData, DataRules, dataBytes}
-use Rattle.tlv.specs.Entries.{Entry, entryBytes, entriesOf}
+use Rattle.avl.specs.Records.{Element, Fixed, AvlRecord, FixedRules, ElementRules, GroupsRules, RecordRules, total, lengthBytes, elementBytes, groupBytes, groupsBytes, fixedBytes, recordBytes}
+use Rattle.avl.specs.DataField.{AvlData, DataRules}
+use Rattle.tlv.specs.Entries.{Entry}
 use Rattle.tlv.specs.Form.{fixedEntry, elementEntry, groupEntries, groupsEntries, recordsEntries, formEntries, form}
 use Rattle.tlv.specs.Decoding.{entryElement, run, behind, groupsOf, fixedOf, recordsOf, dataOf, decoded}
 use Rattle.tlv.proofs.EntryLaws.{EntryFits, entries-written}

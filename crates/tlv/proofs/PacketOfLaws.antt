@@ -7,7 +7,7 @@ use mathlib.Core.Bool.{Bool, true, false}
 use mathlib.Core.List.{List, [], _∷_}
 use lib.Dec.{eqb}
 use borrow.Author.Tests.{eq-eqb, eqb-true}
-use Rattle.wire.specs.Numbers.{Bytes, pick}
+use Rattle.wire.specs.Numbers.{Bytes}
 use Rattle.wire.specs.Answers.{Answer, accepted, refused, check, onAccepted}
 use Rattle.wire.proofs.Accepting.{both-true, pick-true, check-accepted, check-passed, onAccepted-accepted, onAccepted-passed}
 use Rattle.avl.specs.DataField.{AvlData, DataRules}

@@ -3,7 +3,7 @@ use Prim.Native.Nat.{ℕ, zero, suc, _+_}
 use mathlib.Core.List.{List, [], _∷_}
 use lib.ListN.{length, take, drop}
 use Rattle.wire.specs.Numbers.{littleAt, le}
-use Rattle.wire.specs.Sequences.{fields, joined}
+use Rattle.wire.specs.Sequences.{fields}
 
 pub record Entry : Type 0 where
   pub kind : ℕ

@@ -7,7 +7,7 @@ use Rattle.wire.specs.Numbers.{pick}
 use Rattle.wire.specs.Answers.{Answer, accepted, refused, check, onAccepted}
 use Rattle.avl.specs.DataField.{AvlData}
 use Rattle.packet.specs.DataPackets.{packetBytes, readPacket}
-use Rattle.datagram.specs.Datagrams.{Datagram, readDatagram}
+use Rattle.datagram.specs.Datagrams.{readDatagram}
 use Rattle.tlv.specs.Form.{form}
 use Rattle.tlv.specs.Decoding.{decoded}
 

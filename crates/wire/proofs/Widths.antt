@@ -30,14 +30,6 @@ pub bytes-append : (a b : List ℕ) → Bytes a → Bytes b → Bytes (a ++ b)
 bytes-append [] b h k = k
 bytes-append (x ∷ a) b h k = (h .0, bytes-append a b (h .1) k)
 
-pub bytes-left : (a b : List ℕ) → Bytes (a ++ b) → Bytes a
-bytes-left [] b h = tt
-bytes-left (x ∷ a) b h = (h .0, bytes-left a b (h .1))
-
-pub bytes-right : (a b : List ℕ) → Bytes (a ++ b) → Bytes b
-bytes-right [] b h = h
-bytes-right (x ∷ a) b h = bytes-right a b (h .1)
-
 pub bytes-drop : (n : ℕ) (s : List ℕ) → Bytes s → Bytes (drop n s)
 bytes-drop zero s h = h
 bytes-drop (suc n) [] h = tt
@@ -151,16 +143,6 @@ be-number (suc w) s at h f =
     ∙ sym (append-assoc (be w ((numberAt s at w * 256 + b) / 256)) ((numberAt s at w * 256 + b) % 256 ∷ []) (drop (at + suc w) s))
 
 -- ---- little-endian
-
-pub length-le : (w n : ℕ) → length (le w n) ≡ w
-unfolding le
-length-le zero n = refl
-length-le (suc w) n = ap suc (length-le w (n / 256))
-
-pub bytes-le : (w n : ℕ) → Bytes (le w n)
-unfolding le
-bytes-le zero n = tt
-bytes-le (suc w) n = (mod-lt n byte-pos, bytes-le w (n / 256))
 
 pub little-le : (w n : ℕ) (s : List ℕ) (at : ℕ) (rest : List ℕ) → n < 256 ^ w → drop at s ≡ le w n ++ rest → littleAt s at w ≡ n
 unfolding littleAt le

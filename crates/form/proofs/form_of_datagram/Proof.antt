@@ -1,5 +1,4 @@
-use mathlib.Core.Path.{_≡_, sym, _∙_}
-use native.Mathlib.Omega.{arith}
+use mathlib.Core.Path.{sym, _∙_}
 use Rattle.datagram.specs.Datagrams.{readDatagram}
 use Rattle.datagram.proofs.WalkLaws.{carried, not-carried}
 use Rattle.form.proofs.WholeLaws.{field-of, datagram-field, datagram-long, datagram-written, datagram-refused}

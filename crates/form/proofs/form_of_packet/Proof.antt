@@ -1,8 +1,8 @@
-use mathlib.Core.Path.{_≡_, sym, _∙_}
+use mathlib.Core.Path.{sym, _∙_}
 use native.Mathlib.Omega.{arith}
 use Rattle.wire.proofs.Widths.{getD-bytes}
 use Rattle.packet.specs.DataPackets.{readPacket}
-use Rattle.walk.proofs.TakenLaws.{TakenOf, taken, not-taken}
+use Rattle.walk.proofs.TakenLaws.{taken, not-taken}
 use Rattle.form.proofs.WholeLaws.{field-of, packet-field, packet-long, packet-written, packet-refused}
 use borrow.Author.Needs.{needs}
 use Rattle.form.proofs.form_of_packet.Statement.{statement}

@@ -1,12 +1,11 @@
 use Rattle.wire.specs.Numbers.{le, numberAt}
 use lib.Seq.{sets}
 use lib.ListN.{take, drop}
-use lib.Dec.{lit≤}
 use native.Mathlib.Omega.{arith}
-use mathlib.Core.List.{List, _++_}
-use mathlib.Core.Path.{_≡_, refl, ap, _∙_}
-use Prim.Native.Nat.{ℕ, _+_, _-_, _≤_}
-use Rattle.form.proofs.LeafLaws.{near, near-on, Stored, stored-on, size-stands, id-inside, value-inside, size-small, value-long, element-copied}
+use mathlib.Core.List.{_++_}
+use mathlib.Core.Path.{refl, ap, _∙_}
+use Prim.Native.Nat.{ℕ, _+_, _-_}
+use Rattle.form.proofs.LeafLaws.{near, Stored, stored-on, size-stands, id-inside, value-inside, size-small, value-long, element-copied}
 use borrow.Author.Needs.{needs}
 use Rattle.form.proofs.put_element.Statement.{statement}
 use Rattle.form.proofs.put_element.Tie as tie

@@ -1,6 +1,5 @@
-use Prim.Native.Nat.{ℕ, _+_, _-_, _≤_}
-use mathlib.Core.Path.{_≡_, refl, sym, ap, _∙_}
-use mathlib.Core.List.{List, [], _∷_, _++_}
+use Prim.Native.Nat.{_+_, _-_, _≤_}
+use mathlib.Core.Path.{refl}
 use native.Mathlib.Nat.{le-trans, le-add-right}
 use native.Mathlib.Omega.{arith}
 use lib.Dec.{lit≤}
@@ -11,7 +10,6 @@ use Rattle.form.proofs.MoveLaws.{laid}
 use Rattle.form.specs.Moves.{fixedEntries}
 use Rattle.form.proofs.Inversion.{fixedAt}
 use Rattle.form.proofs.LeafLaws.{near, near-on, near-fits, Stored, stored-on, stored-length, fixed-inside, fixed-fits, field-inside, fixed-copied}
-use borrow.Author.Needs.{needs}
 use Rattle.form.proofs.put_fixed.Statement.{statement}
 use Rattle.form.proofs.put_fixed.Tie as tie
 

@@ -1,9 +1,9 @@
 use borrow.Author.Needs.{needs}
 use native.Mathlib.Omega.{arith}
 use Rattle.avl.specs.Codecs.{kinds}
-use lib.ListN.{length, getD}
-use mathlib.Core.Path.{_≡_, sym, _∙_}
-use Prim.Native.Nat.{_-_, _<_, _≤_}
+use lib.ListN.{length}
+use mathlib.Core.Path.{_∙_}
+use Prim.Native.Nat.{_-_, _<_}
 use Rattle.walk.proofs.KindLaws.{kinds-few, kind-range, kind-known}
 use Rattle.form.proofs.LoopLaws.{GroupsLeft, left-start, groups-first, groups-on, groups-done}
 use Rattle.form.proofs.put_groups.Statement.{statement}

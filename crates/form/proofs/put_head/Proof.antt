@@ -1,7 +1,6 @@
 use Rattle.form.proofs.LeafLaws.{Stored, stored-on}
 use Rattle.wire.specs.Numbers.{le}
 use mathlib.Core.Path.{refl}
-use Prim.Native.Nat.{_+_}
 use borrow.Author.Needs.{needs}
 use Rattle.form.proofs.put_head.Statement.{statement}
 use Rattle.form.proofs.put_head.Tie as tie
