@@ -2,3 +2,4 @@ pub mod RecordLaws
 pub mod DataLaws
 pub mod ByteLaws
 pub mod Samples
+pub mod Inversion

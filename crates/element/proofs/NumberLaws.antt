@@ -15,13 +15,14 @@ use Rattle.wire.proofs.Accepting.{pick-true, pick-false}
 use Rattle.avl.specs.declared.Widths.{Widths}
 use Rattle.avl.specs.Codecs.{kinds}
 use Rattle.avl.specs.Records.{Element, AvlRecord, elementBytes}
+use Rattle.avl.proofs.Inversion.{group-read}
 use Rattle.avl.specs.RecordReader.{element, group, avlRecord}
 use Rattle.element.specs.declared.Value.{Value}
 use Rattle.element.specs.declared.ElementAnswer.{ElementAnswer}
 use Rattle.element.specs.Elements.{Located, leadSize, locateGroup, locateGroups, elements, nth}
 use Rattle.element.specs.Search.{ReadableElement, locatedValue, valueAt, elementAs}
 use Rattle.element.proofs.ElementLaws.{length-element, length-group}
-use Rattle.element.proofs.ReadLaws.{element-read, repeat-parted, repeat-nothing, group-repeat}
+use Rattle.element.proofs.ReadLaws.{element-read, repeat-parted, repeat-nothing}
 use Rattle.element.proofs.SearchLaws.{Onward, parts, present-group, later, ahead, onward-on, Ahead}
 
 -- ---- the n-th of a list
@@ -127,18 +128,18 @@ pub nth-beyond : (w : Widths) (kind : ℕ) (s : List ℕ) (at k : ℕ) → numbe
     → ElementAnswer.Nothing ≡ elementAs (nth k (locateGroup w kind (at + w .count) g))
 unfolding elementAs
 nth-beyond w kind s at k h g n f =
-    let size = repeat-size w kind s _ (at + w .count) g n (group-repeat w kind s at .if-got _ _ f .1) in
+    let size = repeat-size w kind s _ (at + w .count) g n (group-read w kind s at .if-got _ _ f .elements) in
     sym (ap elementAs (nth-none k _ (omega (arith, size, length-group w kind (at + w .count) g))))
 
 -- ---- from group to group
 
 module _ {w : Widths} {kind : ℕ} {ks : List ℕ} {s : List ℕ} {at : ℕ} {answer : Answer Located} (k : ℕ) (h : Onward w (kind ∷ ks) s at (nth k) answer) where
   pub number-inside : at + w .count ≤ length s
-  number-inside = group-repeat w kind s at .if-got _ _ (parts h .one) .0
+  number-inside = group-read w kind s at .if-got _ _ (parts h .one) .inside
 
   module _ {n : ℕ} (is : n ≡ numberAt s at (w .count)) where
     members : repeat n (element w kind) s (at + w .count) ≡ got (parts h .first) (parts h .mid)
-    members = ap (λ (m : ℕ). repeat m (element w kind) s (at + w .count)) is ∙ group-repeat w kind s at .if-got _ _ (parts h .one) .1
+    members = ap (λ (m : ℕ). repeat m (element w kind) s (at + w .count)) is ∙ group-read w kind s at .if-got _ _ (parts h .one) .elements
 
     size : length (present-group h) ≡ n
     size = length-group w kind (at + w .count) (parts h .first) ∙ repeat-size w kind s n (at + w .count) _ _ members

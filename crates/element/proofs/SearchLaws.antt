@@ -14,6 +14,7 @@ use Rattle.wire.proofs.Accepting.{pick-true, pick-false}
 use Rattle.avl.specs.declared.Widths.{Widths}
 use Rattle.avl.specs.Codecs.{kinds, allKinds}
 use Rattle.avl.specs.Records.{Element, AvlRecord, elementBytes, groupBytes}
+use Rattle.avl.proofs.Inversion.{ListRead, group-read}
 use Rattle.avl.specs.RecordReader.{element, group, groups, avlRecord}
 use Rattle.avl.proofs.RecordLaws.{group-exact}
 use Rattle.walk.proofs.KindLaws.{kind-known, next-kind}
@@ -23,7 +24,7 @@ use Rattle.element.specs.declared.ElementAnswer.{ElementAnswer}
 use Rattle.element.specs.Elements.{Located, leadSize, locateGroup, locateGroups, fixedSize, elements, firstWith}
 use Rattle.element.specs.Search.{ReadableElement, ReadableGroup, locatedValue, valueAt, hitOr, searched, elementAs}
 use Rattle.element.proofs.ElementLaws.{length-element}
-use Rattle.element.proofs.ReadLaws.{got-same, element-read, Parted, repeat-parted, repeat-nothing, groups-parted, group-repeat, record-read}
+use Rattle.element.proofs.ReadLaws.{got-same, element-read, repeat-parted, repeat-nothing, groups-parted, record-read}
 
 -- ---- within a group
 
@@ -44,7 +45,7 @@ module _ {w : Widths} {kind : ℕ} {s : List ℕ} {at : ℕ} {look : ℕ → Lis
         end = g .next;
         whole = g .reads;
         rest = g .members;
-        reads = ap (λ (n : ℕ). repeat n (element w kind) s (at + w .count)) (omega arith) ∙ group-repeat w kind s at .if-got _ _ (g .reads) .1;
+        reads = ap (λ (n : ℕ). repeat n (element w kind) s (at + w .count)) (omega arith) ∙ group-read w kind s at .if-got _ _ (g .reads) .elements;
         same = refl;
       }
 
@@ -62,7 +63,7 @@ module _ {w : Widths} {kind : ℕ} {s : List ℕ} {at : ℕ} {look : ℕ → Lis
         (answers g n f ∙ ap (λ (l : List Element). look i (locateGroup w kind next l)) (z .0), sym (z .1) ∙ got-same (h .whole) f .1)
 
     module _ (more : i < numberAt s at (w .count)) where
-      front : Parted (element w kind) (repeat (numberAt s at (w .count) - (i + 1)) (element w kind)) s next (h .rest) (h .end)
+      front : ListRead (element w kind) (repeat (numberAt s at (w .count) - (i + 1)) (element w kind)) s next (h .rest) (h .end)
       front =
           let n : numberAt s at (w .count) - i ≡ suc (numberAt s at (w .count) - (i + 1)) = omega arith in
           repeat-parted _ (element w kind) s next .if-got _ _ (ap (λ (n : ℕ). repeat n (element w kind) s next) (sym n) ∙ h .reads)
@@ -122,7 +123,7 @@ pub record Onward (w : Widths) (ks : List ℕ) (s : List ℕ) (at : ℕ) (look :
   pub same : look (locateGroups w ks at rest) ≡ answer
 
 module _ {w : Widths} {k : ℕ} {ks : List ℕ} {s : List ℕ} {at : ℕ} {look : List Located → Answer Located} {answer : Answer Located} (h : Onward w (k ∷ ks) s at look answer) where
-  pub parts : Parted (group w k) (groups w ks) s at (h .rest) (h .end)
+  pub parts : ListRead (group w k) (groups w ks) s at (h .rest) (h .end)
   parts = groups-parted w k ks s at .if-got _ _ (h .reads)
 
   pub onward-group : ReadableGroup w k s at
@@ -142,7 +143,7 @@ module _ {w : Widths} {k : ℕ} {ks : List ℕ} {s : List ℕ} {at : ℕ} {look 
   -- it is not in this group
   pub onward-on : {next : ℕ} → Bytes s → parts .mid ≡ next → (rest : List Located → Answer Located) → look (present-group ++ later) ≡ rest later → Onward w ks s next rest answer
   onward-on {next} b e rest passed =
-      let start : at ≤ length s = omega (arith, group-repeat w k s at .if-got _ _ (parts .one) .0) in
+      let start : at ≤ length s = omega (arith, group-read w k s at .if-got _ _ (parts .one) .inside) in
       let size = group-exact w k .sound s at b start .if-got _ _ (parts .one) .0 .size in
       record {
         rest = parts .others;

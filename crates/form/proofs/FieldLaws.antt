@@ -25,7 +25,7 @@ use Rattle.wire.specs.Buffers.{writtenAs}
 use Rattle.wire.proofs.BufferLaws.{writing-done, writing-short, leaving-done, leaving-short, sets-front}
 use Rattle.form.specs.declared.Moved.{Moved}
 use Rattle.form.specs.Moves.{Ready, Copies, dataEntries, Field, Writes}
-use Rattle.form.proofs.Inversion.{meets-self}
+use Rattle.avl.proofs.Inversion.{meets-self}
 use Rattle.form.proofs.MoveLaws.{moved, laid}
 use Rattle.form.proofs.FormSize.{form-size}
 

@@ -16,7 +16,7 @@ use Rattle.avl.specs.RecordReader.{valueSize, element, fixedFields}
 use Rattle.tlv.specs.Entries.{entryBytes}
 use Rattle.tlv.specs.Form.{fixedEntry, elementEntry}
 use Rattle.form.specs.Moves.{Ready, Copies, elementEntries, fixedEntries}
-use Rattle.form.proofs.Inversion.{fixedAt, fixed-read, ElementRead, element-read, size-read}
+use Rattle.avl.proofs.Inversion.{fixedAt, fixed-read, ElementRead, element-read, size-read}
 use Rattle.form.proofs.MoveLaws.{moved, laid, copies-of}
 
 -- a place to store at is a small number, and so is one a little further on

@@ -1,5 +1,4 @@
 pub mod Stores
-pub mod Inversion
 pub mod MoveLaws
 pub mod LeafLaws
 pub mod LoopLaws

@@ -17,7 +17,7 @@ use Rattle.tlv.specs.Entries.{Entry}
 use Rattle.tlv.specs.Form.{groupEntries, groupsEntries, recordsEntries}
 use Rattle.form.specs.declared.Moved.{Moved}
 use Rattle.form.specs.Moves.{Ready, Copies, fixedEntries, elementEntries, recordEntries}
-use Rattle.form.proofs.Inversion.{listed, group-read, RecordRead, record-read}
+use Rattle.avl.proofs.Inversion.{listed, group-read, RecordRead, record-read}
 use Rattle.form.proofs.MoveLaws.{moved, laid, length-laid, sets-laid, paced-fixed, copies-of, Paced, paced-element, paced-group, paced-record, copies-is, copies-none, copies-list, ready-first, ready-others}
 
 -- `m` is left, to be read at `from` and stored at `dest`, of `whole`, which began at `at` and `to`

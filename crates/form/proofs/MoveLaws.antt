@@ -20,7 +20,7 @@ use Rattle.tlv.specs.Entries.{Entry, entryBytes}
 use Rattle.tlv.specs.Form.{fixedEntry, elementEntry, groupEntries, groupsEntries}
 use Rattle.form.specs.declared.Moved.{Moved}
 use Rattle.form.specs.Moves.{Ready, Copies, elementEntries, fixedEntries, recordEntries}
-use Rattle.form.proofs.Inversion.{number-on, size-read, element-read, fixed-read, record-read, listed, list-read}
+use Rattle.avl.proofs.Inversion.{number-on, size-read, element-read, fixed-read, record-read, listed, list-read}
 
 abbrev pub moved : ℕ → ℕ → Moved
 moved from to = record { from = from; to = to }

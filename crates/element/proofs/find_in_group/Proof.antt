@@ -1,5 +1,5 @@
 use Rattle.element.proofs.SearchLaws.{Searching, search-start, search-element, search-hit, search-within, search-on, search-done, first-here, first-later, searched-hit, searched-miss}
-use Rattle.element.proofs.ReadLaws.{group-repeat}
+use Rattle.avl.proofs.Inversion.{group-read}
 use Rattle.element.specs.Elements.{firstWith}
 use native.Mathlib.Omega.{arith}
 use Prim.Native.Nat.{_-_, _≤_}
@@ -13,10 +13,10 @@ abbrev μ-loop : tie.MeasureT-loop
 μ-loop w kind part at id width count next₀ i₀ next i = count - i
 
 short-number-requires : tie.Need-short-number-requires Inv-loop μ-loop
-short-number-requires c κs = (group-repeat _ _ _ _ .if-got _ _ (c .before .pre .1 .1 .reads) .0, omega arith)
+short-number-requires c κs = (group-read _ _ _ _ .if-got _ _ (c .before .pre .1 .1 .reads) .inside, omega arith)
 
 add-next : tie.Need-add-next Inv-loop μ-loop
-add-next c = omega (arith, group-repeat _ _ _ _ .if-got _ _ (c .before .before .pre .1 .1 .reads) .0)
+add-next c = omega (arith, group-read _ _ _ _ .if-got _ _ (c .before .before .pre .1 .1 .reads) .inside)
 
 loop-holds : tie.Need-loop-holds Inv-loop μ-loop
 loop-holds c = (omega arith, search-start (c .before .before .pre .1 .1))

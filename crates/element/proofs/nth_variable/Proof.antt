@@ -4,7 +4,7 @@ use mathlib.Core.Path.{_≡_, ap, _∙_}
 use Prim.Native.Nat.{ℕ}
 use Rattle.element.proofs.NumberLaws.{nth-here, nth-later, nth-beyond, at-found}
 use Rattle.element.proofs.SearchLaws.{Searching, search-start, search-element, search-hit, search-within, search-on}
-use Rattle.element.proofs.ReadLaws.{group-repeat}
+use Rattle.avl.proofs.Inversion.{group-read}
 use Rattle.element.specs.Elements.{nth}
 use native.Mathlib.Omega.{arith}
 use Prim.Native.Nat.{_-_, _≤_}
@@ -18,13 +18,13 @@ abbrev μ-loop : tie.MeasureT-loop
 μ-loop w part at n width count next₀ i₀ next i = n - i
 
 short-number-requires : tie.Need-short-number-requires Inv-loop μ-loop
-short-number-requires c κs = (group-repeat _ _ _ _ .if-got _ _ (c .before .pre .1 .reads) .0, omega arith)
+short-number-requires c κs = (group-read _ _ _ _ .if-got _ _ (c .before .pre .1 .reads) .inside, omega arith)
 
 returns : tie.Need-returns Inv-loop μ-loop
 returns c = nth-beyond (c .before .before .before .args .w) 9 (c .before .before .before .args .part .now) (c .before .before .before .args .at) (c .before .before .before .args .n) (omega (arith, c .before .short-number .ensures, c .if1 .taken))
 
 add-next : tie.Need-add-next Inv-loop μ-loop
-add-next c = omega (arith, group-repeat _ _ _ _ .if-got _ _ (c .before .before .before .pre .1 .reads) .0)
+add-next c = omega (arith, group-read _ _ _ _ .if-got _ _ (c .before .before .before .pre .1 .reads) .inside)
 
 loop-holds : tie.Need-loop-holds Inv-loop μ-loop
 loop-holds c = (omega arith, search-start (c .before .before .before .pre .1))

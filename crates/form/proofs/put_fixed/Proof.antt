@@ -8,7 +8,7 @@ use Rattle.tlv.specs.Form.{fixedEntry}
 use Rattle.tlv.specs.Entries.{entryBytes}
 use Rattle.form.proofs.MoveLaws.{laid}
 use Rattle.form.specs.Moves.{fixedEntries}
-use Rattle.form.proofs.Inversion.{fixedAt}
+use Rattle.avl.proofs.Inversion.{fixedAt}
 use Rattle.form.proofs.LeafLaws.{near, near-on, near-fits, Stored, stored-on, stored-length, fixed-inside, fixed-fits, field-inside, fixed-copied}
 use Rattle.form.proofs.put_fixed.Statement.{statement}
 use Rattle.form.proofs.put_fixed.Tie as tie

@@ -51,7 +51,7 @@ module _ {B : Type 0} {Q : B → ℕ → Type 0} (s : List ℕ) (at : ℕ) where
       meets-either (at + n) (length s) (λ k. meets-is (then-got (bytes n) f s at (bytes-got n s at k)) (h k))
       (λ k. (_, then-bad (bytes n) f s at (bytes-bad n s at k)))
 
-number-meets : {Q : ℕ → ℕ → Type 0} (w : ℕ) (s : List ℕ) (at : ℕ) → (at + w ≤ length s → Q (numberAt s at w) (at + w)) → Meets (number w s at) Q
+pub number-meets : {Q : ℕ → ℕ → Type 0} (w : ℕ) (s : List ℕ) (at : ℕ) → (at + w ≤ length s → Q (numberAt s at w) (at + w)) → Meets (number w s at) Q
 number-meets w s at h =
     meets-either (at + w) (length s) (λ k. meets-is (number-got w s at k) (meets-got _ _ (h k))) (λ k. (_, number-bad w s at k))
 
