@@ -1,21 +1,23 @@
 -- What is known of the bytes where a reader has read something.
-use Prim.Native.Nat.{ℕ, _+_, _*_, _≤_, _<_}
+use Prim.Native.Nat.{ℕ, zero, suc, _+_, _*_, _≤_, _<_}
 use native.Mathlib.Omega.{arith}
 use mathlib.Core.Path.{_≡_, refl, sym, ap, _∙_}
 use mathlib.Core.Bool.{Bool, true, false}
-use mathlib.Core.List.{List, _∷_}
-use lib.ListN.{length, take, drop}
+use mathlib.Core.List.{List, _∷_, _++_}
+use lib.ListN.{length, take, drop, length-append}
 use lib.Dec.{eqb, leb}
 use borrow.Author.Tests.{leb-true, leb-false, eqb-false}
 use Rattle.wire.specs.declared.Fault.{Fault}
-use Rattle.wire.specs.Numbers.{numberAt, pick}
+use Rattle.wire.specs.Numbers.{Bytes, numberAt, be, pick}
+use Rattle.wire.proofs.Widths.{length-digits}
 use Rattle.wire.specs.Reading.{Read, got, bad, Reader, _>>=_, _>>_, pure, here, require, number, bytes, upTo, repeat}
 use Rattle.wire.proofs.Exactness.{Meets, meets-then, meets-next, meets-got, meets-pure, meets-require, then-got}
 use Rattle.wire.proofs.Walking.{then-bad, number-got, number-bad, bytes-got, bytes-bad, number-there, number-missing, upTo-there, upTo-missing, upTo-over}
 use Rattle.avl.specs.declared.Widths.{Widths}
 use Rattle.avl.specs.Codecs.{kinds}
-use Rattle.avl.specs.Records.{Element, Fixed, AvlRecord, total}
-use Rattle.avl.specs.RecordReader.{valueSize, element, group, groups, fixedFields, avlRecord}
+use Rattle.avl.specs.Records.{Element, Fixed, AvlRecord, total, fixedBytes, groupsBytes, recordBytes}
+use Rattle.avl.proofs.RecordLaws.{fixed-exact, groups-exact}
+use Rattle.avl.specs.RecordReader.{valueSize, element, group, groups, fixedFields, avlRecord, plainRecord, tagged, inRecord, avlRecords}
 
 module _ {A : Type 0} {Q : A → ℕ → Type 0} {r : Read A} where
   pub meets-is : {q : Read A} → r ≡ q → Meets q Q → Meets r Q
@@ -191,9 +193,17 @@ pub record RecordRead (w : Widths) (s : List ℕ) (at : ℕ) (r : AvlRecord) (n 
   pub inside : start + w .count ≤ length s
   pub groupsRead : groups w (kinds w) s (start + w .count) ≡ got (r .groups) n
 
-pub record-read : (longest : ℕ) (w : Widths) (s : List ℕ) (at : ℕ) → Meets (avlRecord longest w s at) (RecordRead w s at)
+pub record-read : (w : Widths) (s : List ℕ) (at : ℕ) → Meets (plainRecord w s at) (RecordRead w s at)
+unfolding plainRecord
+record-read w s at =
+    meets-then (fixedFields w) _ s at (meets-self _) (λ f n₁ k₁.
+    number-on s n₁ (w .count) _ (λ h.
+    meets-then (groups w (kinds w)) _ s (n₁ + w .count) (meets-self _) (λ gs n₂ k₂.
+    meets-pure _ s n₂ (record { start = n₁; fixed = k₁; inside = h; groupsRead = k₂ }))))
+
+judged-read : (longest : ℕ) (w : Widths) (s : List ℕ) (at : ℕ) → Meets (avlRecord longest w s at) (RecordRead w s at)
 unfolding avlRecord here
-record-read longest w s at =
+judged-read longest w s at =
     meets-is (then-got here _ s at refl)
     (meets-then (fixedFields w) _ s at (meets-self _) (λ f n₁ k₁.
     number-on s n₁ (w .count) _ (λ h.
@@ -202,6 +212,28 @@ record-read longest w s at =
     (meets-next (require (eqb (numberAt s n₁ (w .count)) (total gs)) 9 at) _ s n₂ (meets-require _ _ _ s n₂) (λ u n₃ k₃.
     meets-next (require (leb n₂ (at + longest)) 12 at) _ s n₃ (meets-require _ _ _ s n₃) (λ v n₄ k₄.
     meets-pure _ s n₄ (record { start = n₁; fixed = k₁; inside = h; groupsRead = k₂ ∙ ap (got gs) (sym (k₄ .1 ∙ k₃ .1)) }))))))))
+
+-- whatever the limit, a record that is judged is read as it stands
+pub plain-record : (longest : ℕ) (w : Widths) (s : List ℕ) (at : ℕ) {r : AvlRecord} {n : ℕ} → avlRecord longest w s at ≡ got r n → plainRecord w s at ≡ got r n
+unfolding plainRecord pure
+plain-record longest w s at e =
+    let k = judged-read longest w s at .if-got _ _ e in
+    then-got (fixedFields w) _ s at (k .fixed)
+    ∙ number-there _ s (k .start) (w .count) (k .inside)
+    ∙ then-got (groups w (kinds w)) _ s (k .start + w .count) (k .groupsRead)
+
+-- and it has the bytes that it is written as
+pub plain-size : (w : Widths) (s : List ℕ) (at : ℕ) {r : AvlRecord} {n : ℕ} → Bytes s → at ≤ length s → plainRecord w s at ≡ got r n
+    → (n ≤ length s) × (n ≡ at + length (recordBytes w r))
+unfolding recordBytes
+plain-size w s at {r} b h e =
+    let k = record-read w s at .if-got _ _ e in
+    let f = fixed-exact w .sound s at b h .if-got _ _ (k .fixed) .0 in
+    let g = groups-exact w (kinds w) .sound s (k .start + w .count) b (k .inside) .if-got _ _ (k .groupsRead) .0 in
+    let sum = be (w .count) (total (r .groups)) in
+    let rest = groupsBytes w (kinds w) (r .groups) in
+    let whole = length-append (fixedBytes w (r .fixed)) (sum ++ rest) in
+    (g .inside, omega (arith, f .size, g .size, whole, length-append sum rest, length-digits 256 (w .count) (total (r .groups))))
 
 -- ---- lists
 
@@ -222,3 +254,19 @@ list-read m rest s at =
     meets-then m _ s at (meets-self _) (λ a mid k.
     meets-then rest _ s mid (meets-self _) (λ l n i.
     meets-pure (a ∷ l) s n (record { first = a; mid = mid; one = k; others = l; more = i; is = refl })))
+
+tagged-got : {A : Type 0} (i : ℕ) (r : Read A) {a : A} {n : ℕ} → tagged i r ≡ got a n → r ≡ got a n
+unfolding tagged
+tagged-got i (got b m) e = e
+tagged-got i (bad x) e = absurd (let z : _≡_ {A = ℕ} 0 1 = cc in omega arith)
+
+-- the same of records one behind another
+pub plain-records : (longest : ℕ) (w : Widths) (i n : ℕ) (s : List ℕ) (at : ℕ) {rs : List AvlRecord} {m : ℕ}
+    → avlRecords longest w i n s at ≡ got rs m → repeat n (plainRecord w) s at ≡ got rs m
+unfolding avlRecords repeat pure inRecord
+plain-records longest w i zero s at e = e
+plain-records longest w i (suc n) s at {rs} {m} e =
+    let k = list-read (inRecord i (avlRecord longest w)) (avlRecords longest w (suc i) n) s at .if-got _ _ e in
+    then-got (plainRecord w) _ s at (plain-record longest w s at (tagged-got i (avlRecord longest w s at) (k .one)))
+    ∙ then-got (repeat n (plainRecord w)) _ s (k .mid) (plain-records longest w (suc i) n s (k .mid) (k .more))
+    ∙ ap (λ (l : List AvlRecord). got l m) (sym (k .is))

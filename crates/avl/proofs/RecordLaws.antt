@@ -87,7 +87,7 @@ groups-complete w (k ∷ ks) s at (g ∷ gs) next h f =
     then-got (group w k) _ s at (group-exact w k .complete s at g _ (h .0) (a .0))
     ∙ then-got (groups w ks) _ s _ (groups-complete w ks s _ gs next (h .1) (a .1))
 
-groups-exact : (w : Widths) (ks : List ℕ) → Exact (groups w ks) (groupsBytes w ks) (GroupsRules w ks)
+pub groups-exact : (w : Widths) (ks : List ℕ) → Exact (groups w ks) (groupsBytes w ks) (GroupsRules w ks)
 groups-exact w ks = record { sound = groups-sound w ks; complete = groups-complete w ks }
 
 pub fixed-exact : (w : Widths) → Exact (fixedFields w) (fixedBytes w) (FixedRules w)

@@ -68,6 +68,14 @@ avlRecord longest w = do
   require (leb end (start + longest)) 12 start
   pure (record { fixed = fixed; groups = gs })
 
+-- a record's fields as they stand, its own rules left out: what is read once it is judged
+unfoldable pub plainRecord : Widths → Reader AvlRecord
+plainRecord w = do
+  fixed ← fixedFields w
+  sum ← number (w .count)
+  gs ← groups w (kinds w)
+  pure (record { fixed = fixed; groups = gs })
+
 -- a refusal inside the record with this index
 unfoldable pub tagged : {A : Type 0} → ℕ → Read A → Read A
 tagged index (got a next) = got a next

@@ -20,11 +20,11 @@ use Rattle.capi.specs.declared.CommandC.{CommandC}
 
 unfoldable pub flatWritten : Answer ℕ → WrittenC
 flatWritten (accepted n) = record { number = 0; index = 0; written = n }
-flatWritten (refused n i) = record { number = n; index = i; written = 0 }
+flatWritten (refused x) = record { number = x .number; index = x .index; written = 0 }
 
 unfoldable pub flatPacket : Answer DataResult → PacketC
 flatPacket (accepted d) = record { number = 0; index = 0; codec = d .codec; count = d .count }
-flatPacket (refused n i) = record { number = n; index = i; codec = 0; count = 0 }
+flatPacket (refused x) = record { number = x .number; index = x .index; codec = 0; count = 0 }
 
 unfoldable pub flatDatagram : Answer DatagramResult → DatagramC
 flatDatagram (accepted g) =
@@ -38,15 +38,15 @@ flatDatagram (accepted g) =
       avl = g .header .avl;
       imei = g .header .imei;
     }
-flatDatagram (refused n i) = record { number = n; index = i; codec = 0; count = 0; packet = 0; unused = 0; avl = 0; imei = 0 }
+flatDatagram (refused x) = record { number = x .number; index = x .index; codec = 0; count = 0; packet = 0; unused = 0; avl = 0; imei = 0 }
 
 unfoldable pub flatLogin : Answer ℕ → LoginC
 flatLogin (accepted imei) = record { number = 0; index = 0; imei = imei }
-flatLogin (refused n i) = record { number = n; index = i; imei = 0 }
+flatLogin (refused x) = record { number = x .number; index = x .index; imei = 0 }
 
 unfoldable pub flatCommand : Answer CommandFields → CommandC
 flatCommand (accepted f) = record { number = 0; index = 0; codec = f .codec; kind = f .kind; imei = f .imei; offset = f .offset; size = f .size }
-flatCommand (refused n i) = record { number = n; index = i; codec = 0; kind = 0; imei = 0; offset = 0; size = 0 }
+flatCommand (refused x) = record { number = x .number; index = x .index; codec = 0; kind = 0; imei = 0; offset = 0; size = 0 }
 
 unfoldable pub flatRecord : Answer RecordFields → RecordC
 flatRecord (accepted f) =
@@ -65,10 +65,10 @@ flatRecord (accepted f) =
       generation = f .generation;
       elements = f .elements;
     }
-flatRecord (refused n i) =
+flatRecord (refused x) =
     record {
-      number = n;
-      index = i;
+      number = x .number;
+      index = x .index;
       timestamp = 0;
       priority = 0;
       longitude = pos 0;
@@ -84,9 +84,9 @@ flatRecord (refused n i) =
 
 unfoldable pub flatValue : Answer Value → ValueC
 flatValue (accepted v) = record { number = 0; index = 0; id = v .id; kind = v .kind; offset = v .offset; size = v .size }
-flatValue (refused n i) = record { number = n; index = i; id = 0; kind = 0; offset = 0; size = 0 }
+flatValue (refused x) = record { number = x .number; index = x .index; id = 0; kind = 0; offset = 0; size = 0 }
 
 unfoldable pub flatKnown : Answer KnownResult → KnownC
 flatKnown (accepted k) =
     record { number = 0; index = 0; older = k .older; id = k .value .id; kind = k .value .kind; offset = k .value .offset; size = k .value .size }
-flatKnown (refused n i) = record { number = n; index = i; older = false; id = 0; kind = 0; offset = 0; size = 0 }
+flatKnown (refused x) = record { number = x .number; index = x .index; older = false; id = 0; kind = 0; offset = 0; size = 0 }

@@ -18,6 +18,7 @@ ghost use Rattle.command.specs.Writing.{commandBytes};
 ghost use Rattle.capi.specs.Flat.{flatWritten, flatPacket, flatDatagram, flatLogin, flatCommand, flatRecord, flatValue, flatKnown};
 ghost use Rattle.tlv.specs.PacketOf.{formOfPacket, formOfDatagram, packetOfForm};
 ghost use Rattle.lookup.specs.Lookups.{tcpSource, udpSource, recordByNumber, valueByNumber, valueById, lastKnown};
+ghost use Rattle.wire.specs.Limits.{baseLimits};
 ghost use Rattle.lookup.specs.Answers.{recordAs, valueAs, answerValue, answerKnown};
 
 #[repr(C)]
@@ -84,7 +85,7 @@ fn flat_written(w: Written) -> WrittenC
 
 #[no_mangle]
 pub extern "C" fn brundilope_read_packet(p: &[u8]) -> PacketC
-    ensures { λ r. ⌜ r ≡ flatPacket (answerPacket 1280 255 (now (p .entry))) ⌝ }
+    ensures { λ r. ⌜ r ≡ flatPacket (answerPacket baseLimits (now (p .entry))) ⌝ }
 {
     match packet::read_packet(p) {
         PacketAnswer::Accepted { codec, count } => PacketC {
@@ -104,15 +105,15 @@ pub extern "C" fn brundilope_read_packet(p: &[u8]) -> PacketC
 
 #[no_mangle]
 pub extern "C" fn brundilope_acknowledge_packet(p: &[u8], out: &mut [u8]) -> WrittenC
-    ensures answer { λ r. ⌜ r ≡ flatWritten (writing (accepted (tcpAcknowledgement 1280 255 (now (p .entry)))) (now (out .entry))) ⌝ }
-    ensures buffer { λ r. ⌜ now (out .exit) ≡ leaving (accepted (tcpAcknowledgement 1280 255 (now (p .entry)))) (now (out .entry)) ⌝ }
+    ensures answer { λ r. ⌜ r ≡ flatWritten (writing (accepted (tcpAcknowledgement baseLimits (now (p .entry)))) (now (out .entry))) ⌝ }
+    ensures buffer { λ r. ⌜ now (out .exit) ≡ leaving (accepted (tcpAcknowledgement baseLimits (now (p .entry)))) (now (out .entry)) ⌝ }
 {
     flat_written(packet::acknowledge_packet(p, out))
 }
 
 #[no_mangle]
 pub extern "C" fn brundilope_read_datagram(p: &[u8]) -> DatagramC
-    ensures { λ r. ⌜ r ≡ flatDatagram (answerDatagram 1280 255 (now (p .entry))) ⌝ }
+    ensures { λ r. ⌜ r ≡ flatDatagram (answerDatagram baseLimits (now (p .entry))) ⌝ }
 {
     match datagram::read_datagram(p) {
         DatagramAnswer::Accepted {
@@ -144,8 +145,8 @@ pub extern "C" fn brundilope_read_datagram(p: &[u8]) -> DatagramC
 
 #[no_mangle]
 pub extern "C" fn brundilope_acknowledge_datagram(p: &[u8], out: &mut [u8]) -> WrittenC
-    ensures answer { λ r. ⌜ r ≡ flatWritten (writing (udpAcknowledgement 1280 255 (now (p .entry))) (now (out .entry))) ⌝ }
-    ensures buffer { λ r. ⌜ now (out .exit) ≡ leaving (udpAcknowledgement 1280 255 (now (p .entry))) (now (out .entry)) ⌝ }
+    ensures answer { λ r. ⌜ r ≡ flatWritten (writing (udpAcknowledgement baseLimits (now (p .entry))) (now (out .entry))) ⌝ }
+    ensures buffer { λ r. ⌜ now (out .exit) ≡ leaving (udpAcknowledgement baseLimits (now (p .entry))) (now (out .entry)) ⌝ }
 {
     flat_written(datagram::acknowledge_datagram(p, out))
 }
@@ -178,7 +179,7 @@ pub extern "C" fn brundilope_answer_login(p: &[u8], known: bool, out: &mut [u8])
 
 #[no_mangle]
 pub extern "C" fn brundilope_read_command(p: &[u8]) -> CommandC
-    ensures { λ r. ⌜ r ≡ flatCommand (answerCommand 1280 (now (p .entry))) ⌝ }
+    ensures { λ r. ⌜ r ≡ flatCommand (answerCommand baseLimits (now (p .entry))) ⌝ }
 {
     match command::read_command(p) {
         CommandAnswer::Accepted(f) => CommandC {
@@ -210,8 +211,8 @@ pub extern "C" fn brundilope_write_command(
     text: &[u8],
     out: &mut [u8],
 ) -> WrittenC
-    ensures answer { λ r. ⌜ r ≡ flatWritten (writing (commandBytes 1280 codec kind (now (imei .entry)) (now (text .entry))) (now (out .entry))) ⌝ }
-    ensures buffer { λ r. ⌜ now (out .exit) ≡ leaving (commandBytes 1280 codec kind (now (imei .entry)) (now (text .entry))) (now (out .entry)) ⌝ }
+    ensures answer { λ r. ⌜ r ≡ flatWritten (writing (commandBytes baseLimits codec kind (now (imei .entry)) (now (text .entry))) (now (out .entry))) ⌝ }
+    ensures buffer { λ r. ⌜ now (out .exit) ≡ leaving (commandBytes baseLimits codec kind (now (imei .entry)) (now (text .entry))) (now (out .entry)) ⌝ }
 {
     flat_written(command::write_command(codec, kind, imei, text, out))
 }
@@ -318,49 +319,49 @@ fn flat_value(a: ValueAnswer) -> ValueC
 
 #[no_mangle]
 pub extern "C" fn brundilope_record_in_packet(p: &[u8], n: usize) -> RecordC
-    ensures { λ r. ⌜ r ≡ flatRecord (recordByNumber (tcpSource 1280 255 (now (p .entry))) n) ⌝ }
+    ensures { λ r. ⌜ r ≡ flatRecord (recordByNumber (tcpSource baseLimits (now (p .entry))) n) ⌝ }
 {
     flat_record(lookup::record_in_packet(p, n))
 }
 
 #[no_mangle]
 pub extern "C" fn brundilope_record_in_datagram(p: &[u8], n: usize) -> RecordC
-    ensures { λ r. ⌜ r ≡ flatRecord (recordByNumber (udpSource 1280 255 (now (p .entry))) n) ⌝ }
+    ensures { λ r. ⌜ r ≡ flatRecord (recordByNumber (udpSource baseLimits (now (p .entry))) n) ⌝ }
 {
     flat_record(lookup::record_in_datagram(p, n))
 }
 
 #[no_mangle]
 pub extern "C" fn brundilope_value_in_packet(p: &[u8], n: usize, k: usize) -> ValueC
-    ensures { λ r. ⌜ r ≡ flatValue (answerValue (valueByNumber (tcpSource 1280 255 (now (p .entry))) n k)) ⌝ }
+    ensures { λ r. ⌜ r ≡ flatValue (answerValue (valueByNumber (tcpSource baseLimits (now (p .entry))) n k)) ⌝ }
 {
     flat_value(lookup::value_in_packet(p, n, k))
 }
 
 #[no_mangle]
 pub extern "C" fn brundilope_value_in_datagram(p: &[u8], n: usize, k: usize) -> ValueC
-    ensures { λ r. ⌜ r ≡ flatValue (answerValue (valueByNumber (udpSource 1280 255 (now (p .entry))) n k)) ⌝ }
+    ensures { λ r. ⌜ r ≡ flatValue (answerValue (valueByNumber (udpSource baseLimits (now (p .entry))) n k)) ⌝ }
 {
     flat_value(lookup::value_in_datagram(p, n, k))
 }
 
 #[no_mangle]
 pub extern "C" fn brundilope_id_in_packet(p: &[u8], n: usize, id: u16) -> ValueC
-    ensures { λ r. ⌜ r ≡ flatValue (answerValue (valueById (tcpSource 1280 255 (now (p .entry))) n id)) ⌝ }
+    ensures { λ r. ⌜ r ≡ flatValue (answerValue (valueById (tcpSource baseLimits (now (p .entry))) n id)) ⌝ }
 {
     flat_value(lookup::id_in_packet(p, n, id))
 }
 
 #[no_mangle]
 pub extern "C" fn brundilope_id_in_datagram(p: &[u8], n: usize, id: u16) -> ValueC
-    ensures { λ r. ⌜ r ≡ flatValue (answerValue (valueById (udpSource 1280 255 (now (p .entry))) n id)) ⌝ }
+    ensures { λ r. ⌜ r ≡ flatValue (answerValue (valueById (udpSource baseLimits (now (p .entry))) n id)) ⌝ }
 {
     flat_value(lookup::id_in_datagram(p, n, id))
 }
 
 #[no_mangle]
 pub extern "C" fn brundilope_last_known(newer: &[u8], older: &[u8], id: u16) -> KnownC
-    ensures { λ r. ⌜ r ≡ flatKnown (answerKnown (lastKnown id (tcpSource 1280 255 (now (newer .entry))) (tcpSource 1280 255 (now (older .entry))))) ⌝ }
+    ensures { λ r. ⌜ r ≡ flatKnown (answerKnown (lastKnown id (tcpSource baseLimits (now (newer .entry))) (tcpSource baseLimits (now (older .entry))))) ⌝ }
 {
     match lookup::last_known(newer, older, id) {
         KnownAnswer::Found { older: past, value } => KnownC {
@@ -388,24 +389,24 @@ pub extern "C" fn brundilope_last_known(newer: &[u8], older: &[u8], id: u16) -> 
 
 #[no_mangle]
 pub extern "C" fn brundilope_form_of_packet(p: &[u8], out: &mut [u8]) -> WrittenC
-    ensures answer { λ r. ⌜ r ≡ flatWritten (writing (formOfPacket 1280 255 (now (p .entry))) (now (out .entry))) ⌝ }
-    ensures buffer { λ r. ⌜ now (out .exit) ≡ leaving (formOfPacket 1280 255 (now (p .entry))) (now (out .entry)) ⌝ }
+    ensures answer { λ r. ⌜ r ≡ flatWritten (writing (formOfPacket baseLimits (now (p .entry))) (now (out .entry))) ⌝ }
+    ensures buffer { λ r. ⌜ now (out .exit) ≡ leaving (formOfPacket baseLimits (now (p .entry))) (now (out .entry)) ⌝ }
 {
     flat_written(form::form_of_packet(p, out))
 }
 
 #[no_mangle]
 pub extern "C" fn brundilope_form_of_datagram(p: &[u8], out: &mut [u8]) -> WrittenC
-    ensures answer { λ r. ⌜ r ≡ flatWritten (writing (formOfDatagram 1280 255 (now (p .entry))) (now (out .entry))) ⌝ }
-    ensures buffer { λ r. ⌜ now (out .exit) ≡ leaving (formOfDatagram 1280 255 (now (p .entry))) (now (out .entry)) ⌝ }
+    ensures answer { λ r. ⌜ r ≡ flatWritten (writing (formOfDatagram baseLimits (now (p .entry))) (now (out .entry))) ⌝ }
+    ensures buffer { λ r. ⌜ now (out .exit) ≡ leaving (formOfDatagram baseLimits (now (p .entry))) (now (out .entry)) ⌝ }
 {
     flat_written(form::form_of_datagram(p, out))
 }
 
 #[no_mangle]
 pub extern "C" fn brundilope_packet_of_form(f: &[u8], out: &mut [u8]) -> WrittenC
-    ensures answer { λ r. ⌜ r ≡ flatWritten (writing (packetOfForm 1280 255 (now (f .entry))) (now (out .entry))) ⌝ }
-    ensures buffer { λ r. ⌜ now (out .exit) ≡ leaving (packetOfForm 1280 255 (now (f .entry))) (now (out .entry)) ⌝ }
+    ensures answer { λ r. ⌜ r ≡ flatWritten (writing (packetOfForm baseLimits (now (f .entry))) (now (out .entry))) ⌝ }
+    ensures buffer { λ r. ⌜ now (out .exit) ≡ leaving (packetOfForm baseLimits (now (f .entry))) (now (out .entry)) ⌝ }
 {
     flat_written(rebuild::packet_of_form(f, out))
 }

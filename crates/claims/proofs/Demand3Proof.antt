@@ -5,6 +5,8 @@ use mathlib.Core.Path.{_≡_, sym, ap, ap₂, _∙_, subst₂}
 use mathlib.Core.List.{List, [], _∷_}
 use lib.ListN.{length}
 use lib.Dec.{lit<}
+use Rattle.wire.specs.declared.Limits.{Limits}
+use Rattle.wire.specs.Limits.{baseLimits}
 use Rattle.wire.specs.Sequences.{All}
 use Rattle.wire.proofs.Placed.{between-whole}
 use Rattle.checksum.specs.Bits.{differing}
@@ -21,27 +23,27 @@ use Rattle.tlv.specs.Form.{form}
 use Rattle.tlv.proofs.PacketOfLaws.{form-unique}
 use Rattle.claims.specs.Demand3.{Accepted, isData, isCommand, AgreeBut, NeverTakenForEachOther}
 
-module _ (largest longest : ℕ) where
-  framing : (d p : List ℕ) → FrameRules largest d → p ≡ framed d → IsFrame p
+module _ (limits : Limits) where
+  framing : (d p : List ℕ) → FrameRules (limits .largest) d → p ≡ framed d → IsFrame p
   framing d p h e = record { field = d; bytes = h .bytes; counted = h .counted; whole = e }
 
   -- whatever is accepted is a frame
-  is-frame : (p : List ℕ) → Accepted largest longest p → IsFrame p
+  is-frame : (p : List ℕ) → Accepted limits p → IsFrame p
   unfolding packetBytes
   is-frame p (isData a k) = framing (dataBytes a) p (k .frame) (k .whole)
   is-frame p (isCommand c k) = framing (commandField (k .row) c) p (k .frame) (k .whole)
 
-  all-frames : (ps : List (List ℕ)) → All (Accepted largest longest) ps → All IsFrame ps
+  all-frames : (ps : List (List ℕ)) → All (Accepted limits) ps → All IsFrame ps
   all-frames [] h = tt
   all-frames (p ∷ ps) h = (is-frame p (h .0), all-frames ps (h .1))
 
-by-form : (largest longest : ℕ) (p q : List ℕ) → longest < 256 ^ 2 → (a b : AvlData) → DataPacket largest longest a p → DataPacket largest longest b q
+by-form : (limits : Limits) (p q : List ℕ) → (limits .longest) < 256 ^ 2 → (a b : AvlData) → DataPacket limits a p → DataPacket limits b q
     → form a ≡ form b → p ≡ q
-by-form largest longest p q l a b f g e = f .whole ∙ ap packetBytes (form-unique longest longest a b l l (f .rules) (g .rules) e) ∙ sym (g .whole)
+by-form limits p q l a b f g e = f .whole ∙ ap packetBytes (form-unique (limits .longest) (limits .longest) a b l l (f .rules) (g .rules) e) ∙ sym (g .whole)
 
-by-fields : (largest : ℕ) (p q : List ℕ) (c e : Command) → CommandPacket largest c p → CommandPacket largest e q
+by-fields : (limits : Limits) (p q : List ℕ) (c e : Command) → CommandPacket limits c p → CommandPacket limits e q
     → c .codec ≡ e .codec → c .type ≡ e .type → c .imei ≡ e .imei → c .text ≡ e .text → p ≡ q
-by-fields largest p q c e f g codec type imei text =
+by-fields limits p q c e f g codec type imei text =
     let same : c ≡ e = λ i. record { codec = codec i; type = type i; imei = imei i; text = text i } in
     let row : f .row ≡ g .row = layout-unique (c .codec) (f .rules .layout) (rw (sym codec) at (g .rules .layout)) in
     f .whole ∙ ap₂ (λ (l : Layout) (x : Command). framed (commandField l x)) row same ∙ sym (g .whole)
@@ -63,18 +65,18 @@ not-nearby p q f g e l i h =
     (subst₂ (AgreeBut i) (the-field p f) (the-field q g) h)
     ∙ sym (the-field q g)
 
-pub demand-3 : (largest longest : ℕ) → longest < 256 ^ 2 → NeverTakenForEachOther largest longest
-demand-3 largest longest l p q ps qs h k hs ks =
-    let f = is-frame largest longest p h in
-    let g = is-frame largest longest q k in
+pub demand-3 : (limits : Limits) → (limits .longest) < 256 ^ 2 → NeverTakenForEachOther limits
+demand-3 limits l p q ps qs h k hs ks =
+    let f = is-frame limits p h in
+    let g = is-frame limits q k in
     record {
-      byForm = by-form largest longest p q l;
-      byFields = by-fields largest p q;
+      byForm = by-form limits p q l;
+      byFields = by-fields limits p q;
       evenly = evenly p q f g;
       notNearby = not-nearby p q f g;
-      inOneWay = one-way ps qs (all-frames largest longest ps hs) (all-frames largest longest qs ks);
+      inOneWay = one-way ps qs (all-frames limits ps hs) (all-frames limits qs ks);
     }
 
 -- the base's limits
-pub demand-3-base : NeverTakenForEachOther 1280 255
-demand-3-base = demand-3 1280 255 (lit< tt)
+pub demand-3-base : NeverTakenForEachOther baseLimits
+demand-3-base = demand-3 baseLimits (lit< tt)

@@ -3,8 +3,9 @@ use Prim.Native.Nat.{ℕ}
 use mathlib.Core.Path.{_≡_}
 use mathlib.Core.List.{List, [], _∷_}
 use lib.ListN.{set}
+use Rattle.wire.specs.Limits.{baseLimits}
 use Rattle.wire.specs.Sequences.{All}
-use Rattle.wire.specs.Answers.{Answer, accepted, refused, onAccepted}
+use Rattle.wire.specs.Answers.{Answer, accepted, refused, onAccepted, refusal}
 use Rattle.command.specs.Commands.{readCommand}
 use Rattle.datagram.specs.Datagrams.{udpAcknowledgement}
 use Rattle.tlv.specs.PacketOf.{formOfPacket, formOfDatagram}
@@ -30,7 +31,7 @@ getio =
 
 -- a command's codec, type, IMEI and text
 unfoldable pub commandFields : List ℕ → Answer (List ℕ)
-commandFields p = onAccepted (readCommand 1280 p) (λ c. accepted (c .codec ∷ c .type ∷ c .imei ∷ c .text))
+commandFields p = onAccepted (readCommand baseLimits p) (λ c. accepted (c .codec ∷ c .type ∷ c .imei ∷ c .text))
 
 -- what is asked, and what the sheet says
 pub record Row : Type 0 where
@@ -39,20 +40,20 @@ pub record Row : Type 0 where
 
 unfoldable pub sheet : List Row
 sheet =
-    record { asked = formOfDatagram 1280 255 sample; says = accepted sampleForm }
-    ∷ record { asked = udpAcknowledgement 1280 255 sample; says = accepted sampleAcknowledgement }
-    ∷ record { asked = formOfDatagram 1280 255 (set sample 1 0x37); says = refused 4 0 }
-    ∷ record { asked = formOfDatagram 1280 255 (set sample 57 2); says = refused 7 0 }
-    ∷ record { asked = formOfDatagram 1280 255 (set sample 33 3); says = refused 10 0 }
-    ∷ record { asked = formOfDatagram 1280 255 (set sample 50 2); says = refused 9 0 }
-    ∷ record { asked = formOfDatagram 1280 255 (set sample 51 2); says = refused 8 0 }
-    ∷ record { asked = formOfDatagram 1280 255 (set (set sample 24 2) 57 2); says = refused 8 1 }
+    record { asked = formOfDatagram baseLimits sample; says = accepted sampleForm }
+    ∷ record { asked = udpAcknowledgement baseLimits sample; says = accepted sampleAcknowledgement }
+    ∷ record { asked = formOfDatagram baseLimits (set sample 1 0x37); says = refused (refusal 4) }
+    ∷ record { asked = formOfDatagram baseLimits (set sample 57 2); says = refused (refusal 7) }
+    ∷ record { asked = formOfDatagram baseLimits (set sample 33 3); says = refused (refusal 10) }
+    ∷ record { asked = formOfDatagram baseLimits (set sample 50 2); says = refused (refusal 9) }
+    ∷ record { asked = formOfDatagram baseLimits (set sample 51 2); says = refused (refusal 8) }
+    ∷ record { asked = formOfDatagram baseLimits (set (set sample 24 2) 57 2); says = refused (record { number = 8; index = 1 }) }
     ∷ record { asked = commandFields getio; says = accepted (0x0C ∷ 0x05 ∷ 0 ∷ 0x67 ∷ 0x65 ∷ 0x74 ∷ 0x69 ∷ 0x6F ∷ []) }
-    ∷ record { asked = commandFields (set getio 24 0xCA); says = refused 5 0 }
-    ∷ record { asked = formOfPacket 1280 255 []; says = refused 1 0 }
-    ∷ record { asked = formOfPacket 1280 255 (0 ∷ 0 ∷ 0 ∷ 0 ∷ 0 ∷ 0 ∷ 0 ∷ 0 ∷ []); says = refused 3 0 }
-    ∷ record { asked = formOfPacket 1280 255 (0 ∷ 0 ∷ 0 ∷ 0 ∷ 0 ∷ 0 ∷ 0x04 ∷ 0xF5 ∷ []); says = refused 3 0 }
-    ∷ record { asked = formOfPacket 1280 255 (0 ∷ 0 ∷ 0 ∷ 0 ∷ 0 ∷ 0 ∷ 0x04 ∷ 0xF4 ∷ []); says = refused 4 0 }
+    ∷ record { asked = commandFields (set getio 24 0xCA); says = refused (refusal 5) }
+    ∷ record { asked = formOfPacket baseLimits []; says = refused (refusal 1) }
+    ∷ record { asked = formOfPacket baseLimits (0 ∷ 0 ∷ 0 ∷ 0 ∷ 0 ∷ 0 ∷ 0 ∷ 0 ∷ []); says = refused (refusal 3) }
+    ∷ record { asked = formOfPacket baseLimits (0 ∷ 0 ∷ 0 ∷ 0 ∷ 0 ∷ 0 ∷ 0x04 ∷ 0xF5 ∷ []); says = refused (refusal 3) }
+    ∷ record { asked = formOfPacket baseLimits (0 ∷ 0 ∷ 0 ∷ 0 ∷ 0 ∷ 0 ∷ 0x04 ∷ 0xF4 ∷ []); says = refused (refusal 4) }
     ∷ []
 
 -- every row is answered as the sheet says

@@ -3,6 +3,7 @@ use Prim.Native.Nat.{ℕ, suc, _%_}
 use mathlib.Core.Path.{_≡_}
 use mathlib.Core.List.{List}
 use lib.ListN.{length, getD}
+use Rattle.wire.specs.declared.Limits.{Limits}
 use Rattle.wire.specs.Sequences.{joined, All}
 use Rattle.checksum.specs.Bits.{differing}
 use Rattle.frame.specs.Frame.{fieldOf, lastFour}
@@ -11,20 +12,20 @@ use Rattle.packet.specs.DataPackets.{DataPacket}
 use Rattle.command.specs.Commands.{Command, CommandPacket}
 use Rattle.tlv.specs.Form.{form}
 
--- accepted under the rules: a data packet or a command, of at most `largest` bytes, its records of at most `longest`
-pub data Accepted (largest longest : ℕ) (p : List ℕ) : Type 0 where
-  isData : (a : AvlData) → DataPacket largest longest a p → Accepted largest longest p
-  isCommand : (c : Command) → CommandPacket largest c p → Accepted largest longest p
+-- accepted under the rules, within limits: a data packet or a command
+pub data Accepted (limits : Limits) (p : List ℕ) : Type 0 where
+  isData : (a : AvlData) → DataPacket limits a p → Accepted limits p
+  isCommand : (c : Command) → CommandPacket limits c p → Accepted limits p
 
 -- they differ at `i` and `i + 1` at most
 abbrev pub AgreeBut : ℕ → List ℕ → List ℕ → Type 0
 AgreeBut i d e = (j : ℕ) → (j ≡ i → ⊥) → (j ≡ suc i → ⊥) → getD d j 0 ≡ getD e j 0
 
-pub record Told (largest longest : ℕ) (p q : List ℕ) (ps qs : List (List ℕ)) : Type 0 where
+pub record Told (limits : Limits) (p q : List ℕ) (ps qs : List (List ℕ)) : Type 0 where
   -- data packets with the same TLV form are the same bytes
-  pub byForm : (a b : AvlData) → DataPacket largest longest a p → DataPacket largest longest b q → form a ≡ form b → p ≡ q
+  pub byForm : (a b : AvlData) → DataPacket limits a p → DataPacket limits b q → form a ≡ form b → p ≡ q
   -- commands with the same codec, type, IMEI and text are the same bytes
-  pub byFields : (c e : Command) → CommandPacket largest c p → CommandPacket largest e q
+  pub byFields : (c e : Command) → CommandPacket limits c p → CommandPacket limits e q
       → c .codec ≡ e .codec → c .type ≡ e .type → c .imei ≡ e .imei → c .text ≡ e .text → p ≡ q
   -- equally long packets never differ in an odd number of bits
   pub evenly : length p ≡ length q → differing p q % 2 ≡ 0
@@ -34,7 +35,7 @@ pub record Told (largest longest : ℕ) (p q : List ℕ) (ps qs : List (List ℕ
   pub inOneWay : joined (λ x. x) ps ≡ joined (λ x. x) qs → ps ≡ qs
 
 -- any two packets so accepted and any two lists of such packets, whatever their codecs
-abbrev pub NeverTakenForEachOther : ℕ → ℕ → Type 0
-NeverTakenForEachOther largest longest =
-    (p q : List ℕ) (ps qs : List (List ℕ)) → Accepted largest longest p → Accepted largest longest q
-    → All (Accepted largest longest) ps → All (Accepted largest longest) qs → Told largest longest p q ps qs
+abbrev pub NeverTakenForEachOther : Limits → Type 0
+NeverTakenForEachOther limits =
+    (p q : List ℕ) (ps qs : List (List ℕ)) → Accepted limits p → Accepted limits q
+    → All (Accepted limits) ps → All (Accepted limits) qs → Told limits p q ps qs

@@ -3,8 +3,9 @@ use Prim.Native.Nat.{ℕ}
 use mathlib.Core.Path.{_≡_}
 use mathlib.Core.List.{List, [], _∷_}
 use lib.ListN.{length}
+use Rattle.wire.specs.Limits.{baseLimits}
 use Rattle.wire.specs.Sequences.{All}
-use Rattle.wire.specs.Answers.{Answer, accepted, refused, onAccepted}
+use Rattle.wire.specs.Answers.{Answer, accepted, refused, onAccepted, refusal}
 use Rattle.packet.specs.DataPackets.{readPacket}
 use Rattle.login.specs.Login.{readLogin}
 use Rattle.datagram.specs.Datagrams.{readDatagram}
@@ -123,7 +124,7 @@ codec15 =
 -- ---- what is read of them
 
 unfoldable pub packetFields : List ℕ → Answer (List ℕ)
-packetFields p = onAccepted (readPacket 1280 255 p) (λ a. accepted (a .codec ∷ length (a .records) ∷ []))
+packetFields p = onAccepted (readPacket baseLimits p) (λ a. accepted (a .codec ∷ length (a .records) ∷ []))
 
 unfoldable pub loginFields : List ℕ → Answer (List ℕ)
 loginFields p = onAccepted (readLogin p) (λ imei. accepted (imei ∷ []))
@@ -131,7 +132,7 @@ loginFields p = onAccepted (readLogin p) (λ imei. accepted (imei ∷ []))
 -- codec, count, packet ID, unused byte, AVL packet ID, IMEI
 unfoldable pub datagramFields : List ℕ → Answer (List ℕ)
 datagramFields p =
-    onAccepted (readDatagram 1280 255 p)
+    onAccepted (readDatagram baseLimits p)
     (λ g. accepted
     (g .payload .codec ∷ length (g .payload .records) ∷ g .header .packet ∷ g .header .unused ∷ g .header .avl ∷ g .header .imei ∷ []))
 
@@ -145,8 +146,8 @@ examples =
     ∷ record { asked = packetFields codec8eTcp; says = accepted (0x8E ∷ 1 ∷ []) }
     ∷ record { asked = datagramFields codec8eUdp; says = accepted (0x8E ∷ 1 ∷ 0xCAFE ∷ 1 ∷ 7 ∷ 352093086403655 ∷ []) }
     ∷ record { asked = packetFields codec16Tcp; says = accepted (0x10 ∷ 2 ∷ []) }
-    ∷ record { asked = datagramFields codec16UdpPrinted; says = refused 4 0 }
-    ∷ record { asked = datagramFields codec16UdpLengthRepaired; says = refused 7 0 }
+    ∷ record { asked = datagramFields codec16UdpPrinted; says = refused (refusal 4) }
+    ∷ record { asked = datagramFields codec16UdpLengthRepaired; says = refused (refusal 7) }
     ∷ record { asked = commandFields codec12Getinfo; says = accepted (0x0C ∷ 0x05 ∷ 0 ∷ 0x67 ∷ 0x65 ∷ 0x74 ∷ 0x69 ∷ 0x6E ∷ 0x66 ∷ 0x6F ∷ []) }
     ∷ record {
       asked = commandFields codec12GetioResponse;
@@ -164,9 +165,9 @@ examples =
           ∷ 0x36 ∷ 0x31 ∷ 0x20 ∷ 0x53 ∷ 0x50 ∷ 0x43 ∷ 0x3A ∷ 0x31 ∷ 0x28 ∷ 0x30 ∷ 0x29 ∷ 0x20 ∷ 0x41 ∷ 0x58 ∷ 0x4C ∷ 0x3A ∷ 0x30 ∷ 0x20 ∷ 0x4F ∷ 0x42 ∷ 0x44 ∷ 0x3A ∷ 0x30 ∷ 0x20
           ∷ 0x42 ∷ 0x4C ∷ 0x3A ∷ 0x31 ∷ 0x2E ∷ 0x36 ∷ 0x20 ∷ 0x42 ∷ 0x54 ∷ 0x3A ∷ 0x34 ∷ []);
     }
-    ∷ record { asked = commandFields codec14NackPrinted; says = refused 5 0 }
+    ∷ record { asked = commandFields codec14NackPrinted; says = refused (refusal 5) }
     ∷ record { asked = commandFields codec14NackImeiRepaired; says = accepted (0x0E ∷ 0x11 ∷ 352093081452251 ∷ []) }
-    ∷ record { asked = commandFields codec15; says = refused 6 0 }
+    ∷ record { asked = commandFields codec15; says = refused (refusal 6) }
     ∷ []
 
 abbrev pub AsDocument006Has : Type 0

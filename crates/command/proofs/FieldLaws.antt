@@ -8,7 +8,7 @@ use borrow.Author.Tests.{eq-eqb, ne-eqb}
 use Rattle.wire.specs.declared.Fault.{Fault}
 use Rattle.wire.specs.Numbers.{Bytes}
 use Rattle.wire.specs.Reading.{Read, got, bad}
-use Rattle.wire.specs.Answers.{accepted, refused, check, told, onAccepted}
+use Rattle.wire.specs.Answers.{accepted, refused, check, told, onAccepted, refusal, refusalOf}
 use Rattle.wire.specs.Envelope.{codecOf, firstCount, lastCount, inner}
 use Rattle.wire.proofs.Enclosed.{bytes-inner}
 use Rattle.wire.proofs.Accepting.{told-got}
@@ -31,17 +31,17 @@ body-stopped (got c n) e = absurd (let z : _≡_ {A = ℕ} 0 1 = cc in omega ari
 body-stopped (bad y) e = ap bad (cc)
 
 module _ (d : List ℕ) where
-  pub codec-unknown : layoutOf (codecOf d) ≡ refused 6 0 → readField d ≡ refused 6 0
+  pub codec-unknown : layoutOf (codecOf d) ≡ refused (refusal 6) → readField d ≡ refused (refusal 6)
   unfolding readField onAccepted
   codec-unknown e = simp e
 
   module _ {l : Layout} (row : layoutOf (codecOf d) ≡ accepted l) where
-    pub first-wrong : (firstCount d ≡ 1 → ⊥) → readField d ≡ refused 7 0
+    pub first-wrong : (firstCount d ≡ 1 → ⊥) → readField d ≡ refused (refusal 7)
     unfolding readField onAccepted check
     first-wrong e = simp (row, ne-eqb _ _ e)
 
     module _ (first : firstCount d ≡ 1) where
-      pub last-wrong : (lastCount d ≡ 1 → ⊥) → readField d ≡ refused 7 0
+      pub last-wrong : (lastCount d ≡ 1 → ⊥) → readField d ≡ refused (refusal 7)
       unfolding readField onAccepted check
       last-wrong e = simp (row, eq-eqb _ _ first, ne-eqb _ _ e)
 
@@ -61,6 +61,6 @@ module _ (d : List ℕ) where
             let read : readField d ≡ accepted c = field-walk ∙ told-got _ (k .2) in
             simp (read, codec, row, k .3, k .4, k .5)
 
-        pub field-stopped : {x : Fault} → bodyAs (commandBody l (length (inner d)) (inner d) 0) ≡ Stopped x → answered (readField d) ≡ refused (x .number) (x .index)
+        pub field-stopped : {x : Fault} → bodyAs (commandBody l (length (inner d)) (inner d) 0) ≡ Stopped x → answered (readField d) ≡ refused (refusalOf x)
         unfolding answered told onAccepted
         field-stopped e = simp (field-walk, body-stopped _ e)

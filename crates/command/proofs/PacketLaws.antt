@@ -3,6 +3,7 @@ use Prim.Native.Nat.{ℕ}
 use mathlib.Core.Path.{_≡_, ap, _∙_}
 use mathlib.Core.Logic.{_↔_}
 use mathlib.Core.List.{List}
+use Rattle.wire.specs.declared.Limits.{Limits}
 use Rattle.wire.specs.Numbers.{Bytes}
 use Rattle.wire.specs.Answers.{accepted}
 use Rattle.wire.proofs.Accepting.{onAccepted-accepted, onAccepted-passed}
@@ -11,25 +12,25 @@ use Rattle.frame.proofs.FrameLaws.{frame-exact, frame-complete}
 use Rattle.command.specs.Commands.{Command, commandField, CommandPacket, readField, readCommand}
 use Rattle.command.proofs.CommandLaws.{field-sound, field-complete}
 
-command-sound : (largest : ℕ) (p : List ℕ) (c : Command) → Bytes p → readCommand largest p ≡ accepted c → CommandPacket largest c p
+command-sound : (limits : Limits) (p : List ℕ) (c : Command) → Bytes p → readCommand limits p ≡ accepted c → CommandPacket limits c p
 unfolding readCommand
-command-sound largest p c h e =
-    let i = onAccepted-accepted (unframe largest p) readField e in
-    let f = frame-exact largest p (i .0) h .0 (i .1) in
+command-sound limits p c h e =
+    let i = onAccepted-accepted (unframe (limits .largest) p) readField e in
+    let f = frame-exact (limits .largest) p (i .0) h .0 (i .1) in
     let k = field-sound (i .0) c (f .0 .bytes) (f .0 .least) (i .2) in
     record { row = k .0; rules = k .1 .0; frame = rw (k .1 .1) at (f .0); whole = f .1 ∙ ap framed (k .1 .1) }
 
-pub command-complete : (largest : ℕ) (p : List ℕ) (c : Command) → CommandPacket largest c p → readCommand largest p ≡ accepted c
+pub command-complete : (limits : Limits) (p : List ℕ) (c : Command) → CommandPacket limits c p → readCommand limits p ≡ accepted c
 unfolding readCommand
-command-complete largest p c k =
-    onAccepted-passed (unframe largest p) readField (ap (unframe largest) (k .whole) ∙ frame-complete largest (commandField (k .row) c) (k .frame))
+command-complete limits p c k =
+    onAccepted-passed (unframe (limits .largest) p) readField (ap (unframe (limits .largest)) (k .whole) ∙ frame-complete (limits .largest) (commandField (k .row) c) (k .frame))
     ∙ field-complete (k .row) c (k .rules) (k .frame .counted)
 
-pub command-exact : (largest : ℕ) (p : List ℕ) (c : Command) → Bytes p → (readCommand largest p ≡ accepted c) ↔ CommandPacket largest c p
-command-exact largest p c h = (command-sound largest p c h, command-complete largest p c)
+pub command-exact : (limits : Limits) (p : List ℕ) (c : Command) → Bytes p → (readCommand limits p ≡ accepted c) ↔ CommandPacket limits c p
+command-exact limits p c h = (command-sound limits p c h, command-complete limits p c)
 
-pub command-unique : (largest : ℕ) (p : List ℕ) (c e : Command) → CommandPacket largest c p → CommandPacket largest e p → c ≡ e
-command-unique largest p c e f g =
-    let one = command-complete largest p c f in
-    let other = command-complete largest p e g in
+pub command-unique : (limits : Limits) (p : List ℕ) (c e : Command) → CommandPacket limits c p → CommandPacket limits e p → c ≡ e
+command-unique limits p c e f g =
+    let one = command-complete limits p c f in
+    let other = command-complete limits p e g in
     cc

@@ -7,6 +7,7 @@ use mathlib.Core.List.{List, [], _∷_}
 use lib.ListN.{length}
 use lib.Dec.{eqb, leb, lit<}
 use borrow.Author.Tests.{le-leb, leb-true, eq-eqb, eqb-true}
+use Rattle.wire.specs.declared.Limits.{Limits}
 use Rattle.wire.specs.Numbers.{Bytes, digits, be, pick, valueFrom}
 use Rattle.wire.specs.Sequences.{joined, All}
 use Rattle.wire.specs.Reading.{Read, here, require, number, repeat}
@@ -94,11 +95,11 @@ bytes-field l c h =
 -- ---- both ways
 
 -- what is written is read, with the same codec, type, IMEI and text
-pub written-read : (largest codec type : ℕ) (imei text p : List ℕ) → largest ≤ 256 ^ 4 → Bytes text → commandBytes largest codec type imei text ≡ accepted p
+pub written-read : (limits : Limits) (codec type : ℕ) (imei text p : List ℕ) → limits .largest ≤ 256 ^ 4 → Bytes text → commandBytes limits codec type imei text ≡ accepted p
     → (l : Layout) × (n : ℕ) × (layoutOf codec ≡ accepted l) × (givenImei l imei ≡ accepted n)
-    × (readCommand largest p ≡ accepted (record { codec = codec; type = type; imei = n; text = text }))
+    × (readCommand limits p ≡ accepted (record { codec = codec; type = type; imei = n; text = text }))
 unfolding commandBytes packetOf
-written-read largest codec type imei text p limit h e =
+written-read limits codec type imei text p limit h e =
     let row = onAccepted-accepted (layoutOf codec) _ e in
     let l = row .0 in
     let kind = check-accepted (member type (types l)) 13 _ (row .2) in
@@ -106,14 +107,14 @@ written-read largest codec type imei text p limit h e =
     let n = given .0 in
     let c : Command = record { codec = codec; type = type; imei = n; text = text } in
     let empty = check-accepted (mismatch type text) 14 _ (given .2) in
-    let short = check-accepted (leb (length (commandField l c) + 12) largest) 14 _ (empty .1) in
-    let most : length (commandField l c) + 12 ≤ largest = leb-true _ _ (short .0) in
+    let short = check-accepted (leb (length (commandField l c) + 12) (limits .largest)) 14 _ (empty .1) in
+    let most : length (commandField l c) + 12 ≤ (limits .largest) = leb-true _ _ (short .0) in
     let whole : p ≡ framed (commandField l c) = cc in (
       l,
       n,
       row .1,
       given .1,
-      command-complete largest p c (record {
+      command-complete limits p c (record {
         row = l;
         rules = record {
           layout = row .1;
@@ -127,14 +128,14 @@ written-read largest codec type imei text p limit h e =
       }),
     )
 
-pub read-written : (largest : ℕ) (c : Command) (p : List ℕ) (k : CommandPacket largest c p)
-    → commandBytes largest (c .codec) (c .type) (joined asciiDigit (digits 10 (2 * k .row .imei - 1) (c .imei))) (c .text) ≡ accepted p
+pub read-written : (limits : Limits) (c : Command) (p : List ℕ) (k : CommandPacket limits c p)
+    → commandBytes limits (c .codec) (c .type) (joined asciiDigit (digits 10 (2 * k .row .imei - 1) (c .imei))) (c .text) ≡ accepted p
 unfolding commandBytes packetOf
-read-written largest c p k =
+read-written limits c p k =
     let l = k .row in
     onAccepted-passed (layoutOf (c .codec)) _ (k .rules .layout)
     ∙ check-passed (member (c .type) (types l)) 13 _ (k .rules .typeAllowed)
     ∙ onAccepted-passed (givenImei l (joined asciiDigit (digits 10 (2 * l .imei - 1) (c .imei)))) _ (given-digits l (c .imei) (k .rules .imeiRange))
     ∙ check-passed (mismatch (c .type) (c .text)) 14 _ (mismatch-complete (c .type) (c .text) (k .rules .mismatchEmpty))
-    ∙ check-passed (leb (length (commandField l c) + 12) largest) 14 _ (le-leb _ _ (k .frame .most))
+    ∙ check-passed (leb (length (commandField l c) + 12) (limits .largest)) 14 _ (le-leb _ _ (k .frame .most))
     ∙ ap accepted (sym (k .whole))

@@ -2,8 +2,9 @@
 use mathlib.Core.Path.{_≡_, refl}
 use mathlib.Core.List.{List, [], _∷_}
 use Prim.Native.Nat.{ℕ}
-use Rattle.command.specs.Commands.{Command, commandField, commandBody, readField, readCommand, answerCommand, textView}
-use Rattle.wire.specs.Answers.{accepted, refused}
+use Rattle.command.specs.Commands.{commandField, commandBody, readField, readCommand, answerCommand, textView}
+use Rattle.wire.specs.Limits.{baseLimits}
+use Rattle.wire.specs.Answers.{accepted, refused, refusal}
 use Rattle.wire.specs.Answers.{onAccepted, told, check}
 use Rattle.wire.specs.Envelope.{enclosed, codecOf, firstCount, lastCount, inner}
 use Rattle.wire.specs.Imei.{imeiText, textDigit, readImei, packed, pairUpTo, readPacked}
@@ -19,13 +20,13 @@ getver =
     0x00 ∷ 0x00 ∷ 0x00 ∷ 0x00 ∷ 0x00 ∷ 0x00 ∷ 0x00 ∷ 0x16 ∷ 0x0E ∷ 0x01 ∷ 0x05 ∷ 0x00 ∷ 0x00 ∷ 0x00 ∷ 0x0E ∷ 0x03 ∷ 0x52 ∷ 0x09 ∷ 0x30 ∷ 0x81 ∷ 0x45 ∷ 0x22 ∷ 0x51 ∷ 0x67
     ∷ 0x65 ∷ 0x74 ∷ 0x76 ∷ 0x65 ∷ 0x72 ∷ 0x01 ∷ 0x00 ∷ 0x00 ∷ 0xD2 ∷ 0xC1 ∷ []
 
-reads-codec14 : readCommand 1280 getver
+reads-codec14 : readCommand baseLimits getver
     ≡ accepted (record { codec = 0x0E; type = 0x05; imei = 352093081452251; text = 0x67 ∷ 0x65 ∷ 0x74 ∷ 0x76 ∷ 0x65 ∷ 0x72 ∷ [] })
 unfolding onAccepted told check enclosed codecOf firstCount lastCount inner imeiText textDigit readImei packed pairUpTo readPacked numberAt digits valueFrom littleAt le signed walked numbered andThen _>>=_ _>>_ pure here require span number bytes upTo repeat feedback shift shifts absorb crcFrom crc framed fieldLength fieldOf unframe lastFour framing commandField commandBody readField readCommand answerCommand textView types layouts findLayout layoutOf givenImei packetOf commandBytes getver
 reads-codec14 = refl
 
 -- writing it gives the same bytes
-writes-codec14 : commandBytes 1280 0x0E 0x05 (0x33 ∷ 0x35 ∷ 0x32 ∷ 0x30 ∷ 0x39 ∷ 0x33 ∷ 0x30 ∷ 0x38 ∷ 0x31 ∷ 0x34 ∷ 0x35 ∷ 0x32 ∷ 0x32 ∷ 0x35 ∷ 0x31 ∷ []) (0x67 ∷ 0x65 ∷ 0x74 ∷ 0x76 ∷ 0x65 ∷ 0x72 ∷ []) ≡ accepted getver
+writes-codec14 : commandBytes baseLimits 0x0E 0x05 (0x33 ∷ 0x35 ∷ 0x32 ∷ 0x30 ∷ 0x39 ∷ 0x33 ∷ 0x30 ∷ 0x38 ∷ 0x31 ∷ 0x34 ∷ 0x35 ∷ 0x32 ∷ 0x32 ∷ 0x35 ∷ 0x31 ∷ []) (0x67 ∷ 0x65 ∷ 0x74 ∷ 0x76 ∷ 0x65 ∷ 0x72 ∷ []) ≡ accepted getver
 unfolding onAccepted told check enclosed codecOf firstCount lastCount inner imeiText textDigit readImei packed pairUpTo readPacked numberAt digits valueFrom littleAt le signed walked numbered andThen _>>=_ _>>_ pure here require span number bytes upTo repeat feedback shift shifts absorb crcFrom crc framed fieldLength fieldOf unframe lastFour framing commandField commandBody readField readCommand answerCommand textView types layouts findLayout layoutOf givenImei packetOf commandBytes getver
 writes-codec14 = refl
 
@@ -34,7 +35,7 @@ mismatch12 : List ℕ
 mismatch12 =
     0x00 ∷ 0x00 ∷ 0x00 ∷ 0x00 ∷ 0x00 ∷ 0x00 ∷ 0x00 ∷ 0x08 ∷ 0x0C ∷ 0x01 ∷ 0x11 ∷ 0x00 ∷ 0x00 ∷ 0x00 ∷ 0x00 ∷ 0x01 ∷ 0x00 ∷ 0x00 ∷ 0x14 ∷ 0xD2 ∷ []
 
-refuses-type : readCommand 1280 mismatch12 ≡ refused 13 0
+refuses-type : readCommand baseLimits mismatch12 ≡ refused (refusal 13)
 unfolding onAccepted told check enclosed codecOf firstCount lastCount inner imeiText textDigit readImei packed pairUpTo readPacked numberAt digits valueFrom littleAt le signed walked numbered andThen _>>=_ _>>_ pure here require span number bytes upTo repeat feedback shift shifts absorb crcFrom crc framed fieldLength fieldOf unframe lastFour framing commandField commandBody readField readCommand answerCommand textView types layouts findLayout layoutOf givenImei packetOf commandBytes mismatch12
 refuses-type = refl
 
@@ -44,7 +45,7 @@ firstDigit =
     0x00 ∷ 0x00 ∷ 0x00 ∷ 0x00 ∷ 0x00 ∷ 0x00 ∷ 0x00 ∷ 0x10 ∷ 0x0E ∷ 0x01 ∷ 0x05 ∷ 0x00 ∷ 0x00 ∷ 0x00 ∷ 0x08 ∷ 0x13 ∷ 0x52 ∷ 0x09 ∷ 0x30 ∷ 0x81 ∷ 0x45 ∷ 0x22 ∷ 0x51 ∷ 0x01
     ∷ 0x00 ∷ 0x00 ∷ 0xE6 ∷ 0x75 ∷ []
 
-refuses-digit : readCommand 1280 firstDigit ≡ refused 15 0
+refuses-digit : readCommand baseLimits firstDigit ≡ refused (refusal 15)
 unfolding onAccepted told check enclosed codecOf firstCount lastCount inner imeiText textDigit readImei packed pairUpTo readPacked numberAt digits valueFrom littleAt le signed walked numbered andThen _>>=_ _>>_ pure here require span number bytes upTo repeat feedback shift shifts absorb crcFrom crc framed fieldLength fieldOf unframe lastFour framing commandField commandBody readField readCommand answerCommand textView types layouts findLayout layoutOf givenImei packetOf commandBytes firstDigit
 refuses-digit = refl
 
@@ -54,6 +55,6 @@ mismatchText =
     0x00 ∷ 0x00 ∷ 0x00 ∷ 0x00 ∷ 0x00 ∷ 0x00 ∷ 0x00 ∷ 0x11 ∷ 0x0E ∷ 0x01 ∷ 0x11 ∷ 0x00 ∷ 0x00 ∷ 0x00 ∷ 0x09 ∷ 0x03 ∷ 0x52 ∷ 0x09 ∷ 0x30 ∷ 0x81 ∷ 0x45 ∷ 0x22 ∷ 0x51 ∷ 0x41
     ∷ 0x01 ∷ 0x00 ∷ 0x00 ∷ 0x81 ∷ 0xC6 ∷ []
 
-refuses-text : readCommand 1280 mismatchText ≡ refused 14 0
+refuses-text : readCommand baseLimits mismatchText ≡ refused (refusal 14)
 unfolding onAccepted told check enclosed codecOf firstCount lastCount inner imeiText textDigit readImei packed pairUpTo readPacked numberAt digits valueFrom littleAt le signed walked numbered andThen _>>=_ _>>_ pure here require span number bytes upTo repeat feedback shift shifts absorb crcFrom crc framed fieldLength fieldOf unframe lastFour framing commandField commandBody readField readCommand answerCommand textView types layouts findLayout layoutOf givenImei packetOf commandBytes mismatchText
 refuses-text = refl

@@ -4,6 +4,8 @@ use native.Mathlib.Omega.{arith}
 use mathlib.Core.Path.{_≡_, refl, sym, ap, ap₂, _∙_}
 use mathlib.Core.List.{List, []}
 use lib.ListN.{length, take, drop}
+use Rattle.wire.specs.declared.Limits.{Limits}
+use Rattle.wire.specs.declared.Refusal.{Refusal}
 use Rattle.wire.specs.Numbers.{Bytes, digits, be}
 use Rattle.wire.specs.Envelope.{enclosed}
 use Rattle.wire.specs.Answers.{Answer, accepted, refused, onAccepted}
@@ -36,15 +38,15 @@ text-between l c p e =
     let start = ap (λ (n : ℕ). 15 + n) (length-packed (l .imei) (c .imei)) in
     between-moved start (h₃ .1 .size ∙ ap (λ (n : ℕ). n + length (c .text)) start) (h₃ .1)
 
-pub text-stands : (largest : ℕ) (p : List ℕ) (f : CommandFields) → Bytes p → answerCommand largest p ≡ accepted f
-    → (c : Command) × (readCommand largest p ≡ accepted c) × (take (f .size) (drop (f .offset) p) ≡ c .text) × (f .offset + f .size ≤ length p)
+pub text-stands : (limits : Limits) (p : List ℕ) (f : CommandFields) → Bytes p → answerCommand limits p ≡ accepted f
+    → (c : Command) × (readCommand limits p ≡ accepted c) × (take (f .size) (drop (f .offset) p) ≡ c .text) × (f .offset + f .size ≤ length p)
 unfolding answerCommand answered
-text-stands largest p f h e =
-    let read = onAccepted-accepted (readCommand largest p) _ e in
+text-stands limits p f h e =
+    let read = onAccepted-accepted (readCommand limits p) _ e in
     let c = read .0 in
     let row = onAccepted-accepted (layoutOf (c .codec)) _ (read .2) in
     let l = row .0 in
-    let k = command-exact largest p c h .0 (read .1) in
+    let k = command-exact limits p c h .0 (read .1) in
     let same : k .row ≡ l = layout-unique (c .codec) (k .rules .layout) (row .1) in
     let fields : _≡_ {A = CommandFields} (record { codec = c .codec; kind = c .type; imei = c .imei; offset = 15 + l .imei; size = length (c .text) }) f = cc in
     let offset : 15 + l .imei ≡ f .offset = ap (λ (x : CommandFields). x .offset) fields in
@@ -53,15 +55,15 @@ text-stands largest p f h e =
     (c, read .1, ap₂ (λ (n at : ℕ). take n (drop at p)) (sym size) (sym offset) ∙ between-is text, omega (arith, text .inside))
 
 -- a refusal of two steps of which the second never refuses is one of the first
-first-refused : {A B : Type 0} (r : Answer A) (f : A → Answer B) {n i : ℕ} → ((a : A) → r ≡ accepted a → (b : B) × (f a ≡ accepted b)) → onAccepted r f ≡ refused n i → r ≡ refused n i
+first-refused : {A B : Type 0} (r : Answer A) (f : A → Answer B) {x : Refusal} → ((a : A) → r ≡ accepted a → (b : B) × (f a ≡ accepted b)) → onAccepted r f ≡ refused x → r ≡ refused x
 unfolding onAccepted
 first-refused (accepted a) f h e = absurd (let k = h a refl in let z : _≡_ {A = ℕ} 0 1 = cc in omega arith)
-first-refused (refused m j) f h e = ap₂ refused (cc) (cc)
+first-refused (refused y) f h e = ap refused (cc)
 
 -- a refused packet has no text
-pub text-refused : (largest : ℕ) (p : List ℕ) {n i : ℕ} → Bytes p → answerCommand largest p ≡ refused n i → textView (readCommand largest p) ≡ []
+pub text-refused : (limits : Limits) (p : List ℕ) {x : Refusal} → Bytes p → answerCommand limits p ≡ refused x → textView (readCommand limits p) ≡ []
 unfolding answerCommand answered textView
-text-refused largest p h e =
-    ap textView (first-refused (readCommand largest p) _ (λ c r.
-    let k = command-exact largest p c h .0 r in
+text-refused limits p h e =
+    ap textView (first-refused (readCommand limits p) _ (λ c r.
+    let k = command-exact limits p c h .0 r in
     (_, onAccepted-passed (layoutOf (c .codec)) _ (k .rules .layout))) e)

@@ -5,6 +5,7 @@ use mathlib.Core.Bool.{Bool, true}
 use mathlib.Core.List.{List, [], _∷_}
 use lib.ListN.{length}
 use lib.Dec.{eqb, leb}
+use Rattle.wire.specs.declared.Limits.{Limits}
 use Rattle.wire.specs.Numbers.{Bytes, be, pick}
 use Rattle.wire.specs.Sequences.{fields}
 use Rattle.wire.specs.Envelope.{enclosed, codecOf, firstCount, lastCount, inner}
@@ -41,10 +42,10 @@ pub record CommandRules (l : Layout) (c : Command) : Type 0 where
   pub mismatchEmpty : c .type ≡ 0x11 → c .text ≡ []
 
 -- the packet `p` carries the command `c`
-pub record CommandPacket (largest : ℕ) (c : Command) (p : List ℕ) : Type 0 where
+pub record CommandPacket (limits : Limits) (c : Command) (p : List ℕ) : Type 0 where
   pub row : Layout
   pub rules : CommandRules row c
-  pub frame : FrameRules largest (commandField row c)
+  pub frame : FrameRules (limits .largest) (commandField row c)
   pub whole : p ≡ framed (commandField row c)
 
 -- ---- the judge
@@ -77,8 +78,8 @@ readField d =
     (λ l. check (eqb (firstCount d) 1) 7 (check (eqb (lastCount d) 1) 7 (told (commandBody l (length (inner d)) (inner d) 0))))
 
 -- 1 to 5, then 6, 7 and the walk
-unfoldable pub readCommand : ℕ → List ℕ → Answer Command
-readCommand largest p = onAccepted (unframe largest p) readField
+unfoldable pub readCommand : Limits → List ℕ → Answer Command
+readCommand limits p = onAccepted (unframe (limits .largest) p) readField
 
 -- ---- the result: codec, type, IMEI, and the text's offset from the input's start and length
 
@@ -88,16 +89,16 @@ answered r =
     (λ c. onAccepted (layoutOf (c .codec))
     (λ l. accepted (record { codec = c .codec; kind = c .type; imei = c .imei; offset = 15 + l .imei; size = length (c .text) })))
 
-unfoldable pub answerCommand : ℕ → List ℕ → Answer CommandFields
-answerCommand largest p = answered (readCommand largest p)
+unfoldable pub answerCommand : Limits → List ℕ → Answer CommandFields
+answerCommand limits p = answered (readCommand limits p)
 
 -- the view of the text, empty on every refusal
 unfoldable pub textView : Answer Command → List ℕ
 textView (accepted c) = c .text
-textView (refused number index) = []
+textView (refused r) = []
 
 -- ---- what the code's answer says
 
 unfoldable pub commandAs : CommandAnswer → Answer CommandFields
 commandAs (Accepted f) = accepted f
-commandAs (Refused r) = refused (r .number) (r .index)
+commandAs (Refused r) = refused r

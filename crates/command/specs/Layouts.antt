@@ -7,7 +7,7 @@ use Rattle.command.specs.declared.Layout.{Layout}
 use Rattle.command.specs.declared.Row.{Row}
 use Rattle.command.specs.declared.Row.the-variants.{Of, Unknown}
 use Rattle.wire.specs.Numbers.{pick}
-use Rattle.wire.specs.Answers.{Answer, accepted, refused}
+use Rattle.wire.specs.Answers.{Answer, accepted, refused, refusal}
 
 -- the message types of a row: 05 command, 06 response and, where it has it, 11 (the IMEI does not match)
 unfoldable pub types : Layout → List ℕ
@@ -18,7 +18,7 @@ layouts = record { codec = 0x0C; mismatch = false; imei = 0 } ∷ record { codec
 
 -- the first row with this codec, else 6
 unfoldable pub findLayout : ℕ → List Layout → Answer Layout
-findLayout codec [] = refused 6 0
+findLayout codec [] = refused (refusal 6)
 findLayout codec (l ∷ ls) = pick (eqb codec (l .codec)) (accepted l) (findLayout codec ls)
 
 unfoldable pub layoutOf : ℕ → Answer Layout
@@ -31,4 +31,4 @@ member x (y ∷ l) = pick (eqb x y) true (member x l)
 -- what the code's answer says: no row is 6
 unfoldable pub rowAs : Row → Answer Layout
 rowAs (Of l) = accepted l
-rowAs Unknown = refused 6 0
+rowAs Unknown = refused (refusal 6)

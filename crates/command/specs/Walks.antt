@@ -20,7 +20,7 @@ bodyAs (bad x) = Stopped x
 -- the IMEI that is given
 unfoldable pub givenAs : Given → Answer ℕ
 givenAs (Imei n) = accepted n
-givenAs (Refused r) = refused (r .number) (r .index)
+givenAs (Refused r) = refused r
 
 -- the packet with this IMEI
 unfoldable pub planned : Layout → ℕ → List ℕ → Given → Answer (List ℕ)

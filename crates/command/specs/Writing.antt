@@ -3,6 +3,7 @@ use Prim.Native.Nat.{ℕ, _+_, _-_, _*_}
 use mathlib.Core.List.{List}
 use lib.ListN.{length}
 use lib.Dec.{eqb, leb}
+use Rattle.wire.specs.declared.Limits.{Limits}
 use Rattle.wire.specs.Numbers.{valueFrom}
 use Rattle.wire.specs.Reading.{repeat}
 use Rattle.wire.specs.Answers.{Answer, accepted, check, told, onAccepted}
@@ -19,16 +20,16 @@ givenImei l s =
     (onAccepted (told (repeat (length s) textDigit s 0)) (λ ds. accepted (valueFrom 10 0 ds)))
 
 -- 14: the packet is too long, or type 11 has text
-unfoldable pub packetOf : ℕ → Layout → Command → Answer (List ℕ)
-packetOf largest l c =
+unfoldable pub packetOf : Limits → Layout → Command → Answer (List ℕ)
+packetOf limits l c =
     check (mismatch (c .type) (c .text)) 14
-    (check (leb (length (commandField l c) + 12) largest) 14
+    (check (leb (length (commandField l c) + 12) (limits .largest)) 14
     (accepted (framed (commandField l c))))
 
 -- the packet's bytes, or 6, 13, 15, 14
-unfoldable pub commandBytes : ℕ → ℕ → ℕ → List ℕ → List ℕ → Answer (List ℕ)
-commandBytes largest codec type imei text =
+unfoldable pub commandBytes : Limits → ℕ → ℕ → List ℕ → List ℕ → Answer (List ℕ)
+commandBytes limits codec type imei text =
     onAccepted (layoutOf codec)
     (λ l. check (member type (types l)) 13
     (onAccepted (givenImei l imei)
-    (λ n. packetOf largest l (record { codec = codec; type = type; imei = n; text = text }))))
+    (λ n. packetOf limits l (record { codec = codec; type = type; imei = n; text = text }))))

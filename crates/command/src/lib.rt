@@ -2,6 +2,7 @@
 use frame::Framed;
 use wire::Decimal;
 use wire::Fault;
+use wire::Limits;
 use wire::Refusal;
 use wire::Written;
 ghost use mathlib.Core.Path.{_≡_};
@@ -15,10 +16,8 @@ ghost use Rattle.frame.specs.Frame.{framed};
 ghost use Rattle.command.specs.Layouts.{layoutOf, rowAs, types, member};
 ghost use Rattle.command.specs.Commands.{bodyBytes, commandField, mismatch, commandBody, readField, readCommand, answerCommand, textView, commandAs, answered};
 ghost use Rattle.command.specs.Writing.{givenImei, commandBytes};
+ghost use Rattle.wire.specs.Limits.{baseLimits};
 ghost use Rattle.command.specs.Walks.{bodyAs, givenAs, planned};
-
-// The most bytes of a packet.
-pub const LARGEST: usize = 1280;
 
 // A row of the table of command layouts: the codec, whether it has type 11 besides 05 and 06, and how many bytes of IMEI stand before the text.
 pub struct Layout {
@@ -181,12 +180,11 @@ fn read_field(d: &[u8]) -> CommandAnswer
     }
 }
 
-// `largest` is the most bytes that the packet may have.
-pub fn judge_command(largest: usize, p: &[u8]) -> CommandAnswer
-    ensures { λ r. ⌜ commandAs r ≡ answerCommand largest (now (p .entry)) ⌝ }
+pub fn judge_command(limits: Limits, p: &[u8]) -> CommandAnswer
+    ensures { λ r. ⌜ commandAs r ≡ answerCommand limits (now (p .entry)) ⌝ }
 {
-    match frame::unframed(largest, p) {
-        Framed::Unframed(number) => refused(number),
+    match frame::unframed(limits.largest, p) {
+        Framed::Unframed(r) => CommandAnswer::Refused(r),
         Framed::Field(n) => {
             let end = 8 + n;
             read_field(&p[8..end])
@@ -195,14 +193,14 @@ pub fn judge_command(largest: usize, p: &[u8]) -> CommandAnswer
 }
 
 pub fn read_command(p: &[u8]) -> CommandAnswer
-    ensures { λ r. ⌜ commandAs r ≡ answerCommand 1280 (now (p .entry)) ⌝ }
+    ensures { λ r. ⌜ commandAs r ≡ answerCommand baseLimits (now (p .entry)) ⌝ }
 {
-    judge_command(LARGEST, p)
+    judge_command(wire::BASE, p)
 }
 
 // The text where it stands in the input, empty for a refused packet.
 pub fn command_text(p: &[u8]) -> &[u8]
-    ensures { λ r. ⌜ now r ≡ textView (readCommand 1280 (now (p .entry))) ⌝ }
+    ensures { λ r. ⌜ now r ≡ textView (readCommand baseLimits (now (p .entry))) ⌝ }
 {
     match read_command(p) {
         CommandAnswer::Accepted(f) => {
@@ -245,7 +243,7 @@ fn given_imei(l: Layout, s: &[u8]) -> Given
     if n != digit_count(l.imei) {
         return not_given(15);
     }
-    let imei = wire::text_number(n, s, 0);
+    let imei = wire::text_number(n, s, 0, 0);
     if imei < wire::NO_IMEI {
         return Given::Imei(imei);
     }
@@ -261,9 +259,9 @@ fn field_size(l: Layout, text: &[u8]) -> usize
 }
 
 // Decides everything before a byte is written.
-fn plan(largest: usize, l: Layout, kind: u8, imei: &[u8], text: &[u8]) -> Given
+fn plan(limits: Limits, l: Layout, kind: u8, imei: &[u8], text: &[u8]) -> Given
     requires { ⌜ layoutOf (l .codec) ≡ accepted l ⌝ }
-    ensures { λ r. ⌜ planned l kind (now (text .entry)) r ≡ commandBytes largest (l .codec) kind (now (imei .entry)) (now (text .entry)) ⌝ }
+    ensures { λ r. ⌜ planned l kind (now (text .entry)) r ≡ commandBytes limits (l .codec) kind (now (imei .entry)) (now (text .entry)) ⌝ }
 {
     if !allows(l, kind) {
         return not_given(13);
@@ -274,7 +272,7 @@ fn plan(largest: usize, l: Layout, kind: u8, imei: &[u8], text: &[u8]) -> Given
                 return not_given(14);
             }
             let whole = field_size(l, text) + 12;
-            if largest < whole {
+            if limits.largest < whole {
                 return not_given(14);
             }
             Given::Imei(n)
@@ -347,12 +345,12 @@ fn write_planned(l: Layout, kind: u8, imei: u64, text: &[u8], out: &mut [u8]) ->
 
 // Writes the packet to the start of `out`; a refusal changes no byte.
 pub fn write_command(codec: u8, kind: u8, imei: &[u8], text: &[u8], out: &mut [u8]) -> Written
-    ensures { λ r. ⌜ writtenAs r ≡ writing (commandBytes 1280 codec kind (now (imei .entry)) (now (text .entry))) (now (out .entry)) ⌝ }
-    ensures { λ r. ⌜ now (out .exit) ≡ leaving (commandBytes 1280 codec kind (now (imei .entry)) (now (text .entry))) (now (out .entry)) ⌝ }
+    ensures { λ r. ⌜ writtenAs r ≡ writing (commandBytes baseLimits codec kind (now (imei .entry)) (now (text .entry))) (now (out .entry)) ⌝ }
+    ensures { λ r. ⌜ now (out .exit) ≡ leaving (commandBytes baseLimits codec kind (now (imei .entry)) (now (text .entry))) (now (out .entry)) ⌝ }
 {
     match layout_of(codec) {
         Row::Unknown => not_written(6),
-        Row::Of(l) => match plan(LARGEST, l, kind, imei, text) {
+        Row::Of(l) => match plan(wire::BASE, l, kind, imei, text) {
             Given::Imei(n) => write_planned(l, kind, n, text, out),
             Given::Refused(r) => Written::Refused(r),
         },

@@ -8,6 +8,7 @@ use lib.ListN.{length, drop, length-append, length-drop}
 use lib.Seq.{drop-length}
 use lib.Dec.{eqb, leb}
 use borrow.Author.Tests.{le-leb, leb-true, eq-eqb, eqb-true}
+use Rattle.wire.specs.declared.Limits.{Limits}
 use Rattle.wire.specs.Numbers.{Bytes, numberAt, be}
 use Rattle.wire.specs.Reading.{got, pure, number}
 use Rattle.wire.specs.Answers.{accepted}
@@ -50,7 +51,7 @@ pub length-header : (x : Header) → length (headerBytes x) ≡ 21
 unfolding headerBytes
 length-header x = simp (length-append, length-digits, length-imeiText)
 
-length-datagram : (g : Datagram) → length (datagramBytes g) ≡ length (contentBytes g) + 2
+pub length-datagram : (g : Datagram) → length (datagramBytes g) ≡ length (contentBytes g) + 2
 unfolding datagramBytes
 length-datagram g = simp (length-append, length-digits) (omega arith)
 
@@ -58,38 +59,38 @@ data-long : (a : AvlData) → 3 ≤ length (dataBytes a)
 unfolding dataBytes
 data-long a = simp length-enclosed (omega arith)
 
-datagram-sound : (largest longest : ℕ) (p : List ℕ) (g : Datagram) → Bytes p → readDatagram largest longest p ≡ accepted g → UdpPacket largest longest g p
+datagram-sound : (limits : Limits) (p : List ℕ) (g : Datagram) → Bytes p → readDatagram limits p ≡ accepted g → UdpPacket limits g p
 unfolding readDatagram judgeHeader contentBytes datagramBytes
-datagram-sound largest longest p g h e =
-    let c₄ = onAccepted-accepted (judgeHeader largest p) _ e in
+datagram-sound limits p g h e =
+    let c₄ = onAccepted-accepted (judgeHeader (limits .largest) p) _ e in
     let c₁ = check-accepted (leb 26 (length p)) 1 _ (c₄ .1) in
-    let c₂ = check-accepted (leb (length p) largest) 3 _ (c₁ .1) in
+    let c₂ = check-accepted (leb (length p) (limits .largest)) 3 _ (c₁ .1) in
     let c₃ = check-accepted (eqb (length p) (numberAt p 0 2 + 2)) 4 _ (c₂ .1) in
     let c₅ = told-accepted _ (c₃ .1) in
     let c₆ = onAccepted-accepted _ _ (c₄ .2) in
     let long : 26 ≤ length p = leb-true _ _ (c₁ .0) in
     let counted : length p ≡ numberAt p 0 2 + 2 = eqb-true _ _ (c₃ .0) in
     let k = header-exact .sound p 2 h (omega arith) .if-got _ _ (c₅ .1) in
-    let d = data-exact longest (drop 23 p) (c₆ .0) (bytes-drop 23 p h) (simp length-drop (omega arith)) .0 (c₆ .1) in
+    let d = data-exact (limits .longest) (drop 23 p) (c₆ .0) (bytes-drop 23 p h) (simp length-drop (omega arith)) .0 (c₆ .1) in
     let x : Datagram = record { header = c₄ .0; payload = c₆ .0 } in
     let end : c₅ .0 ≡ 23 = omega (arith, k .0 .size, length-header (c₄ .0)) in
     let rest : drop 2 p ≡ contentBytes x = k .0 .layout ∙ ap (λ (l : List ℕ). headerBytes (c₄ .0) ++ l) (ap (λ (n : ℕ). drop n p) end ∙ d .1) in
     let size : numberAt p 0 2 ≡ length (contentBytes x) = omega (arith, ap length rest, length-drop 2 p) in
     let whole : p ≡ datagramBytes x = be-number 2 p 0 h (omega arith) ∙ ap₂ (λ (n : ℕ) (l : List ℕ). be 2 n ++ l) size rest in
     let result : x ≡ g = cc in
-    subst (λ (y : Datagram). UdpPacket largest longest y p) result
+    subst (λ (y : Datagram). UdpPacket limits y p) result
     (record {
       header = k .1;
       payload = d .0;
-      most = subst (λ (l : List ℕ). length l ≤ largest) whole (leb-true _ _ (c₂ .0));
+      most = subst (λ (l : List ℕ). length l ≤ (limits .largest)) whole (leb-true _ _ (c₂ .0));
       counted = subst (λ (n : ℕ). n < 256 ^ 2) size (number-lt p 0 2 h);
       whole = whole;
     })
 
 -- the header stands at 2, and the data field fills the rest from 23 on
-parts : (largest longest : ℕ) (g : Datagram) (p : List ℕ) → UdpPacket largest longest g p → (readHeader p 2 ≡ got (g .header) 23) × (drop 23 p ≡ dataBytes (g .payload))
+parts : (limits : Limits) (g : Datagram) (p : List ℕ) → UdpPacket limits g p → (readHeader p 2 ≡ got (g .header) 23) × (drop 23 p ≡ dataBytes (g .payload))
 unfolding contentBytes datagramBytes
-parts largest longest g p h =
+parts limits g p h =
     let a = between-split (be 2 (length (contentBytes g))) (between-bytes (h .whole) (between-whole p)) in
     let b = between-split (headerBytes (g .header)) (a .1) in
     let start : 0 + length (be 2 (length (contentBytes g))) ≡ 2 = simp length-digits in
@@ -98,23 +99,23 @@ parts largest longest g p h =
       between-moved end refl (b .1) .layout ∙ simp (drop-length, append-nil),
     )
 
-datagram-complete : (largest longest : ℕ) (p : List ℕ) (g : Datagram) → UdpPacket largest longest g p → readDatagram largest longest p ≡ accepted g
+datagram-complete : (limits : Limits) (p : List ℕ) (g : Datagram) → UdpPacket limits g p → readDatagram limits p ≡ accepted g
 unfolding readDatagram judgeHeader datagramBytes
-datagram-complete largest longest p g k =
-    let a = parts largest longest g p k in
+datagram-complete limits p g k =
+    let a = parts limits g p k in
     let size : length p ≡ length (contentBytes g) + 2 = ap length (k .whole) ∙ length-datagram g in
     let number : numberAt p 0 2 ≡ length (contentBytes g) = number-be 2 (length (contentBytes g)) p 0 (contentBytes g) (k .counted) (k .whole) in
     let long : 3 ≤ length (drop 23 p) = subst (λ (l : List ℕ). 3 ≤ length l) (sym (a .1)) (data-long (g .payload)) in
-    onAccepted-passed (judgeHeader largest p) _
+    onAccepted-passed (judgeHeader (limits .largest) p) _
     (check-passed _ 1 _ (le-leb 26 (length p) (omega (arith, length-drop 23 p)))
-    ∙ check-passed _ 3 _ (le-leb (length p) largest (omega (arith, k .most, length-datagram g)))
+    ∙ check-passed _ 3 _ (le-leb (length p) (limits .largest) (omega (arith, k .most, length-datagram g)))
     ∙ check-passed _ 4 _ (eq-eqb (length p) (numberAt p 0 2 + 2) (omega arith))
     ∙ told-got _ (a .0))
-    ∙ onAccepted-passed _ _ (ap (readData longest) (a .1) ∙ data-complete longest (g .payload) (k .payload))
+    ∙ onAccepted-passed _ _ (ap (readData (limits .longest)) (a .1) ∙ data-complete (limits .longest) (g .payload) (k .payload))
 
 -- the judge accepts exactly what keeps the rules
-pub datagram-exact : (largest longest : ℕ) (p : List ℕ) (g : Datagram) → Bytes p → (readDatagram largest longest p ≡ accepted g) ↔ UdpPacket largest longest g p
-datagram-exact largest longest p g h = (datagram-sound largest longest p g h, datagram-complete largest longest p g)
+pub datagram-exact : (limits : Limits) (p : List ℕ) (g : Datagram) → Bytes p → (readDatagram limits p ≡ accepted g) ↔ UdpPacket limits g p
+datagram-exact limits p g h = (datagram-sound limits p g h, datagram-complete limits p g)
 
-pub datagrams-unique : (largest longest : ℕ) (g h : Datagram) (p : List ℕ) → UdpPacket largest longest g p → UdpPacket largest longest h p → g ≡ h
-datagrams-unique largest longest g h p k l = cc (datagram-complete largest longest p g k, datagram-complete largest longest p h l)
+pub datagrams-unique : (limits : Limits) (g h : Datagram) (p : List ℕ) → UdpPacket limits g p → UdpPacket limits h p → g ≡ h
+datagrams-unique limits g h p k l = cc (datagram-complete limits p g k, datagram-complete limits p h l)

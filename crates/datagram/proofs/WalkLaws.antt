@@ -1,20 +1,23 @@
 -- Which way the judge of a datagram goes.
 use Prim.Native.Nat.{ℕ, _+_, _-_, _%_, _≤_, _<_}
 use native.Mathlib.Omega.{arith}
-use mathlib.Core.Path.{_≡_, refl, sym, ap, ap₂, subst, _∙_}
+use mathlib.Core.Path.{_≡_, refl, sym, ap, subst, _∙_}
 use mathlib.Core.List.{List, [], _∷_}
 use lib.ListN.{length, take, drop, length-drop, getD}
 use lib.Seq.{take-all}
 use lib.Dec.{leb, eqb}
 use borrow.Author.Tests.{le-leb, lt-leb, leb-true, eq-eqb, ne-eqb}
+use Rattle.wire.specs.declared.Limits.{Limits}
+use Rattle.wire.specs.Limits.{baseLimits}
+use Rattle.wire.specs.declared.Fault.{Fault}
 use Rattle.wire.specs.declared.Refusal.{Refusal}
 use Rattle.wire.specs.Numbers.{Bytes, numberAt, digits}
-use Rattle.wire.specs.Reading.{pure}
-use Rattle.wire.specs.Answers.{Answer, accepted, refused, told, onAccepted}
+use Rattle.wire.specs.Reading.{got, bad, pure}
+use Rattle.wire.specs.Answers.{Answer, accepted, refused, told, onAccepted, refusal, refusalOf}
 use Rattle.wire.specs.Imei.{readImei}
 use Rattle.wire.proofs.Walking.{number-there, then-bad}
 use Rattle.wire.proofs.Exactness.{then-got}
-use Rattle.wire.proofs.Accepting.{check-accepted, check-passed, check-failed, onAccepted-passed, onAccepted-refused, told-got, told-bad, told-accepted, told-refused, onAccepted-accepted}
+use Rattle.wire.proofs.Accepting.{check-accepted, check-passed, check-failed, onAccepted-passed, onAccepted-refused, told-got, told-bad, onAccepted-accepted}
 use Rattle.avl.specs.DataField.{AvlData, DataRules, readData, dataResult}
 use Rattle.walk.specs.declared.Span.{Span}
 use Rattle.walk.specs.declared.DataWalk.{DataWalk}
@@ -25,17 +28,17 @@ use Rattle.datagram.specs.Datagrams.{Datagram, headerBytes, contentBytes
 use Rattle.datagram.proofs.DatagramLaws.{datagram-exact}
 
 module _ (largest : ℕ) (p : List ℕ) where
-  pub header-short : length p < 26 → judgeHeader largest p ≡ refused 1 0
+  pub header-short : length p < 26 → judgeHeader largest p ≡ refused (refusal 1)
   unfolding judgeHeader
   header-short h = check-failed (leb 26 (length p)) 1 _ (lt-leb _ _ h)
 
   module _ (long : 26 ≤ length p) where
-    pub header-large : largest < length p → judgeHeader largest p ≡ refused 3 0
+    pub header-large : largest < length p → judgeHeader largest p ≡ refused (refusal 3)
     unfolding judgeHeader
     header-large h = check-passed (leb 26 (length p)) 1 _ (le-leb _ _ long) ∙ check-failed (leb (length p) largest) 3 _ (lt-leb _ _ h)
 
     module _ (fits : length p ≤ largest) where
-      pub header-length : (length p ≡ numberAt p 0 2 + 2 → ⊥) → judgeHeader largest p ≡ refused 4 0
+      pub header-length : (length p ≡ numberAt p 0 2 + 2 → ⊥) → judgeHeader largest p ≡ refused (refusal 4)
       unfolding judgeHeader
       header-length h =
           check-passed (leb 26 (length p)) 1 _ (le-leb _ _ long)
@@ -51,21 +54,19 @@ module _ (largest : ℕ) (p : List ℕ) where
             ∙ check-passed (leb (length p) largest) 3 _ (le-leb _ _ fits)
             ∙ check-passed (eqb (length p) (numberAt p 0 2 + 2)) 4 _ (eq-eqb _ _ size)
 
-        pub header-imei : {n i : ℕ} → told (readImei p 6) ≡ refused n i → judgeHeader largest p ≡ refused n i
+        pub header-imei : {x : Fault} → readImei p 6 ≡ bad x → judgeHeader largest p ≡ refused (refusalOf x)
         unfolding readHeader
         header-imei e =
-            let x = told-refused _ e in
             sized
             ∙ told-bad _
-            (number-there _ p 2 2 (omega arith) ∙ number-there _ p 4 1 (omega arith) ∙ number-there _ p 5 1 (omega arith) ∙ then-bad readImei _ p 6 (x .1))
-            ∙ ap₂ refused (x .2) (x .3)
+            (number-there _ p 2 2 (omega arith) ∙ number-there _ p 4 1 (omega arith) ∙ number-there _ p 5 1 (omega arith) ∙ then-bad readImei _ p 6 e)
 
-        pub header-is : {imei : ℕ} → told (readImei p 6) ≡ accepted imei → judgeHeader largest p ≡ accepted (headerAt p imei)
+        pub header-is : {imei next : ℕ} → readImei p 6 ≡ got imei next → judgeHeader largest p ≡ accepted (headerAt p imei)
         unfolding readHeader pure
         header-is e =
             sized
             ∙ told-got _
-            (number-there _ p 2 2 (omega arith) ∙ number-there _ p 4 1 (omega arith) ∙ number-there _ p 5 1 (omega arith) ∙ then-got readImei _ p 6 (told-accepted _ e .1))
+            (number-there _ p 2 2 (omega arith) ∙ number-there _ p 4 1 (omega arith) ∙ number-there _ p 5 1 (omega arith) ∙ then-got readImei _ p 6 e)
 
 -- the part behind the header
 pub payload-part : (p : List ℕ) → take (length p - 23) (drop 23 p) ≡ drop 23 p
@@ -79,97 +80,97 @@ payload-long largest p e =
 
 -- ---- of a header that is accepted, and of one that is refused
 
-module _ (largest longest : ℕ) (p : List ℕ) where
-  module _ {n i : ℕ} (e : judgeHeader largest p ≡ refused n i) where
-    judged : readDatagram largest longest p ≡ refused n i
+module _ (limits : Limits) (p : List ℕ) where
+  module _ {x : Refusal} (e : judgeHeader (limits .largest) p ≡ refused x) where
+    judged : readDatagram limits p ≡ refused x
     unfolding readDatagram
-    judged = onAccepted-refused (judgeHeader largest p) _ e
+    judged = onAccepted-refused (judgeHeader (limits .largest) p) _ e
 
-    pub walk-refused : (want : ℕ) → dataWalk want (payloadOf (readDatagram largest longest p)) ≡ DataWalk.Refused (record { number = n; index = i })
+    pub walk-refused : (want : ℕ) → dataWalk want (payloadOf (readDatagram limits p)) ≡ DataWalk.Refused x
     unfolding dataWalk payloadOf
-    walk-refused want = ap (dataWalk want) (onAccepted-refused (readDatagram largest longest p) _ judged)
+    walk-refused want = ap (dataWalk want) (onAccepted-refused (readDatagram limits p) _ judged)
 
-    pub answer-refused : answerDatagram largest longest p ≡ refused n i
+    pub answer-refused : answerDatagram limits p ≡ refused x
     unfolding answerDatagram
-    answer-refused = onAccepted-refused (readDatagram largest longest p) _ judged
+    answer-refused = onAccepted-refused (readDatagram limits p) _ judged
 
-  module _ {h : Header} (e : judgeHeader largest p ≡ accepted h) where
-    behind : readDatagram largest longest p ≡ onAccepted (readData longest (drop 23 p)) (λ a. accepted (record { header = h; payload = a }))
+  module _ {h : Header} (e : judgeHeader (limits .largest) p ≡ accepted h) where
+    behind : readDatagram limits p ≡ onAccepted (readData (limits .longest) (drop 23 p)) (λ a. accepted (record { header = h; payload = a }))
     unfolding readDatagram
-    behind = onAccepted-passed (judgeHeader largest p) _ e
+    behind = onAccepted-passed (judgeHeader (limits .largest) p) _ e
 
-    pub walk-on : (want : ℕ) → dataWalk want (readData longest (drop 23 p)) ≡ dataWalk want (payloadOf (readDatagram largest longest p))
+    pub walk-on : (want : ℕ) → dataWalk want (readData (limits .longest) (drop 23 p)) ≡ dataWalk want (payloadOf (readDatagram limits p))
     unfolding payloadOf onAccepted
-    walk-on want = ap (dataWalk want) (sym (ap payloadOf behind ∙ same (readData longest (drop 23 p))))
+    walk-on want = ap (dataWalk want) (sym (ap payloadOf behind ∙ same (readData (limits .longest) (drop 23 p))))
       where
         same : (r : Answer AvlData) → payloadOf (onAccepted r (λ a. accepted (record { header = h; payload = a }))) ≡ r
         same (accepted a) = refl
-        same (refused n i) = refl
+        same (refused x) = refl
 
-    pub answer-taken : {codec count : ℕ} {span : Span} → dataWalk 0 (readData longest (drop 23 p)) ≡ DataWalk.Taken codec count span
-        → answerDatagram largest longest p ≡ accepted (record { payload = record { codec = codec; count = count }; header = h })
+    pub answer-taken : {codec count : ℕ} {span : Span} → dataWalk 0 (readData (limits .longest) (drop 23 p)) ≡ DataWalk.Taken codec count span
+        → answerDatagram limits p ≡ accepted (record { payload = record { codec = codec; count = count }; header = h })
     unfolding answerDatagram dataResult
     answer-taken k =
-        let t = taken 0 (readData longest (drop 23 p)) k in
-        onAccepted-passed (readDatagram largest longest p) _ (behind ∙ onAccepted-passed _ _ (t .accepts))
+        let t = taken 0 (readData (limits .longest) (drop 23 p)) k in
+        onAccepted-passed (readDatagram limits p) _ (behind ∙ onAccepted-passed _ _ (t .accepts))
         ∙ (λ i. accepted (record { payload = record { codec = t .codecIs i; count = t .countIs i }; header = h }))
 
-    pub answer-stopped : {r : Refusal} → dataWalk 0 (readData longest (drop 23 p)) ≡ DataWalk.Refused r → answerDatagram largest longest p ≡ refused (r .number) (r .index)
+    pub answer-stopped : {r : Refusal} → dataWalk 0 (readData (limits .longest) (drop 23 p)) ≡ DataWalk.Refused r → answerDatagram limits p ≡ refused r
     unfolding answerDatagram
-    answer-stopped k = onAccepted-refused (readDatagram largest longest p) _ (behind ∙ onAccepted-refused _ _ (not-taken 0 _ k))
+    answer-stopped k = onAccepted-refused (readDatagram limits p) _ (behind ∙ onAccepted-refused _ _ (not-taken 0 _ k))
 
 -- ---- what the walk tells of the judge
 
 pub carried : (want : ℕ) (r : Answer Datagram) {codec count : ℕ} {span : Span} → dataWalk want (payloadOf r) ≡ DataWalk.Taken codec count span → (g : Datagram) × (r ≡ accepted g)
 unfolding dataWalk payloadOf onAccepted
 carried want (accepted g) e = (g, refl)
-carried want (refused n i) e = absurd (let z : _≡_ {A = ℕ} 0 1 = cc in omega arith)
+carried want (refused x) e = absurd (let z : _≡_ {A = ℕ} 0 1 = cc in omega arith)
 
-pub not-carried : (want : ℕ) (r : Answer Datagram) {x : Refusal} → dataWalk want (payloadOf r) ≡ DataWalk.Refused x → r ≡ refused (x .number) (x .index)
+pub not-carried : (want : ℕ) (r : Answer Datagram) {x : Refusal} → dataWalk want (payloadOf r) ≡ DataWalk.Refused x → r ≡ refused x
 unfolding payloadOf onAccepted
 not-carried want (accepted g) {x} e = absurd (let k = not-taken want (accepted (g .payload)) {x = x} e in let z : _≡_ {A = ℕ} 0 1 = cc in omega arith)
-not-carried want (refused n i) e = let k = not-taken want (refused n i) e in ap₂ refused (cc) (cc)
+not-carried want (refused y) e = let k = not-taken want (refused y) e in ap refused (cc)
 
 -- codec and count fit a byte
-pub carried-fits : (largest longest want : ℕ) (p : List ℕ) {codec count : ℕ} {span : Span} → Bytes p
-    → dataWalk want (payloadOf (readDatagram largest longest p)) ≡ DataWalk.Taken codec count span → (codec < 256) × (count < 256)
+pub carried-fits : (limits : Limits) (want : ℕ) (p : List ℕ) {codec count : ℕ} {span : Span} → Bytes p
+    → dataWalk want (payloadOf (readDatagram limits p)) ≡ DataWalk.Taken codec count span → (codec < 256) × (count < 256)
 unfolding payloadOf onAccepted
-carried-fits largest longest want p b walk =
-    let c = carried want (readDatagram largest longest p) walk in
+carried-fits limits want p b walk =
+    let c = carried want (readDatagram limits p) walk in
     let t = taken want (accepted (c .0 .payload)) (sym (ap (λ r. dataWalk want (payloadOf r)) (c .1)) ∙ walk) in
     let same : _≡_ {A = AvlData} (c .0 .payload) (t .content) = cc (t .accepts) in
-    taken-fits t (subst (DataRules longest) same (datagram-exact largest longest p (c .0) b .0 (c .1) .payload))
+    taken-fits t (subst (DataRules (limits .longest)) same (datagram-exact limits p (c .0) b .0 (c .1) .payload))
 
-pub payload-fits : (largest longest : ℕ) (p : List ℕ) {h : Header} {codec count : ℕ} {span : Span} → Bytes p → judgeHeader largest p ≡ accepted h
-    → dataWalk 0 (readData longest (drop 23 p)) ≡ DataWalk.Taken codec count span → (codec < 256) × (count < 256)
-payload-fits largest longest p b e walk = carried-fits largest longest 0 p b (sym (walk-on largest longest p e 0) ∙ walk)
+pub payload-fits : (limits : Limits) (p : List ℕ) {h : Header} {codec count : ℕ} {span : Span} → Bytes p → judgeHeader (limits .largest) p ≡ accepted h
+    → dataWalk 0 (readData (limits .longest) (drop 23 p)) ≡ DataWalk.Taken codec count span → (codec < 256) × (count < 256)
+payload-fits limits p b e walk = carried-fits limits 0 p b (sym (walk-on limits p e 0) ∙ walk)
 
 -- ---- the acknowledgement
 
 module _ (p : List ℕ) (h : Bytes p) where
   -- its bytes stand in the datagram, but for the count, which is the number of records
-  answer-bytes : (largest longest : ℕ) (g : Datagram) {count : ℕ} → readDatagram largest longest p ≡ accepted g → length (g .payload .records) ≡ count → count < 256
+  answer-bytes : (limits : Limits) (g : Datagram) {count : ℕ} → readDatagram limits p ≡ accepted g → length (g .payload .records) ≡ count → count < 256
       → acknowledgementBytes (g .header) (length (g .payload .records)) ≡ answerBytes p count
   unfolding acknowledgementBytes datagramBytes contentBytes headerBytes digits
-  answer-bytes largest longest g {count} e is few =
-      let whole = sym (datagram-exact largest longest p g h .0 e .whole) in
+  answer-bytes limits g {count} e is few =
+      let whole = sym (datagram-exact limits p g h .0 e .whole) in
       let number : count % 256 ≡ count = omega arith in
       let last = ap (λ (n : ℕ). n % 256) is ∙ number in
       λ i. 0 ∷ 5 ∷ getD (whole i) 2 0 ∷ getD (whole i) 3 0 ∷ getD (whole i) 4 0 ∷ getD (whole i) 5 0 ∷ last i ∷ []
 
-  pub acknowledged-taken : {codec count : ℕ} {span : Span} → dataWalk 0 (payloadOf (readDatagram 1280 255 p)) ≡ DataWalk.Taken codec count span
-      → (26 ≤ length p) × (udpAcknowledgement 1280 255 p ≡ accepted (answerBytes p count))
+  pub acknowledged-taken : {codec count : ℕ} {span : Span} → dataWalk 0 (payloadOf (readDatagram baseLimits p)) ≡ DataWalk.Taken codec count span
+      → (26 ≤ length p) × (udpAcknowledgement baseLimits p ≡ accepted (answerBytes p count))
   unfolding udpAcknowledgement readDatagram payloadOf onAccepted
   acknowledged-taken walk =
-      let c = carried 0 (readDatagram 1280 255 p) walk in
+      let c = carried 0 (readDatagram baseLimits p) walk in
       let g = c .0 in
       let e = c .1 in
       let t = taken 0 (accepted (g .payload)) (sym (ap (λ r. dataWalk 0 (payloadOf r)) e) ∙ walk) in
       let same : _≡_ {A = AvlData} (g .payload) (t .content) = cc (t .accepts) in
       let count = ap (λ (a : AvlData). length (a .records)) same ∙ t .countIs in
       let header = onAccepted-accepted (judgeHeader 1280 p) _ e in
-      (payload-long 1280 p (header .1) .0, onAccepted-passed (readDatagram 1280 255 p) _ e ∙ ap accepted (answer-bytes 1280 255 g e count (carried-fits 1280 255 0 p h walk .1)))
+      (payload-long 1280 p (header .1) .0, onAccepted-passed (readDatagram baseLimits p) _ e ∙ ap accepted (answer-bytes baseLimits g e count (carried-fits baseLimits 0 p h walk .1)))
 
-  pub acknowledged-refused : {x : Refusal} → dataWalk 0 (payloadOf (readDatagram 1280 255 p)) ≡ DataWalk.Refused x → udpAcknowledgement 1280 255 p ≡ refused (x .number) (x .index)
+  pub acknowledged-refused : {x : Refusal} → dataWalk 0 (payloadOf (readDatagram baseLimits p)) ≡ DataWalk.Refused x → udpAcknowledgement baseLimits p ≡ refused x
   unfolding udpAcknowledgement
-  acknowledged-refused walk = onAccepted-refused (readDatagram 1280 255 p) _ (not-carried 0 (readDatagram 1280 255 p) walk)
+  acknowledged-refused walk = onAccepted-refused (readDatagram baseLimits p) _ (not-carried 0 (readDatagram baseLimits p) walk)

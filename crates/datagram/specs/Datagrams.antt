@@ -4,6 +4,7 @@ use mathlib.Core.Path.{_≡_}
 use mathlib.Core.List.{List, [], _∷_}
 use lib.ListN.{length, drop, getD}
 use lib.Dec.{eqb, leb}
+use Rattle.wire.specs.declared.Limits.{Limits}
 use Rattle.wire.specs.Numbers.{numberAt, be}
 use Rattle.wire.specs.Sequences.{fields}
 use Rattle.wire.specs.Reading.{Reader, _>>=_, pure, number}
@@ -37,11 +38,11 @@ pub record HeaderRules (h : Header) : Type 0 where
   pub avlFits : h .avl < 256 ^ 1
   pub imeiRange : h .imei < 10 ^ 15
 
--- the datagram `p` carries `g`; `largest` is the most bytes that it may have
-pub record UdpPacket (largest longest : ℕ) (g : Datagram) (p : List ℕ) : Type 0 where
+-- the datagram `p` carries `g`
+pub record UdpPacket (limits : Limits) (g : Datagram) (p : List ℕ) : Type 0 where
   pub header : HeaderRules (g .header)
-  pub payload : DataRules longest (g .payload)
-  pub most : length (datagramBytes g) ≤ largest
+  pub payload : DataRules (limits .longest) (g .payload)
+  pub most : length (datagramBytes g) ≤ (limits .largest)
   pub counted : length (contentBytes g) < 256 ^ 2
   pub whole : p ≡ datagramBytes g
 
@@ -62,10 +63,10 @@ judgeHeader largest p =
     (check (eqb (length p) (numberAt p 0 2 + 2)) 4
     (told (readHeader p 2))))
 
-unfoldable pub readDatagram : ℕ → ℕ → List ℕ → Answer Datagram
-readDatagram largest longest p =
-    onAccepted (judgeHeader largest p)
-    (λ h. onAccepted (readData longest (drop 23 p))
+unfoldable pub readDatagram : Limits → List ℕ → Answer Datagram
+readDatagram limits p =
+    onAccepted (judgeHeader (limits .largest) p)
+    (λ h. onAccepted (readData (limits .longest) (drop 23 p))
     (λ a. accepted (record { header = h; payload = a })))
 
 unfoldable pub payloadOf : Answer Datagram → Answer AvlData
@@ -75,24 +76,24 @@ pub record DatagramResult : Type 0 where
   pub payload : DataResult
   pub header : Header
 
-unfoldable pub answerDatagram : ℕ → ℕ → List ℕ → Answer DatagramResult
-answerDatagram largest longest p =
-    onAccepted (readDatagram largest longest p) (λ g. accepted (record { payload = dataResult (g .payload); header = g .header }))
+unfoldable pub answerDatagram : Limits → List ℕ → Answer DatagramResult
+answerDatagram limits p =
+    onAccepted (readDatagram limits p) (λ g. accepted (record { payload = dataResult (g .payload); header = g .header }))
 
 -- ---- the acknowledgement (the paper's receipt): the length 5, the IDs and the unused byte as received, the number of records
 
 unfoldable pub acknowledgementBytes : Header → ℕ → List ℕ
 acknowledgementBytes h count = fields (be 2 5 ∷ be 2 (h .packet) ∷ be 1 (h .unused) ∷ be 1 (h .avl) ∷ be 1 count ∷ [])
 
-unfoldable pub udpAcknowledgement : ℕ → ℕ → List ℕ → Answer (List ℕ)
-udpAcknowledgement largest longest p =
-    onAccepted (readDatagram largest longest p) (λ g. accepted (acknowledgementBytes (g .header) (length (g .payload .records))))
+unfoldable pub udpAcknowledgement : Limits → List ℕ → Answer (List ℕ)
+udpAcknowledgement limits p =
+    onAccepted (readDatagram limits p) (λ g. accepted (acknowledgementBytes (g .header) (length (g .payload .records))))
 
 -- ---- what the code's answers say
 
 unfoldable pub datagramAs : DatagramAnswer → Answer DatagramResult
 datagramAs (Accepted codec count header) = accepted (record { payload = record { codec = codec; count = count }; header = header })
-datagramAs (Refused r) = refused (r .number) (r .index)
+datagramAs (Refused r) = refused r
 
 -- the header that stands at 2, with this IMEI
 abbrev pub headerAt : List ℕ → ℕ → Header
@@ -100,7 +101,7 @@ headerAt p imei = record { packet = numberAt p 2 2; unused = numberAt p 4 1; avl
 
 unfoldable pub headerAs : List ℕ → HeaderAnswer → Answer Header
 headerAs p (HeaderAnswer.Of imei) = accepted (headerAt p imei)
-headerAs p (HeaderAnswer.Refused r) = refused (r .number) (r .index)
+headerAs p (HeaderAnswer.Refused r) = refused r
 
 -- the same bytes as they stand in the datagram
 abbrev pub answerBytes : List ℕ → ℕ → List ℕ

@@ -1,5 +1,6 @@
 // UDP datagrams: judged, and acknowledged.
 use walk::DataWalk;
+use wire::Limits;
 use wire::Refusal;
 use wire::Written;
 ghost use mathlib.Core.Path.{_≡_};
@@ -8,12 +9,8 @@ ghost use mathlib.Core.List.{_++_};
 ghost use lib.ListN.{length, drop};
 ghost use Rattle.wire.specs.Buffers.{writing, leaving, writtenAs};
 ghost use Rattle.datagram.specs.Datagrams.{judgeHeader, readDatagram, answerDatagram, payloadOf, headerAs, datagramAs, answerBytes, udpAcknowledgement};
+ghost use Rattle.wire.specs.Limits.{baseLimits};
 ghost use Rattle.walk.specs.Walks.{dataWalk};
-
-// The most bytes of a datagram, and of a record.
-pub const LARGEST: usize = 1280;
-
-pub const LONGEST: usize = 255;
 
 // What stands before the data field: packet ID, unused byte, AVL packet ID, IMEI.
 pub struct Header {
@@ -66,24 +63,23 @@ fn read_header(largest: usize, p: &[u8]) -> HeaderAnswer
 }
 
 // The datagram's codec and count, and where the record with number `want` lies behind its first 25 bytes.
-pub fn judge_datagram(largest: usize, longest: usize, p: &[u8], want: usize) -> DataWalk
-    requires { ⌜ longest ≤ 65535 ⌝ }
-    ensures { λ r. ⌜ r ≡ dataWalk want (payloadOf (readDatagram largest longest (now (p .entry)))) ⌝ }
+pub fn judge_datagram(limits: Limits, p: &[u8], want: usize) -> DataWalk
+    ensures { λ r. ⌜ r ≡ dataWalk want (payloadOf (readDatagram limits (now (p .entry)))) ⌝ }
 {
-    if let HeaderAnswer::Refused(r) = read_header(largest, p) {
+    if let HeaderAnswer::Refused(r) = read_header(limits.largest, p) {
         return DataWalk::Refused(r);
     }
-    walk::read_data(longest, &p[23..], want)
+    walk::read_data(limits.longest, &p[23..], want)
 }
 
 pub fn read_datagram(p: &[u8]) -> DatagramAnswer
-    ensures { λ r. ⌜ datagramAs r ≡ answerDatagram 1280 255 (now (p .entry)) ⌝ }
+    ensures { λ r. ⌜ datagramAs r ≡ answerDatagram baseLimits (now (p .entry)) ⌝ }
 {
-    let imei = match read_header(LARGEST, p) {
+    let imei = match read_header(wire::BASE.largest, p) {
         HeaderAnswer::Of(imei) => imei,
         HeaderAnswer::Refused(r) => return DatagramAnswer::Refused(r),
     };
-    match walk::read_data(LONGEST, &p[23..], 0) {
+    match walk::read_data(wire::BASE.longest, &p[23..], 0) {
         DataWalk::Taken {
             codec,
             count,
@@ -118,10 +114,10 @@ fn put_acknowledgement(p: &[u8], count: u8, out: &mut [u8])
 
 // The acknowledgement (the paper's receipt): seven bytes; a refused datagram gets its refusal and no byte.
 pub fn acknowledge_datagram(p: &[u8], out: &mut [u8]) -> Written
-    ensures answer { λ r. ⌜ writtenAs r ≡ writing (udpAcknowledgement 1280 255 (now (p .entry))) (now (out .entry)) ⌝ }
-    ensures buffer { λ r. ⌜ now (out .exit) ≡ leaving (udpAcknowledgement 1280 255 (now (p .entry))) (now (out .entry)) ⌝ }
+    ensures answer { λ r. ⌜ writtenAs r ≡ writing (udpAcknowledgement baseLimits (now (p .entry))) (now (out .entry)) ⌝ }
+    ensures buffer { λ r. ⌜ now (out .exit) ≡ leaving (udpAcknowledgement baseLimits (now (p .entry))) (now (out .entry)) ⌝ }
 {
-    match judge_datagram(LARGEST, LONGEST, p, 0) {
+    match judge_datagram(wire::BASE, p, 0) {
         DataWalk::Refused(r) => Written::Refused(r),
         DataWalk::Taken {
             codec: _,

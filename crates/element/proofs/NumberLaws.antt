@@ -10,13 +10,13 @@ use lib.Dec.{eqb}
 use borrow.Author.Tests.{ne-eqb}
 use Rattle.wire.specs.Numbers.{Bytes, numberAt, pick}
 use Rattle.wire.specs.Reading.{got, repeat}
-use Rattle.wire.specs.Answers.{Answer, accepted, refused}
+use Rattle.wire.specs.Answers.{Answer, accepted, refused, refusal}
 use Rattle.wire.proofs.Accepting.{pick-true, pick-false}
 use Rattle.avl.specs.declared.Widths.{Widths}
 use Rattle.avl.specs.Codecs.{kinds}
 use Rattle.avl.specs.Records.{Element, AvlRecord, elementBytes}
 use Rattle.avl.proofs.Inversion.{group-read}
-use Rattle.avl.specs.RecordReader.{element, group, avlRecord}
+use Rattle.avl.specs.RecordReader.{element, group, plainRecord}
 use Rattle.element.specs.declared.Value.{Value}
 use Rattle.element.specs.declared.ElementAnswer.{ElementAnswer}
 use Rattle.element.specs.Elements.{Located, leadSize, locateGroup, locateGroups, elements, nth}
@@ -39,7 +39,7 @@ nth-behind k [] b h = ap (λ (n : ℕ). nth n b) (omega arith)
 nth-behind zero (e ∷ a) b h = absurd (omega arith)
 nth-behind (suc k) (e ∷ a) b h = nth-behind k a b (omega arith) ∙ ap (λ (n : ℕ). nth n b) (omega arith)
 
-nth-none : (k : ℕ) (a : List Located) → length a ≤ k → nth k a ≡ refused 16 0
+nth-none : (k : ℕ) (a : List Located) → length a ≤ k → nth k a ≡ refused (refusal 16)
 unfolding nth
 nth-none k [] h = refl
 nth-none zero (e ∷ a) h = absurd (omega arith)
@@ -181,7 +181,7 @@ four-kinds w e = omega (arith, ap (λ (ks : List ℕ). length (1 ∷ 2 ∷ 4 ∷
 
 -- the group of variable values is the last
 pub last : (w : Widths) (s : List ℕ) (n left k : ℕ) {at : ℕ} → Ahead w s (nth n) (nth left) k at → k ≡ 4 → w .variable ≡ true
-    → (x : AvlRecord) (m : ℕ) → avlRecord 255 w s 0 ≡ got x m → Onward w (9 ∷ []) s at (nth left) (nth n (elements w x))
+    → (x : AvlRecord) (m : ℕ) → plainRecord w s 0 ≡ got x m → Onward w (9 ∷ []) s at (nth left) (nth n (elements w x))
 unfolding kinds
 last w s n left k {at} a e v x m r =
     let ks : drop k (kinds w) ≡ 9 ∷ [] = ap (λ (j : ℕ). drop j (kinds w)) e ∙ pick-true (w .variable) (9 ∷ []) [] v in

@@ -18,7 +18,7 @@ use Rattle.wire.proofs.Exactness.{Meets, meets-pure}
 use Rattle.avl.specs.declared.Widths.{Widths}
 use Rattle.avl.specs.Codecs.{kinds}
 use Rattle.avl.specs.Records.{Element, AvlRecord, elementCount}
-use Rattle.avl.specs.RecordReader.{valueSize, element, group, groups, avlRecord}
+use Rattle.avl.specs.RecordReader.{valueSize, element, group, groups, plainRecord}
 use Rattle.avl.proofs.Inversion as Inversion
 use Rattle.avl.proofs.Inversion.{number-meets, ListRead, list-read, fixedAt, fixed-read}
 use Rattle.element.specs.declared.RecordFields.{RecordFields}
@@ -113,12 +113,12 @@ pub record RecordRead (w : Widths) (s : List ℕ) (x : AvlRecord) (next : ℕ) :
   pub inside : fixedSize w ≤ length s
   pub groupsRead : groups w (kinds w) s (fixedSize w) ≡ got (x .groups) next
 
-pub record-read : (longest : ℕ) (w : Widths) (s : List ℕ) → Meets (avlRecord longest w s 0) (RecordRead w s)
+pub record-read : (w : Widths) (s : List ℕ) → Meets (plainRecord w s 0) (RecordRead w s)
 unfolding fixedSize
-record-read longest w s =
+record-read w s =
     record {
       if-got = λ x n h.
-          let r = Inversion.record-read longest w s 0 .if-got x n h in
+          let r = Inversion.record-read w s 0 .if-got x n h in
           let f = fixed-read w s 0 .if-got _ _ (r .fixed) in
           let at : r .start + w .count ≡ 24 + w .event + w .generation + w .count = omega (arith, f .end) in
           record { fixedIs = f .is; inside = omega (arith, r .inside); groupsRead = ap (groups w (kinds w) s) (sym at) ∙ r .groupsRead };

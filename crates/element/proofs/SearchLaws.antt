@@ -15,7 +15,7 @@ use Rattle.avl.specs.declared.Widths.{Widths}
 use Rattle.avl.specs.Codecs.{kinds, allKinds}
 use Rattle.avl.specs.Records.{Element, AvlRecord, elementBytes, groupBytes}
 use Rattle.avl.proofs.Inversion.{ListRead, group-read}
-use Rattle.avl.specs.RecordReader.{element, group, groups, avlRecord}
+use Rattle.avl.specs.RecordReader.{element, group, groups, plainRecord}
 use Rattle.avl.proofs.RecordLaws.{group-exact}
 use Rattle.walk.proofs.KindLaws.{kind-known, next-kind}
 use Rattle.element.specs.declared.Value.{Value}
@@ -154,7 +154,7 @@ module _ {w : Widths} {k : ℕ} {ks : List ℕ} {s : List ℕ} {at : ℕ} {look 
 
 -- before the group with number `k`, whatever record is read
 abbrev pub Ahead : Widths → List ℕ → (List Located → Answer Located) → (List Located → Answer Located) → ℕ → ℕ → Type 0
-Ahead w s look rest k at = (x : AvlRecord) (n : ℕ) → avlRecord 255 w s 0 ≡ got x n → Onward w (drop k (kinds w)) s at rest (look (elements w x))
+Ahead w s look rest k at = (x : AvlRecord) (n : ℕ) → plainRecord w s 0 ≡ got x n → Onward w (drop k (kinds w)) s at rest (look (elements w x))
 
 module _ {w : Widths} {s : List ℕ} (look : List Located → Answer Located) where
   pub ahead-start : {at : ℕ} → at ≡ fixedSize w → Ahead w s look look 0 at
@@ -163,11 +163,11 @@ module _ {w : Widths} {s : List ℕ} (look : List Located → Answer Located) wh
       record {
         rest = x .groups;
         end = next;
-        reads = ap (groups w (kinds w) s) e ∙ record-read 255 w s .if-got _ _ h .groupsRead;
+        reads = ap (groups w (kinds w) s) e ∙ record-read w s .if-got _ _ h .groupsRead;
         same = ap (λ (n : ℕ). look (locateGroups w (kinds w) n (x .groups))) e;
       }
 
-  module _ {rest : List Located → Answer Located} {k at : ℕ} (a : Ahead w s look rest k at) (x : AvlRecord) (n : ℕ) (r : avlRecord 255 w s 0 ≡ got x n) where
+  module _ {rest : List Located → Answer Located} {k at : ℕ} (a : Ahead w s look rest k at) (x : AvlRecord) (n : ℕ) (r : plainRecord w s 0 ≡ got x n) where
     pub ahead-next : {kind : ℕ} → k < length (kinds w) → kind ≡ getD allKinds k 0 → Onward w (kind ∷ drop (k + 1) (kinds w)) s at rest (look (elements w x))
     ahead-next h e = subst (λ (ks : List ℕ). Onward w ks s at rest (look (elements w x))) (next-kind w k h (e ∙ kind-known w k h)) (a x n r)
 
@@ -180,7 +180,7 @@ module _ {w : Widths} {s : List ℕ} (look : List Located → Answer Located) wh
 -- the first answer where it found one, else the second
 unfoldable firstOf : Answer Located → Answer Located → Answer Located
 firstOf (accepted e) b = accepted e
-firstOf (refused number index) b = b
+firstOf (refused r) b = b
 
 first-append : (id : ℕ) (a b : List Located) → firstWith id (a ++ b) ≡ firstOf (firstWith id a) (firstWith id b)
 unfolding firstWith firstOf
@@ -195,12 +195,12 @@ first-append id (e ∷ a) b = go (eqb (e .id) id) (first-append id a b)
 hit-first : (r other : Answer Located) (n : ℕ) {v : Value} → hitOr r (Search.Miss n) ≡ Search.Hit v → elementAs (firstOf r other) ≡ ElementAnswer.At v
 unfolding hitOr firstOf elementAs
 hit-first (accepted e) other n h = ap ElementAnswer.At (cc)
-hit-first (refused number index) other n h = absurd (let z : _≡_ {A = ℕ} 0 1 = cc in omega arith)
+hit-first (refused r) other n h = absurd (let z : _≡_ {A = ℕ} 0 1 = cc in omega arith)
 
 miss-first : (r other : Answer Located) (n : ℕ) {next : ℕ} → hitOr r (Search.Miss n) ≡ Search.Miss next → (firstOf r other ≡ other) × (n ≡ next)
 unfolding hitOr firstOf
 miss-first (accepted e) other n h = absurd (let z : _≡_ {A = ℕ} 0 1 = cc in omega arith)
-miss-first (refused number index) other n h = (refl, cc)
+miss-first (refused r) other n h = (refl, cc)
 
 module _ (id : ℕ) {v : Value} (e : Located) (l : List Located) (same : locatedValue e ≡ v) where
   id-is : v .id ≡ e .id

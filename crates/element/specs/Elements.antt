@@ -4,7 +4,7 @@ use mathlib.Core.List.{List, [], _∷_, _++_}
 use lib.ListN.{length}
 use lib.Dec.{eqb}
 use Rattle.wire.specs.Numbers.{pick}
-use Rattle.wire.specs.Answers.{Answer, accepted, refused}
+use Rattle.wire.specs.Answers.{Answer, accepted, refused, refusal}
 use Rattle.avl.specs.declared.Widths.{Widths}
 use Rattle.avl.specs.Codecs.{kinds}
 use Rattle.avl.specs.Records.{Element, AvlRecord, elementBytes, groupBytes}
@@ -39,11 +39,11 @@ elements w r = locateGroups w (kinds w) (fixedSize w) (r .groups)
 
 -- the n-th of a list, from 0, else 16
 unfoldable pub nth : {A : Type 0} → ℕ → List A → Answer A
-nth n [] = refused 16 0
+nth n [] = refused (refusal 16)
 nth zero (a ∷ l) = accepted a
 nth (suc n) (a ∷ l) = nth n l
 
 -- the first with this ID, else 16
 unfoldable pub firstWith : ℕ → List Located → Answer Located
-firstWith id [] = refused 16 0
+firstWith id [] = refused (refusal 16)
 firstWith id (e ∷ l) = pick (eqb (e .id) id) (accepted e) (firstWith id l)

@@ -7,7 +7,7 @@ use Rattle.wire.specs.Reading.{got}
 use Rattle.wire.specs.Answers.{Answer, accepted, refused}
 use Rattle.avl.specs.declared.Widths.{Widths}
 use Rattle.avl.specs.Records.{Element, AvlRecord, elementCount}
-use Rattle.avl.specs.RecordReader.{element, group, avlRecord}
+use Rattle.avl.specs.RecordReader.{element, group, plainRecord}
 use Rattle.element.specs.declared.Value.{Value}
 use Rattle.element.specs.declared.Search.{Search}
 use Rattle.element.specs.declared.ElementAnswer.{ElementAnswer}
@@ -15,10 +15,10 @@ use Rattle.element.specs.declared.ElementAnswer.the-variants.{At, Nothin
 use Rattle.element.specs.Elements.{Located, leadSize, elements, firstWith}
 
 -- the bytes `s` begin with a record that can be read
-pub record Readable (longest : ℕ) (w : Widths) (s : List ℕ) : Type 0 where
+pub record Readable (w : Widths) (s : List ℕ) : Type 0 where
   pub content : AvlRecord
   pub next : ℕ
-  pub reads : avlRecord longest w s 0 ≡ got content next
+  pub reads : plainRecord w s 0 ≡ got content next
 
 -- at `at` an element, or a group, of this kind can be read
 pub record ReadableElement (w : Widths) (kind : ℕ) (s : List ℕ) (at : ℕ) : Type 0 where
@@ -32,8 +32,8 @@ pub record ReadableGroup (w : Widths) (kind : ℕ) (s : List ℕ) (at : ℕ) : T
   pub reads : group w kind s at ≡ got members next
 
 -- the record that the bytes `s` begin with has so many elements
-abbrev pub HasElements : ℕ → Widths → List ℕ → ℕ → Type 0
-HasElements longest w s n = (x : AvlRecord) (next : ℕ) → avlRecord longest w s 0 ≡ got x next → n ≡ elementCount (x .groups)
+abbrev pub HasElements : Widths → List ℕ → ℕ → Type 0
+HasElements w s n = (x : AvlRecord) (next : ℕ) → plainRecord w s 0 ≡ got x next → n ≡ elementCount (x .groups)
 
 -- ---- the search among a record's elements
 
@@ -46,7 +46,7 @@ valueAt w kind at e = record { id = e .id; kind = kind; offset = at + leadSize w
 
 unfoldable pub hitOr : Answer Located → Search → Search
 hitOr (accepted e) miss = Search.Hit (locatedValue e)
-hitOr (refused number index) miss = miss
+hitOr (refused r) miss = miss
 
 -- the first with this ID in a group that ends at `next`
 unfoldable pub searched : ℕ → ℕ → List Located → Search
@@ -54,8 +54,8 @@ searched id next l = hitOr (firstWith id l) (Search.Miss next)
 
 unfoldable pub elementAs : Answer Located → ElementAnswer
 elementAs (accepted e) = At (locatedValue e)
-elementAs (refused number index) = Nothing
+elementAs (refused r) = Nothing
 
 -- the answer is the element that is looked for in the record that the bytes `s` begin with
-abbrev pub Finds : ℕ → Widths → List ℕ → (List Located → Answer Located) → ElementAnswer → Type 0
-Finds longest w s look r = (x : AvlRecord) (n : ℕ) → avlRecord longest w s 0 ≡ got x n → r ≡ elementAs (look (elements w x))
+abbrev pub Finds : Widths → List ℕ → (List Located → Answer Located) → ElementAnswer → Type 0
+Finds w s look r = (x : AvlRecord) (n : ℕ) → plainRecord w s 0 ≡ got x n → r ≡ elementAs (look (elements w x))

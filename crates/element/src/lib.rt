@@ -5,7 +5,7 @@ ghost use Prim.Native.Nat.{ℕ, _+_, _≤_};
 ghost use mathlib.Core.List.{List};
 ghost use Rattle.wire.specs.Reading.{got};
 ghost use Rattle.avl.specs.Records.{Element, AvlRecord};
-ghost use Rattle.avl.specs.RecordReader.{element, group, avlRecord};
+ghost use Rattle.avl.specs.RecordReader.{element, group, plainRecord};
 ghost use Rattle.walk.specs.Walks.{Narrow};
 ghost use Rattle.element.specs.Elements.{fixedSize, locateGroup, nth, firstWith};
 ghost use Rattle.element.specs.Results.{recordResult};
@@ -57,9 +57,9 @@ fn fixed_size(w: Widths) -> usize
 // The fixed fields of the record that `part` is, which has so many elements. The fields that are always there are read last, in one run.
 pub fn fields_of(w: Widths, part: &[u8], elements: usize) -> RecordFields
     requires { ⌜ Narrow w ⌝ }
-    requires { ⌜ Readable 255 w (now part) ⌝ }
-    requires { ⌜ HasElements 255 w (now part) elements ⌝ }
-    ensures { λ r. ⌜ ((x : AvlRecord) (n : ℕ) → avlRecord 255 w (now (part .entry)) 0 ≡ got x n → r ≡ recordResult x) ⌝ }
+    requires { ⌜ Readable w (now part) ⌝ }
+    requires { ⌜ HasElements w (now part) elements ⌝ }
+    ensures { λ r. ⌜ ((x : AvlRecord) (n : ℕ) → plainRecord w (now (part .entry)) 0 ≡ got x n → r ≡ recordResult x) ⌝ }
 {
     let event = w.event;
     let generation = w.generation;
@@ -133,8 +133,8 @@ fn find_in_group(w: Widths, kind: usize, part: &[u8], at: usize, id: u16) -> Sea
 // The first element with this ID, of the record that `part` is.
 pub fn find_id(w: Widths, part: &[u8], id: u16) -> ElementAnswer
     requires { ⌜ Narrow w ⌝ }
-    requires { ⌜ Readable 255 w (now part) ⌝ }
-    ensures { λ r. ⌜ Finds 255 w (now (part .entry)) (firstWith id) r ⌝ }
+    requires { ⌜ Readable w (now part) ⌝ }
+    ensures { λ r. ⌜ Finds w (now (part .entry)) (firstWith id) r ⌝ }
 {
     let kinds = walk::kind_count(w);
     let mut next = fixed_size(w);
@@ -173,8 +173,8 @@ fn nth_variable(w: Widths, part: &[u8], at: usize, n: usize) -> ElementAnswer
 // The element with number `n` of the record that `part` is. A group of fixed values is stepped over by its size.
 pub fn nth_element(w: Widths, part: &[u8], n: usize) -> ElementAnswer
     requires { ⌜ Narrow w ⌝ }
-    requires { ⌜ Readable 255 w (now part) ⌝ }
-    ensures { λ r. ⌜ Finds 255 w (now (part .entry)) (nth n) r ⌝ }
+    requires { ⌜ Readable w (now part) ⌝ }
+    ensures { λ r. ⌜ Finds w (now (part .entry)) (nth n) r ⌝ }
 {
     let width = w.count;
     let id = w.id;

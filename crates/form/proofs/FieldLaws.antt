@@ -7,8 +7,8 @@ use lib.ListN.{length, take, drop, getD, length-drop}
 use lib.Seq.{sets, length-take-le}
 use Rattle.wire.specs.Numbers.{Bytes, le}
 use Rattle.wire.specs.Envelope.{codecOf, firstCount, inner}
-use Rattle.wire.specs.Reading.{got}
-use Rattle.wire.specs.Answers.{accepted}
+use Rattle.wire.specs.Reading.{got, repeat}
+use Rattle.wire.specs.Answers.{accepted, refusal}
 use Rattle.wire.proofs.Widths.{bytes-take, bytes-drop}
 use Rattle.wire.proofs.Storing.{sets-append}
 use Rattle.wire.proofs.Exactness.{Meets, meets-then, meets-next, meets-pure}
@@ -16,7 +16,7 @@ use Rattle.wire.proofs.Accepting.{check-accepted, onAccepted-accepted, told-acc
 use Rattle.avl.specs.declared.Widths.{Widths}
 use Rattle.avl.specs.Codecs.{widthsOf, kinds}
 use Rattle.avl.specs.Records.{AvlRecord}
-use Rattle.avl.specs.RecordReader.{avlRecords, atEnd, allRecords}
+use Rattle.avl.specs.RecordReader.{plainRecord, avlRecords, atEnd, allRecords}
 use Rattle.avl.specs.DataField.{AvlData, readData}
 use Rattle.tlv.specs.Entries.{entryBytes}
 use Rattle.tlv.specs.Form.{recordsEntries, formEntries, form}
@@ -25,17 +25,17 @@ use Rattle.wire.specs.Buffers.{writtenAs}
 use Rattle.wire.proofs.BufferLaws.{writing-done, writing-short, leaving-done, leaving-short, sets-front}
 use Rattle.form.specs.declared.Moved.{Moved}
 use Rattle.form.specs.Moves.{Ready, Copies, dataEntries, Field, Writes}
-use Rattle.avl.proofs.Inversion.{meets-self}
+use Rattle.avl.proofs.Inversion.{meets-self, plain-records}
 use Rattle.form.proofs.MoveLaws.{moved, laid}
 use Rattle.form.proofs.FormSize.{form-size}
 
 -- the entry of the codec, then the records'
 pub form-copied : (codec count : ℕ) {w : Widths} {s before mid after : List ℕ} {r : Moved} → w ≡ widthsOf codec → mid ≡ sets before 0 (1 ∷ 0 ∷ 100 ∷ 0 ∷ codec ∷ [])
-    → Copies (avlRecords 255 w 0 count) (recordsEntries (kinds w)) s 0 5 mid after r
-    → Copies (avlRecords 255 (widthsOf codec) 0 count) (dataEntries codec) s 0 0 before after r
+    → Copies (repeat count (plainRecord w)) (recordsEntries (kinds w)) s 0 5 mid after r
+    → Copies (repeat count (plainRecord (widthsOf codec))) (dataEntries codec) s 0 0 before after r
 unfolding entryBytes formEntries le
 form-copied codec count {w} {s} {before} {mid} {after} {r} is e c =
-    let d = subst (λ (x : Widths). Copies (avlRecords 255 x 0 count) (recordsEntries (kinds x)) s 0 5 mid after r) is c in
+    let d = subst (λ (x : Widths). Copies (repeat count (plainRecord x)) (recordsEntries (kinds x)) s 0 5 mid after r) is c in
     record {
       moves = λ a n k. d .moves a n k ∙ ap (moved n) (omega arith);
       stores = λ a n k.
@@ -71,29 +71,29 @@ module _ (d : List ℕ) where
   pub record FieldRead (a : AvlData) : Type 0 where
     pub records : List AvlRecord
     pub end : ℕ
-    pub reads : avlRecords 255 (widthsOf codec) 0 count body 0 ≡ got records end
+    pub reads : repeat count (plainRecord (widthsOf codec)) body 0 ≡ got records end
     pub is : a ≡ record { codec = codec; records = records }
 
-  pub field-read : (a : AvlData) → readData 255 d ≡ accepted a → FieldRead a
+  pub field-read : (longest : ℕ) (a : AvlData) → readData longest d ≡ accepted a → FieldRead a
   unfolding readData codecOf firstCount inner
-  field-read a e =
+  field-read longest a e =
       let c₁ = check-accepted _ 6 _ e in
       let c₂ = check-accepted _ 7 _ (c₁ .1) in
       let c₃ = check-accepted _ 7 _ (c₂ .1) in
       let c₄ = onAccepted-accepted _ _ (c₃ .1) in
       let c₅ = told-accepted _ (c₄ .1) in
-      let r = all-read 255 (widthsOf codec) count (inner d) 0 .if-got _ _ (c₅ .1) in
+      let r = all-read longest (widthsOf codec) count (inner d) 0 .if-got _ _ (c₅ .1) in
       let same : length d - 1 - 2 ≡ length d - 3 = omega arith in
       record {
         records = c₄ .0;
         end = r .0;
-        reads = ap (λ (n : ℕ). avlRecords 255 (widthsOf codec) 0 count (take n (drop 2 d)) 0) same ∙ r .1;
+        reads = ap (λ (n : ℕ). repeat count (plainRecord (widthsOf codec)) (take n (drop 2 d)) 0) same ∙ plain-records longest (widthsOf codec) 0 count _ 0 (r .1);
         is = cc;
       }
 
-  pub field-ready : Bytes d → Field d → Ready (avlRecords 255 (widthsOf codec) 0 count) body 0 5
+  pub field-ready : Bytes d → Field d → Ready (repeat count (plainRecord (widthsOf codec))) body 0 5
   field-ready b k =
-      let r = field-read (k .content) (k .accepts) in
+      let r = field-read (k .longest) (k .content) (k .accepts) in
       let size = length-take-le (length d - 1 - 2) (drop 2 d) (simp length-drop (omega arith)) in
       record {
         bytes = bytes-take (length d - 1 - 2) (drop 2 d) (bytes-drop 2 d b);
@@ -107,43 +107,43 @@ module _ (d : List ℕ) where
 
   -- a run over a buffer
   abbrev pub Formed : List ℕ → List ℕ → Moved → Type 0
-  Formed before after r = Copies (avlRecords 255 (widthsOf codec) 0 count) (dataEntries codec) body 0 0 before after r
+  Formed before after r = Copies (repeat count (plainRecord (widthsOf codec))) (dataEntries codec) body 0 0 before after r
 
-  formed : {before after : List ℕ} {r : Moved} → Formed before after r → (a : AvlData) → readData 255 d ≡ accepted a
+  formed : {before after : List ℕ} {r : Moved} → Formed before after r → (longest : ℕ) (a : AvlData) → readData longest d ≡ accepted a
       → (r .to ≡ length (form a)) × (after ≡ sets before 0 (form a))
   unfolding form
-  formed {before} c a e =
-      let k = field-read a e in
+  formed {before} c longest a e =
+      let k = field-read longest a e in
       let size = ap (λ (x : Moved). x .to) (c .moves _ _ (k .reads)) in
       let entries = ap (λ (x : AvlData). laid (formEntries x)) (sym (k .is)) in
       (omega (arith, size, ap length entries), c .stores _ _ (k .reads) ∙ ap (sets before 0) entries)
 
   -- a run over a buffer that is long enough
-  writes-whole : {out after : List ℕ} {r : Moved} {n : ℕ} → Formed out after r → ((a : AvlData) → readData 255 d ≡ accepted a → (n ≡ length (form a)) × (length (form a) ≤ length out))
+  writes-whole : {out after : List ℕ} {r : Moved} {n : ℕ} → Formed out after r → ((longest : ℕ) (a : AvlData) → readData longest d ≡ accepted a → (n ≡ length (form a)) × (length (form a) ≤ length out))
       → Writes d out after (Written.Bytes n)
   unfolding writtenAs
   writes-whole {out} c h =
       record {
-        answer = λ a e. ap accepted (h a e .0) ∙ sym (writing-done (form a) out (h a e .1));
-        buffer = λ a e. formed c a e .1 ∙ sets-front (form a) out (h a e .1) ∙ sym (leaving-done (form a) out (h a e .1));
+        answer = λ longest a e. ap accepted (h longest a e .0) ∙ sym (writing-done (form a) out (h longest a e .1));
+        buffer = λ longest a e. formed c longest a e .1 ∙ sets-front (form a) out (h longest a e .1) ∙ sym (leaving-done (form a) out (h longest a e .1));
       }
 
   pub writes-room : {out after : List ℕ} {r : Moved} → Bytes d → Field d → 4 * length d ≤ length out → Formed out after r → Writes d out after (Written.Bytes (r .to))
-  writes-room b k h c = writes-whole c (λ a e. (formed c a e .0, omega (arith, h, form-size 255 d a b (k .long) e)))
+  writes-room b k h c = writes-whole c (λ longest a e. (formed c longest a e .0, omega (arith, h, form-size longest d a b (k .long) e)))
 
   -- a run over no buffer changes nothing
   module _ {none last out : List ℕ} {r : Moved} (run : Formed none last r) (empty : length last ≡ 0) where
     unchanged : last ++ out ≡ out
     unchanged = ap (λ (l : List ℕ). l ++ out) (length-zero last empty)
 
-    pub writes-short : length (last ++ out) < r .to → Writes d out (last ++ out) (Written.Refused (record { number = 18; index = 0 }))
+    pub writes-short : length (last ++ out) < r .to → Writes d out (last ++ out) (Written.Refused (refusal 18))
     unfolding writtenAs
     writes-short h =
         record {
-          answer = λ a e. sym (writing-short (form a) out (omega (arith, formed run a e .0, ap length unchanged)));
-          buffer = λ a e. unchanged ∙ sym (leaving-short (form a) out (omega (arith, formed run a e .0, ap length unchanged)));
+          answer = λ longest a e. sym (writing-short (form a) out (omega (arith, formed run longest a e .0, ap length unchanged)));
+          buffer = λ longest a e. unchanged ∙ sym (leaving-short (form a) out (omega (arith, formed run longest a e .0, ap length unchanged)));
         }
 
     pub writes-done : {after : List ℕ} {q : Moved} → r .to ≤ length (last ++ out) → Formed (last ++ out) after q → Writes d out after (Written.Bytes (r .to))
     writes-done {after} {q} h c =
-        writes-whole (subst (λ (l : List ℕ). Formed l after q) unchanged c) (λ a e. (formed run a e .0, omega (arith, formed run a e .0, ap length unchanged)))
+        writes-whole (subst (λ (l : List ℕ). Formed l after q) unchanged c) (λ longest a e. (formed run longest a e .0, omega (arith, formed run longest a e .0, ap length unchanged)))

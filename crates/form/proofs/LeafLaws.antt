@@ -1,5 +1,5 @@
 -- The entries that are stored at once: that of the fixed fields, and that of an element.
-use Prim.Native.Nat.{ℕ, _+_, _-_, _≤_}
+use Prim.Native.Nat.{ℕ, _+_, _-_, _^_, _≤_, _<_}
 use native.Mathlib.Omega.{arith}
 use mathlib.Core.Path.{_≡_, sym, ap, ap₂, _∙_}
 use mathlib.Core.List.{List, [], _++_, append-nil}
@@ -21,13 +21,13 @@ use Rattle.form.proofs.MoveLaws.{moved, laid, copies-of}
 
 -- a place to store at is a small number, and so is one a little further on
 module _ {A : Type 0} {m : Reader A} {s : List ℕ} {from to : ℕ} (k : Ready m s from to) where
-  pub near : to ≤ 16384
+  pub near : to ≤ 2 ^ 36
   near = omega (arith, k .small, k .inside, k .behind)
 
-  pub near-on : (i : ℕ) → i ≤ 16384 → to + i ≤ 65536
+  pub near-on : (i : ℕ) → i ≤ 2 ^ 36 → to + i ≤ 2 ^ 40
   near-on i h = omega (arith, near)
 
-  pub near-fits : (i : ℕ) → i ≤ 16384 → Fits w64 (to + i)
+  pub near-fits : (i : ℕ) → i ≤ 2 ^ 36 → Fits w64 (to + i)
   near-fits i h = let l = near-on i h in omega arith
 
 -- `o` is the buffer `l` with the bytes `done` stored from `to` on
@@ -51,7 +51,7 @@ module _ (w : Widths) {s : List ℕ} {at to : ℕ} (k : Ready (fixedFields w) s 
   fixed-fits = omega (arith, fixed-inside, k .small)
 
   -- a field of the first 24 bytes
-  pub field-inside : (i w : ℕ) → i + w ≤ 24 → w ≤ 8 → (at + i + w ≤ length s) × (w ≤ 8) × (i ≤ 24) × (to ≤ 16384)
+  pub field-inside : (i w : ℕ) → i + w ≤ 24 → w ≤ 8 → (at + i + w ≤ length s) × (w ≤ 8) × (i ≤ 24) × (to ≤ 2 ^ 36)
   field-inside i w h l = (omega (arith, fixed-inside), l, omega arith, near k)
 
   pub fixed-copied : {before after : List ℕ} → Stored before to (laid (fixedEntries (fixedAt w s at))) after
@@ -80,7 +80,7 @@ module _ (w : Widths) (kind : ℕ) {s : List ℕ} {at to : ℕ} (k : Ready (elem
     pub value-inside : start + size ≤ length s
     value-inside = omega (arith, parts .inside, sizes .0, sizes .1)
 
-    pub size-small : size ≤ 1280
+    pub size-small : size < 2 ^ 32
     size-small = omega (arith, value-inside, k .small)
 
     abbrev value : List ℕ

@@ -1,17 +1,16 @@
 -- Loops over content: what is left, read and stored from here on, gives what the whole gives.
 use Prim.Native.Nat.{ℕ, zero, suc, _+_, _-_, _≤_, _<_}
-use native.Mathlib.Numerals.{add-one}
 use native.Mathlib.Omega.{arith}
 use mathlib.Core.Path.{_≡_, refl, sym, ap, ap₂, _∙_, subst}
 use mathlib.Core.List.{List, [], _∷_, _++_}
 use lib.ListN.{length, drop, getD, drop-of-length-le}
 use lib.Seq.{sets}
 use Rattle.wire.specs.Numbers.{numberAt}
-use Rattle.wire.specs.Reading.{Read, got, bad, Reader, pure, repeat}
+use Rattle.wire.specs.Reading.{got, Reader, pure, repeat}
 use Rattle.wire.proofs.Walking.{number-there}
 use Rattle.avl.specs.declared.Widths.{Widths}
 use Rattle.avl.specs.Codecs.{kinds}
-use Rattle.avl.specs.RecordReader.{element, group, groups, fixedFields, avlRecord, tagged, inRecord, avlRecords}
+use Rattle.avl.specs.RecordReader.{element, group, groups, fixedFields, plainRecord}
 use Rattle.walk.proofs.KindLaws.{next-kind}
 use Rattle.tlv.specs.Entries.{Entry}
 use Rattle.tlv.specs.Form.{groupEntries, groupsEntries, recordsEntries}
@@ -61,10 +60,10 @@ abbrev pub GroupLeft : Widths → ℕ → List ℕ → ℕ → ℕ → List ℕ 
 GroupLeft w kind s at to before from dest out n =
     Left (repeat n (element w kind)) (groupEntries kind) (group w kind) (groupEntries kind) s at to before from dest out
 
-elements-more : (w : Widths) (kind n : ℕ) → 0 < n → repeat n (element w kind) ≡ listed (element w kind) (repeat (n - 1) (element w kind))
+repeat-more : {A : Type 0} (m : Reader A) (n : ℕ) → 0 < n → repeat n m ≡ listed m (repeat (n - 1) m)
 unfolding repeat
-elements-more w kind zero h = absurd (omega arith)
-elements-more w kind (suc n) h = let less : n ≡ suc n - 1 = omega arith in ap (λ (k : ℕ). listed (element w kind) (repeat k (element w kind))) less
+repeat-more m zero h = absurd (omega arith)
+repeat-more m (suc n) h = let less : n ≡ suc n - 1 = omega arith in ap (λ (k : ℕ). listed m (repeat k m)) less
 
 module _ (w : Widths) (kind : ℕ) {s : List ℕ} {at to : ℕ} where
   pub group-inside : Ready (group w kind) s at to → at + w .count ≤ length s
@@ -92,12 +91,12 @@ module _ (w : Widths) (kind : ℕ) {s : List ℕ} {at to : ℕ} where
 
   module _ {before : List ℕ} {from dest : ℕ} {out : List ℕ} (n : ℕ) (l : GroupLeft w kind s at to before from dest out n) where
     pub group-first : 0 < n → Ready (element w kind) s from dest
-    group-first h = left-first (element w kind) (repeat (n - 1) (element w kind)) (elements-more w kind n h) l
+    group-first h = left-first (element w kind) (repeat (n - 1) (element w kind)) (repeat-more (element w kind) n h) l
 
     pub group-on : 1 ≤ kind → 0 < n → {mid : List ℕ} {r : Moved} → Copies (element w kind) (elementEntries kind) s from dest out mid r → length mid ≡ length out
         → GroupLeft w kind s at to before (r .from) (r .to) mid (n - 1)
     unfolding groupEntries
-    group-on i h c e = left-on (element w kind) (repeat (n - 1) (element w kind)) (elements-more w kind n h) l (λ a g. refl) (paced-element w kind i) c e
+    group-on i h c e = left-on (element w kind) (repeat (n - 1) (element w kind)) (repeat-more (element w kind) n h) l (λ a g. refl) (paced-element w kind i) c e
 
     pub group-done : n ≤ 0 → Copies (group w kind) (groupEntries kind) s at to before out (moved from dest)
     unfolding repeat pure groupEntries
@@ -132,9 +131,9 @@ module _ (w : Widths) {s : List ℕ} {at to : ℕ} {before : List ℕ} {from des
 
 -- ---- a record
 
-module _ (longest : ℕ) (w : Widths) {s : List ℕ} {at to : ℕ} (k : Ready (avlRecord longest w) s at to) where
+module _ (w : Widths) {s : List ℕ} {at to : ℕ} (k : Ready (plainRecord w) s at to) where
   whole : RecordRead w s at (k .content) (k .next)
-  whole = record-read longest w s at .if-got _ _ (k .reads)
+  whole = record-read w s at .if-got _ _ (k .reads)
 
   pub record-fixed : Ready (fixedFields w) s at to
   record-fixed =
@@ -167,7 +166,7 @@ module _ (longest : ℕ) (w : Widths) {s : List ℕ} {at to : ℕ} (k : Ready (a
         }
 
     pub record-copied : {after : List ℕ} {q : Moved} → Copies (groups w (kinds w)) (groupsEntries (kinds w)) s (r .from + w .count) (r .to) mid after q
-        → Copies (avlRecord longest w) (recordEntries (kinds w)) s at to before after q
+        → Copies (plainRecord w) (recordEntries (kinds w)) s at to before after q
     record-copied d =
         let one = fixedEntries (k .content .fixed) in
         let many = groupsEntries (kinds w) (k .content .groups) in
@@ -179,63 +178,30 @@ module _ (longest : ℕ) (w : Widths) {s : List ℕ} {at to : ℕ} (k : Ready (a
 
 -- ---- records
 
-tagged-got : {A : Type 0} (i : ℕ) (r : Read A) {a : A} {n : ℕ} → tagged i r ≡ got a n → r ≡ got a n
-unfolding tagged
-tagged-got i (got b m) e = e
-tagged-got i (bad x) e = absurd (let z : _≡_ {A = ℕ} 0 1 = cc in omega arith)
-
-module _ {A : Type 0} (i : ℕ) (m : Reader A) where
-  ready-untagged : {s : List ℕ} {from to : ℕ} → Ready (inRecord i m) s from to → Ready m s from to
-  unfolding inRecord
-  ready-untagged {s} {from} k =
-      record {
-        bytes = k .bytes;
-        small = k .small;
-        inside = k .inside;
-        behind = k .behind;
-        content = k .content;
-        next = k .next;
-        reads = tagged-got i (m s from) (k .reads);
-      }
-
-  copies-tagged : {entries : A → List Entry} {s : List ℕ} {from to : ℕ} {before after : List ℕ} {r : Moved} → Copies m entries s from to before after r
-      → Copies (inRecord i m) entries s from to before after r
-  unfolding inRecord
-  copies-tagged {s = s} {from = from} c =
-      record { moves = λ a n e. c .moves a n (tagged-got i (m s from) e); stores = λ a n e. c .stores a n (tagged-got i (m s from) e) }
-
-  pub paced-tagged : {entries : A → List Entry} → Paced m entries → Paced (inRecord i m) entries
-  unfolding inRecord
-  paced-tagged p = record { pace = λ s at h. record { if-got = λ a n e. p .pace s at h .if-got a n (tagged-got i (m s at) e) } }
-
 abbrev pub RecordsLeft : Widths → ℕ → List ℕ → ℕ → List ℕ → ℕ → ℕ → List ℕ → ℕ → Type 0
 RecordsLeft w count s to before from dest out i =
-    Left (avlRecords 255 w i (count - i)) (recordsEntries (kinds w)) (avlRecords 255 w 0 count) (recordsEntries (kinds w)) s 0 to before from dest out
+    Left (repeat (count - i) (plainRecord w)) (recordsEntries (kinds w)) (repeat count (plainRecord w)) (recordsEntries (kinds w)) s 0 to before from dest out
 
-records-more : (w : Widths) (count i : ℕ) → i < count
-    → avlRecords 255 w i (count - i) ≡ listed (inRecord i (avlRecord 255 w)) (avlRecords 255 w (i + 1) (count - (i + 1)))
-unfolding avlRecords
+records-more : (w : Widths) (count i : ℕ) → i < count → repeat (count - i) (plainRecord w) ≡ listed (plainRecord w) (repeat (count - (i + 1)) (plainRecord w))
 records-more w count i h =
-    let more : count - i ≡ suc (count - (i + 1)) = omega arith in
-    ap (avlRecords 255 w i) more ∙ ap (λ (k : ℕ). listed (inRecord i (avlRecord 255 w)) (avlRecords 255 w k (count - (i + 1)))) (sym (add-one i))
+    let less : count - i - 1 ≡ count - (i + 1) = omega arith in
+    repeat-more (plainRecord w) (count - i) (omega arith) ∙ ap (λ (k : ℕ). listed (plainRecord w) (repeat k (plainRecord w))) less
 
 module _ (w : Widths) (count : ℕ) {s : List ℕ} {to : ℕ} where
-  pub records-start : {out : List ℕ} → Ready (avlRecords 255 w 0 count) s 0 to → RecordsLeft w count s to out 0 to out 0
+  pub records-start : {out : List ℕ} → Ready (repeat count (plainRecord w)) s 0 to → RecordsLeft w count s to out 0 to out 0
   records-start {out} k =
       let all : count ≡ count - 0 = omega arith in
-      subst (λ (n : ℕ). Left (avlRecords 255 w 0 n) (recordsEntries (kinds w)) (avlRecords 255 w 0 count) (recordsEntries (kinds w)) s 0 to out 0 to out) all (left-start k)
+      subst (λ (n : ℕ). Left (repeat n (plainRecord w)) (recordsEntries (kinds w)) (repeat count (plainRecord w)) (recordsEntries (kinds w)) s 0 to out 0 to out) all (left-start k)
 
   module _ {before : List ℕ} {from dest : ℕ} {out : List ℕ} (i : ℕ) (l : RecordsLeft w count s to before from dest out i) where
-    pub records-first : i < count → Ready (avlRecord 255 w) s from dest
-    records-first h = ready-untagged i (avlRecord 255 w) (left-first (inRecord i (avlRecord 255 w)) (avlRecords 255 w (i + 1) (count - (i + 1))) (records-more w count i h) l)
+    pub records-first : i < count → Ready (plainRecord w) s from dest
+    records-first h = left-first (plainRecord w) (repeat (count - (i + 1)) (plainRecord w)) (records-more w count i h) l
 
-    pub records-on : i < count → {mid : List ℕ} {r : Moved} → Copies (avlRecord 255 w) (recordEntries (kinds w)) s from dest out mid r → length mid ≡ length out
+    pub records-on : i < count → {mid : List ℕ} {r : Moved} → Copies (plainRecord w) (recordEntries (kinds w)) s from dest out mid r → length mid ≡ length out
         → RecordsLeft w count s to before (r .from) (r .to) mid (i + 1)
     unfolding recordsEntries
-    records-on h c e =
-        left-on (inRecord i (avlRecord 255 w)) (avlRecords 255 w (i + 1) (count - (i + 1))) (records-more w count i h) l (λ r rs. refl)
-        (paced-tagged i (avlRecord 255 w) (paced-record w 255)) (copies-tagged i (avlRecord 255 w) c) e
+    records-on h c e = left-on (plainRecord w) (repeat (count - (i + 1)) (plainRecord w)) (records-more w count i h) l (λ r rs. refl) (paced-record w) c e
 
-    pub records-done : count ≤ i → Copies (avlRecords 255 w 0 count) (recordsEntries (kinds w)) s 0 to before out (moved from dest)
-    unfolding avlRecords pure recordsEntries
-    records-done h = let none : count - i ≡ 0 = omega arith in left-done [] l (ap (λ (n : ℕ). avlRecords 255 w i n s from) none) refl
+    pub records-done : count ≤ i → Copies (repeat count (plainRecord w)) (recordsEntries (kinds w)) s 0 to before out (moved from dest)
+    unfolding repeat pure recordsEntries
+    records-done h = let none : count - i ≡ 0 = omega arith in left-done [] l (ap (λ (n : ℕ). repeat n (plainRecord w) s from) none) refl

@@ -14,7 +14,7 @@ use Rattle.wire.proofs.Storing.{sets-append}
 use Rattle.avl.specs.declared.Widths.{Widths}
 use Rattle.avl.specs.Codecs.{kinds}
 use Rattle.avl.specs.Records.{Element}
-use Rattle.avl.specs.RecordReader.{element, group, groups, fixedFields, avlRecord}
+use Rattle.avl.specs.RecordReader.{element, group, groups, fixedFields, plainRecord}
 use Rattle.walk.proofs.KindLaws.{KindRange, kinds-range}
 use Rattle.tlv.specs.Entries.{Entry, entryBytes}
 use Rattle.tlv.specs.Form.{fixedEntry, elementEntry, groupEntries, groupsEntries}
@@ -170,10 +170,10 @@ module _ (w : Widths) where
   paced-fixed =
       record { pace = λ s at i. meets-weaken (fixed-read w s at) (λ f n k. (k .inside, omega (arith, k .end))) }
 
-  pub paced-record : (longest : ℕ) → Paced (avlRecord longest w) (recordEntries (kinds w))
-  paced-record longest =
+  pub paced-record : Paced (plainRecord w) (recordEntries (kinds w))
+  paced-record =
       record {
-        pace = λ s at i. meets-weaken (record-read longest w s at) (λ r n k.
+        pace = λ s at i. meets-weaken (record-read w s at) (λ r n k.
             let p = paced-fixed .pace s at i .if-got _ _ (k .fixed) in
             let q = paced-groups (kinds w) (kinds-range w) .pace s _ (k .inside) .if-got _ _ (k .groupsRead) in
             let size = length-laid (fixedEntries (r .fixed)) (groupsEntries (kinds w) (r .groups)) in

@@ -1,5 +1,5 @@
 -- What the writer's functions need and do: content is read at one place, and its entries are stored at another.
-use Prim.Native.Nat.{ℕ, _+_, _*_, _≤_}
+use Prim.Native.Nat.{ℕ, _+_, _*_, _^_, _≤_, _<_}
 use mathlib.Core.Path.{_≡_}
 use mathlib.Core.List.{List, [], _∷_}
 use lib.ListN.{length}
@@ -19,7 +19,7 @@ use Rattle.form.specs.declared.Moved.{Moved}
 -- `m` can read at `from`; eight bytes of entries for each byte read are room enough
 pub record Ready {A : Type 0} (m : Reader A) (s : List ℕ) (from to : ℕ) : Type 0 where
   pub bytes : Bytes s
-  pub small : length s ≤ 1280
+  pub small : length s < 2 ^ 32
   pub inside : from ≤ length s
   pub behind : to ≤ 8 * from + 5
   pub content : A
@@ -49,14 +49,15 @@ dataEntries codec rs = formEntries (record { codec = codec; records = rs })
 unfoldable pub formOfField : ℕ → List ℕ → Answer (List ℕ)
 formOfField longest d = onAccepted (readData longest d) (λ a. accepted (form a))
 
--- a data field of this length that is accepted
+-- a data field that is accepted within some limit; four bytes can tell its length
 pub record Field (d : List ℕ) : Type 0 where
   pub long : 3 ≤ length d
-  pub small : length d ≤ 1280
+  pub small : length d < 2 ^ 32
+  pub longest : ℕ
   pub content : AvlData
-  pub accepts : readData 255 d ≡ accepted content
+  pub accepts : readData longest d ≡ accepted content
 
--- its form is written
+-- its form is written, whatever the limit within which it is accepted
 pub record Writes (d before after : List ℕ) (r : Written) : Type 0 where
-  pub answer : (a : AvlData) → readData 255 d ≡ accepted a → writtenAs r ≡ writing (accepted (form a)) before
-  pub buffer : (a : AvlData) → readData 255 d ≡ accepted a → after ≡ leaving (accepted (form a)) before
+  pub answer : (longest : ℕ) (a : AvlData) → readData longest d ≡ accepted a → writtenAs r ≡ writing (accepted (form a)) before
+  pub buffer : (longest : ℕ) (a : AvlData) → readData longest d ≡ accepted a → after ≡ leaving (accepted (form a)) before

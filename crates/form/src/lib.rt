@@ -9,13 +9,14 @@ ghost use mathlib.Core.List.{_++_};
 ghost use lib.ListN.{length};
 ghost use lib.Seq.{sets};
 ghost use Rattle.wire.specs.Numbers.{numberAt, le};
-ghost use Rattle.wire.specs.Reading.{got};
+ghost use Rattle.wire.specs.Reading.{got, repeat};
 ghost use Rattle.wire.specs.Buffers.{writing, leaving, writtenAs};
-ghost use Rattle.avl.specs.RecordReader.{valueSize, element, group, groups, fixedFields, avlRecord, avlRecords};
+ghost use Rattle.avl.specs.RecordReader.{valueSize, element, group, groups, fixedFields, plainRecord};
 ghost use Rattle.avl.specs.Codecs.{widthsOf, kinds};
 ghost use Rattle.walk.specs.Walks.{Narrow};
 ghost use Rattle.tlv.specs.Form.{groupEntries, groupsEntries, recordsEntries};
 ghost use Rattle.tlv.specs.PacketOf.{formOfPacket, formOfDatagram};
+ghost use Rattle.wire.specs.Limits.{baseLimits};
 ghost use Rattle.form.specs.Moves.{Ready, Copies, elementEntries, fixedEntries, recordEntries, dataEntries, formOfField, Field, Writes};
 
 // Where reading and storing go on.
@@ -26,7 +27,7 @@ struct Moved {
 
 // Stores the `w` lowest bytes of `n`, the lowest first, as far as the buffer reaches.
 fn store_le(out: &mut [u8], at: usize, w: usize, n: u64)
-    requires { ⌜ (at ≤ 65536) × (w ≤ 8) ⌝ }
+    requires { ⌜ (at ≤ 2 ^ 40) × (w ≤ 8) ⌝ }
     ensures { λ _. ⌜ now (out .exit) ≡ sets (now (out .entry)) at (le w n) ⌝ }
 {
     if at + w <= out.len() {
@@ -55,7 +56,7 @@ pub fn store_bytes(out: &mut [u8], at: usize, src: &[u8])
 
 // Reads a number of `w` bytes and stores it in `v`, the lowest first.
 fn store_number(s: &[u8], at: usize, w: usize, out: &mut [u8], to: usize, v: usize)
-    requires { ⌜ (at + w ≤ length (now s)) × (w ≤ 8) × (to ≤ 65536) × (v ≤ 8) ⌝ }
+    requires { ⌜ (at + w ≤ length (now s)) × (w ≤ 8) × (to ≤ 2 ^ 40) × (v ≤ 8) ⌝ }
     ensures { λ _. ⌜ now (out .exit) ≡ sets (now (out .entry)) to (le v (numberAt (now (s .entry)) at w)) ⌝ }
 {
     store_le(out, to, v, wire::number(s, at, w));
@@ -63,7 +64,7 @@ fn store_number(s: &[u8], at: usize, w: usize, out: &mut [u8], to: usize, v: usi
 
 // A fixed field of `w` bytes: `i` bytes behind the record's start, and as many behind the head of its entry.
 fn store_field(s: &[u8], at: usize, i: usize, w: usize, out: &mut [u8], to: usize)
-    requires { ⌜ (at + i + w ≤ length (now s)) × (w ≤ 8) × (i ≤ 24) × (to ≤ 16384) ⌝ }
+    requires { ⌜ (at + i + w ≤ length (now s)) × (w ≤ 8) × (i ≤ 24) × (to ≤ 2 ^ 36) ⌝ }
     ensures { λ _. ⌜ now (out .exit) ≡ sets (now (out .entry)) (to + 4 + i) (le w (numberAt (now (s .entry)) (at + i) w)) ⌝ }
 {
     store_number(s, at + i, w, out, to + 4 + i, w);
@@ -122,7 +123,7 @@ fn value_at(kind: usize, s: &[u8], at: usize) -> Value
 
 // The first six bytes of an element's entry: its length, its kind, its ID. One test of the room serves all three.
 fn put_head(out: &mut [u8], to: usize, size: u64, kind: u64, id: u64)
-    requires { ⌜ to ≤ 16384 ⌝ }
+    requires { ⌜ to ≤ 2 ^ 36 ⌝ }
     ensures { λ _. ⌜ now (out .exit) ≡ sets (now (out .entry)) to ((le 2 size ++ le 2 kind) ++ le 2 id) ⌝ }
 {
     if to + 6 <= out.len() {
@@ -200,8 +201,8 @@ fn put_groups(w: Widths, s: &[u8], at: usize, out: &mut [u8], to: usize) -> Move
 // The entries of a record.
 fn put_record(w: Widths, s: &[u8], at: usize, out: &mut [u8], to: usize) -> Moved
     requires { ⌜ Narrow w ⌝ }
-    requires { ⌜ Ready (avlRecord 255 w) (now s) at to ⌝ }
-    ensures { λ r. ⌜ Copies (avlRecord 255 w) (recordEntries (kinds w)) (now (s .entry)) at to (now (out .entry)) (now (out .exit)) r ⌝ }
+    requires { ⌜ Ready (plainRecord w) (now s) at to ⌝ }
+    ensures { λ r. ⌜ Copies (plainRecord w) (recordEntries (kinds w)) (now (s .entry)) at to (now (out .entry)) (now (out .exit)) r ⌝ }
 {
     let count = w.count;
     let fixed = put_fixed(w, s, at, out, to);
@@ -211,8 +212,8 @@ fn put_record(w: Widths, s: &[u8], at: usize, out: &mut [u8], to: usize) -> Move
 // The entries of `count` records, which begin at 0.
 fn put_records(w: Widths, count: usize, s: &[u8], out: &mut [u8], to: usize) -> Moved
     requires { ⌜ Narrow w ⌝ }
-    requires { ⌜ Ready (avlRecords 255 w 0 count) (now s) 0 to ⌝ }
-    ensures { λ r. ⌜ Copies (avlRecords 255 w 0 count) (recordsEntries (kinds w)) (now (s .entry)) 0 to (now (out .entry)) (now (out .exit)) r ⌝ }
+    requires { ⌜ Ready (repeat count (plainRecord w)) (now s) 0 to ⌝ }
+    ensures { λ r. ⌜ Copies (repeat count (plainRecord w)) (recordsEntries (kinds w)) (now (s .entry)) 0 to (now (out .entry)) (now (out .exit)) r ⌝ }
 {
     let mut from: usize = 0;
     let mut dest = to;
@@ -228,8 +229,8 @@ fn put_records(w: Widths, count: usize, s: &[u8], out: &mut [u8], to: usize) -> 
 
 // The form of the records in `s`: the entry of the codec, then theirs.
 fn put_form(codec: u8, count: usize, s: &[u8], out: &mut [u8]) -> Moved
-    requires { ⌜ Ready (avlRecords 255 (widthsOf codec) 0 count) (now s) 0 5 ⌝ }
-    ensures { λ r. ⌜ Copies (avlRecords 255 (widthsOf codec) 0 count) (dataEntries codec) (now (s .entry)) 0 0 (now (out .entry)) (now (out .exit)) r ⌝ }
+    requires { ⌜ Ready (repeat count (plainRecord (widthsOf codec))) (now s) 0 5 ⌝ }
+    ensures { λ r. ⌜ Copies (repeat count (plainRecord (widthsOf codec))) (dataEntries codec) (now (s .entry)) 0 0 (now (out .entry)) (now (out .exit)) r ⌝ }
 {
     let head: [u8; 5] = [1, 0, 100, 0, codec];
     store_bytes(out, 0, &head);
@@ -260,12 +261,12 @@ fn write_field(d: &[u8], out: &mut [u8]) -> Written
 }
 
 // The form of a data field, which is judged first.
-pub fn form_of_field(d: &[u8], out: &mut [u8]) -> Written
-    requires { ⌜ (3 ≤ length (now d)) × (length (now d) ≤ 1280) ⌝ }
-    ensures answer { λ r. ⌜ writtenAs r ≡ writing (formOfField 255 (now (d .entry))) (now (out .entry)) ⌝ }
-    ensures buffer { λ r. ⌜ now (out .exit) ≡ leaving (formOfField 255 (now (d .entry))) (now (out .entry)) ⌝ }
+pub fn form_of_field(longest: usize, d: &[u8], out: &mut [u8]) -> Written
+    requires { ⌜ (3 ≤ length (now d)) × (length (now d) < 2 ^ 32) ⌝ }
+    ensures answer { λ r. ⌜ writtenAs r ≡ writing (formOfField longest (now (d .entry))) (now (out .entry)) ⌝ }
+    ensures buffer { λ r. ⌜ now (out .exit) ≡ leaving (formOfField longest (now (d .entry))) (now (out .entry)) ⌝ }
 {
-    match walk::read_data(packet::LONGEST, d, 0) {
+    match walk::read_data(longest, d, 0) {
         DataWalk::Refused(r) => Written::Refused(r),
         DataWalk::Taken {
             codec: _,
@@ -277,10 +278,10 @@ pub fn form_of_field(d: &[u8], out: &mut [u8]) -> Written
 
 // The form of a TCP data packet.
 pub fn form_of_packet(p: &[u8], out: &mut [u8]) -> Written
-    ensures answer { λ r. ⌜ writtenAs r ≡ writing (formOfPacket 1280 255 (now (p .entry))) (now (out .entry)) ⌝ }
-    ensures buffer { λ r. ⌜ now (out .exit) ≡ leaving (formOfPacket 1280 255 (now (p .entry))) (now (out .entry)) ⌝ }
+    ensures answer { λ r. ⌜ writtenAs r ≡ writing (formOfPacket baseLimits (now (p .entry))) (now (out .entry)) ⌝ }
+    ensures buffer { λ r. ⌜ now (out .exit) ≡ leaving (formOfPacket baseLimits (now (p .entry))) (now (out .entry)) ⌝ }
 {
-    match packet::judge_packet(packet::LARGEST, packet::LONGEST, p, 0) {
+    match packet::judge_packet(wire::BASE, p, 0) {
         DataWalk::Refused(r) => Written::Refused(r),
         DataWalk::Taken {
             codec: _,
@@ -295,10 +296,10 @@ pub fn form_of_packet(p: &[u8], out: &mut [u8]) -> Written
 
 // The form of a UDP datagram.
 pub fn form_of_datagram(p: &[u8], out: &mut [u8]) -> Written
-    ensures answer { λ r. ⌜ writtenAs r ≡ writing (formOfDatagram 1280 255 (now (p .entry))) (now (out .entry)) ⌝ }
-    ensures buffer { λ r. ⌜ now (out .exit) ≡ leaving (formOfDatagram 1280 255 (now (p .entry))) (now (out .entry)) ⌝ }
+    ensures answer { λ r. ⌜ writtenAs r ≡ writing (formOfDatagram baseLimits (now (p .entry))) (now (out .entry)) ⌝ }
+    ensures buffer { λ r. ⌜ now (out .exit) ≡ leaving (formOfDatagram baseLimits (now (p .entry))) (now (out .entry)) ⌝ }
 {
-    match datagram::judge_datagram(datagram::LARGEST, datagram::LONGEST, p, 0) {
+    match datagram::judge_datagram(wire::BASE, p, 0) {
         DataWalk::Refused(r) => Written::Refused(r),
         DataWalk::Taken {
             codec: _,

@@ -2,11 +2,11 @@
 use Prim.Native.Nat.{ℕ, _+_, _≤_}
 use native.Mathlib.Omega.{arith}
 use mathlib.Core.Path.{_≡_, refl, sym, ap, ap₂, _∙_}
-use mathlib.Core.Bool.{Bool, true, false}
 use mathlib.Core.List.{List}
 use lib.ListN.{length, take, drop}
 use Rattle.wire.specs.Numbers.{Bytes}
-use Rattle.wire.specs.Answers.{Answer, accepted, refused, check}
+use Rattle.wire.specs.declared.Refusal.{Refusal}
+use Rattle.wire.specs.Answers.{Answer, accepted, refused}
 use Rattle.wire.proofs.Placed.{between-whole}
 use Rattle.frame.specs.declared.Framed.the-variants.{Field, Unframed}
 use Rattle.frame.specs.Frame.{framed, fieldOf, unframe, framing}
@@ -15,7 +15,7 @@ use Rattle.frame.proofs.FrameLaws.{length-framed, parts, frame-exact}
 framing-accepted : (r : Answer (List ℕ)) {n : ℕ} → framing r ≡ Field n → (d : List ℕ) × (r ≡ accepted d) × (length d ≡ n)
 unfolding framing
 framing-accepted (accepted d) e = (d, refl, cc)
-framing-accepted (refused m i) e = absurd (let z : _≡_ {A = ℕ} 0 1 = cc in omega arith)
+framing-accepted (refused x) e = absurd (let z : _≡_ {A = ℕ} 0 1 = cc in omega arith)
 
 pub framing-field : (largest : ℕ) (p : List ℕ) (n : ℕ) → framing (unframe largest p) ≡ Field n → Bytes p
     → (unframe largest p ≡ accepted (take n (drop 8 p))) × (length p ≡ n + 12) × (3 ≤ n)
@@ -30,26 +30,10 @@ framing-field largest p n e h =
     in
     (a .1 ∙ ap accepted (sym field), omega (arith, ap length (rules .1), length-framed d, a .2), omega (arith, rules .0 .least, a .2))
 
--- refused without a record's index
-record Whole {A : Type 0} (r : Answer A) : Type 0 where
-  whole : (n i : ℕ) → r ≡ refused n i → i ≡ 0
-
-whole-accepted : {A : Type 0} (a : A) → Whole (accepted a)
-whole-accepted a = record { whole = λ n i e. absurd (let z : _≡_ {A = ℕ} 0 1 = cc in omega arith) }
-
-whole-check : {A : Type 0} (test : Bool) (number : ℕ) {rest : Answer A} → Whole rest → Whole (check test number rest)
-unfolding check
-whole-check true number h = h
-whole-check false number h = record { whole = λ n i e. cc }
-
-whole-unframe : (largest : ℕ) (p : List ℕ) → Whole (unframe largest p)
-unfolding unframe
-whole-unframe largest p = whole-check _ 1 (whole-check _ 2 (whole-check _ 3 (whole-check _ 3 (whole-check _ 4 (whole-check _ 5 (whole-accepted _))))))
-
-framing-refused : (r : Answer (List ℕ)) {n : ℕ} → Whole r → framing r ≡ Unframed n → r ≡ refused n 0
+framing-refused : (r : Answer (List ℕ)) {x : Refusal} → framing r ≡ Unframed x → r ≡ refused x
 unfolding framing
-framing-refused (accepted d) h e = absurd (let z : _≡_ {A = ℕ} 0 1 = cc in omega arith)
-framing-refused (refused m i) h e = ap₂ refused (cc) (h .whole m i refl)
+framing-refused (accepted d) e = absurd (let z : _≡_ {A = ℕ} 0 1 = cc in omega arith)
+framing-refused (refused y) e = ap refused (cc)
 
-pub framing-unframed : (largest : ℕ) (p : List ℕ) (n : ℕ) → framing (unframe largest p) ≡ Unframed n → unframe largest p ≡ refused n 0
-framing-unframed largest p n e = framing-refused (unframe largest p) (whole-unframe largest p) e
+pub framing-unframed : (largest : ℕ) (p : List ℕ) (x : Refusal) → framing (unframe largest p) ≡ Unframed x → unframe largest p ≡ refused x
+framing-unframed largest p x e = framing-refused (unframe largest p) e

@@ -26,7 +26,7 @@ readLogin p = check (leb 17 (length p)) 1 (check (leb (length p) 17) 4 (told (re
 
 unfoldable pub isAccepted : {A : Type 0} → Answer A → Bool
 isAccepted (accepted a) = true
-isAccepted (refused number index) = false
+isAccepted (refused r) = false
 
 -- 01 for a well-formed login of a unit that the caller knows, else 00
 unfoldable pub loginAnswer : Bool → List ℕ → List ℕ
@@ -36,4 +36,4 @@ loginAnswer known p = pick known (pick (isAccepted (readLogin p)) (1 ∷ []) (0 
 
 unfoldable pub loginAs : LoginAnswer → Answer ℕ
 loginAs (Imei imei) = accepted imei
-loginAs (Refused r) = refused (r .number) (r .index)
+loginAs (Refused r) = refused r

@@ -1,10 +1,11 @@
 -- The last record of a packet, and the last known value.
 use Prim.Native.Nat.{ℕ, _-_, _%_, _≤_}
 use native.Mathlib.Omega.{arith}
-use mathlib.Core.Path.{_≡_, refl, sym, ap, ap₂, _∙_, subst}
+use mathlib.Core.Path.{_≡_, refl, sym, ap, _∙_, subst}
 use mathlib.Core.Bool.{Bool, true, false}
 use mathlib.Core.List.{List, []}
 use lib.ListN.{length, getD}
+use Rattle.wire.specs.declared.Limits.{Limits}
 use Rattle.wire.specs.declared.Refusal.{Refusal}
 use Rattle.wire.specs.Numbers.{Bytes, digits, pick}
 use Rattle.wire.specs.Answers.{Answer, accepted, refused, onAccepted}
@@ -31,13 +32,13 @@ abbrev pub lastNumber : Source → ℕ
 lastNumber x = length (x .content .records) - 1
 
 -- the first count of an accepted packet
-pub tcp-count : (largest longest : ℕ) (p : List ℕ) (x : Source) → Bytes p → tcpSource largest longest p ≡ accepted x
+pub tcp-count : (limits : Limits) (p : List ℕ) (x : Source) → Bytes p → tcpSource limits p ≡ accepted x
     → (10 ≤ length p) × (getD p 9 0 ≡ length (x .content .records)) × (1 ≤ length (x .content .records))
 unfolding tcpSource packetBytes framed dataBytes enclosed digits
-tcp-count largest longest p x h e =
-    let i = onAccepted-accepted (readPacket largest longest p) _ e in
+tcp-count limits p x h e =
+    let i = onAccepted-accepted (readPacket limits p) _ e in
     let a = i .0 in
-    let k = packet-exact largest longest p a h .0 (i .1) in
+    let k = packet-exact limits p a h .0 (i .1) in
     let few = k .rules .countFits in
     let count : length (a .records) % 256 ≡ length (a .records) = omega arith in
     let same : _≡_ {A = Source} (record { content = a; base = 10 }) x = cc (i .2) in
@@ -48,19 +49,19 @@ tcp-count largest longest p x h e =
 pub last-number : (source : Answer Source) (n : ℕ) → ((x : Source) → source ≡ accepted x → n ≡ lastNumber x) → partOf source n ≡ lastPart source
 unfolding lastPart partOf onAccepted
 last-number (accepted x) n h = ap (partOf (accepted x)) (h x refl)
-last-number (refused m i) n h = refl
+last-number (refused x) n h = refl
 
 -- an accepted packet has a last record
-pub last-refused : (largest longest : ℕ) (p : List ℕ) {n i : ℕ} → Bytes p → refused n i ≡ lastPart (tcpSource largest longest p) → tcpSource largest longest p ≡ refused n i
+pub last-refused : (limits : Limits) (p : List ℕ) {x : Refusal} → Bytes p → refused x ≡ lastPart (tcpSource limits p) → tcpSource limits p ≡ refused x
 unfolding lastPart onAccepted
-last-refused largest longest p {n} {i} h e = go (tcpSource largest longest p) refl e
+last-refused limits p {x} h e = go (tcpSource limits p) refl e
   where
-    go : (source : Answer Source) → tcpSource largest longest p ≡ source → refused n i ≡ lastPart source → source ≡ refused n i
-    go (accepted x) same e =
-        let k = tcp-count largest longest p x h same in
-        let there = part-there x (lastNumber x) (omega (arith, k .2)) in
+    go : (source : Answer Source) → tcpSource limits p ≡ source → refused x ≡ lastPart source → source ≡ refused x
+    go (accepted a) same e =
+        let k = tcp-count limits p a h same in
+        let there = part-there a (lastNumber a) (omega (arith, k .2)) in
         absurd (let z : _≡_ {A = ℕ} 0 1 = cc in omega arith)
-    go (refused m j) same e = ap₂ refused (cc) (cc)
+    go (refused y) same e = ap refused (cc)
 
 -- ---- the last known value
 
@@ -68,21 +69,21 @@ last-refused largest longest p {n} {i} h e = go (tcpSource largest longest p) re
 abbrev pub inLast : ℕ → Answer Source → Answer Found
 inLast id source = onAccepted source (valueInLast id)
 
-module _ (p : List ℕ) (bytes : Bytes p) where
-  stored : (x : Source) → tcpSource 1280 255 p ≡ accepted x → Stored 255 p x
-  stored x e = tcp-stored 1280 255 p x bytes e
+module _ (limits : Limits) (p : List ℕ) (bytes : Bytes p) where
+  stored : (x : Source) → tcpSource limits p ≡ accepted x → Stored (limits .longest) p x
+  stored x e = tcp-stored limits p x bytes e
 
-  pub last-in : (part : Part) → partAs part ≡ lastPart (tcpSource 1280 255 p) → PartIn p part
+  pub last-in : (part : Part) → partAs part ≡ lastPart (tcpSource limits p) → PartIn p part
   unfolding lastPart
   last-in part e = part-in stored lastNumber part e
 
-  pub last-value : (id : ℕ) (part : Part) (answer : ValueAnswer) → partAs part ≡ lastPart (tcpSource 1280 255 p) → ValueIn p part (firstWith id) answer
-      → valueAs answer ≡ answerValue (inLast id (tcpSource 1280 255 p))
+  pub last-value : (id : ℕ) (part : Part) (answer : ValueAnswer) → partAs part ≡ lastPart (tcpSource limits p) → ValueIn p part (firstWith id) answer
+      → valueAs answer ≡ answerValue (inLast id (tcpSource limits p))
   unfolding lastPart valueInLast
   last-value id part answer e k = value-answer stored lastNumber (firstWith id) (first-sixteen id) part answer e k
 
-  pub last-view : (id : ℕ) (answer : ValueAnswer) → valueAs answer ≡ answerValue (inLast id (tcpSource 1280 255 p))
-      → Within p answer × (viewOf p answer ≡ view (inLast id (tcpSource 1280 255 p)))
+  pub last-view : (id : ℕ) (answer : ValueAnswer) → valueAs answer ≡ answerValue (inLast id (tcpSource limits p))
+      → Within p answer × (viewOf p answer ≡ view (inLast id (tcpSource limits p)))
   unfolding valueInLast
   last-view id answer e = value-view stored lastNumber (firstWith id) (first-member id) answer e
 
@@ -92,7 +93,7 @@ marked older found = onAccepted found (λ f. accepted (record { older = older; f
 in-older : (id : ℕ) (source : Answer Source) → inOlder id source ≡ marked true (inLast id source)
 unfolding inOlder onAccepted
 in-older id (accepted x) = refl
-in-older id (refused n i) = refl
+in-older id (refused x) = refl
 
 -- the answer to a value as one to a last known value
 abbrev pub asKnown : Bool → ValueAnswer → KnownAnswer
@@ -112,7 +113,7 @@ as-known older answer found e = told answer ∙ ap (markedValue older) e ∙ sam
 
     same : (f : Answer Found) → markedValue older (answerValue f) ≡ answerKnown (marked older f)
     same (accepted f) = refl
-    same (refused n i) = refl
+    same (refused x) = refl
 
 known-as : (older past : Bool) (v : Value) (found : Answer Found) → knownAs (KnownAnswer.Found past v) ≡ answerKnown (marked older found)
     → (past ≡ older) × ((valueAs (ValueAnswer.Found v) ≡ answerValue found) × (view found ≡ knownView (marked older found)))
@@ -120,10 +121,10 @@ unfolding valueAs knownAs answerKnown answerValue onAccepted view knownView
 known-as older past v (accepted f) e =
     let same : _≡_ {A = KnownResult} (record { older = past; value = v }) (record { older = older; value = valueResult f }) = cc in
     (ap (λ (k : KnownResult). k .older) same, (ap (λ (k : KnownResult). accepted (k .value)) same, refl))
-known-as older past v (refused n i) e = absurd (let z : _≡_ {A = ℕ} 0 1 = cc in omega arith)
+known-as older past v (refused x) e = absurd (let z : _≡_ {A = ℕ} 0 1 = cc in omega arith)
 
 -- where the newer packet is refused, the refusal
-pub known-refused : (id : ℕ) (newer older : Answer Source) (r : Refusal) → newer ≡ refused (r .number) (r .index)
+pub known-refused : (id : ℕ) (newer older : Answer Source) (r : Refusal) → newer ≡ refused r
     → knownAs (KnownAnswer.Refused r) ≡ answerKnown (lastKnown id newer older)
 unfolding knownAs answerKnown lastKnown
 known-refused id newer older r e = sym (onAccepted-refused _ _ (onAccepted-refused newer _ e))
@@ -132,32 +133,32 @@ known-refused id newer older r e = sym (onAccepted-refused _ _ (onAccepted-refus
 pub known-newer : (id : ℕ) (newer older : Answer Source) (v : Value) → valueAs (ValueAnswer.Found v) ≡ answerValue (inLast id newer)
     → knownAs (KnownAnswer.Found false v) ≡ answerKnown (lastKnown id newer older)
 unfolding valueAs answerValue lastKnown orElse onAccepted
-known-newer id (refused n i) older v e = absurd (let z : _≡_ {A = ℕ} 0 1 = cc in omega arith)
+known-newer id (refused x) older v e = absurd (let z : _≡_ {A = ℕ} 0 1 = cc in omega arith)
 known-newer id (accepted x) older v e = as-known false (ValueAnswer.Found v) (valueInLast id x) e ∙ ap answerKnown (go (valueInLast id x) e)
   where
     go : (found : Answer Found) → valueAs (ValueAnswer.Found v) ≡ answerValue found → marked false found ≡ orElse (marked false found) (inOlder id older)
     go (accepted f) e = refl
-    go (refused n i) e = absurd (let z : _≡_ {A = ℕ} 0 1 = cc in omega arith)
+    go (refused x) e = absurd (let z : _≡_ {A = ℕ} 0 1 = cc in omega arith)
 
 -- else what the older packet's last record gives
-pub known-older : (id : ℕ) (newer older : Answer Source) {q : PartResult} {n i : ℕ} (answer : ValueAnswer) → accepted q ≡ lastPart newer
-    → refused n i ≡ answerValue (inLast id newer) → valueAs answer ≡ answerValue (inLast id older)
+pub known-older : (id : ℕ) (newer older : Answer Source) {q : PartResult} {y : Refusal} (answer : ValueAnswer) → accepted q ≡ lastPart newer
+    → refused y ≡ answerValue (inLast id newer) → valueAs answer ≡ answerValue (inLast id older)
     → knownAs (asKnown true answer) ≡ answerKnown (lastKnown id newer older)
 unfolding answerValue lastKnown lastPart orElse onAccepted
-known-older id (refused m j) older answer e k h = absurd (let z : _≡_ {A = ℕ} 0 1 = cc in omega arith)
-known-older id (accepted x) older {q} {n} {i} answer e k h =
+known-older id (refused x) older answer e k h = absurd (let z : _≡_ {A = ℕ} 0 1 = cc in omega arith)
+known-older id (accepted x) older {q} {y} answer e k h =
     as-known true answer (inLast id older) h ∙ ap answerKnown (sym (in-older id older) ∙ go (valueInLast id x) k)
   where
-    go : (found : Answer Found) → refused n i ≡ answerValue found → inOlder id older ≡ orElse (marked false found) (inOlder id older)
+    go : (found : Answer Found) → refused y ≡ answerValue found → inOlder id older ≡ orElse (marked false found) (inOlder id older)
     go (accepted f) e = absurd (let z : _≡_ {A = ℕ} 0 1 = cc in omega arith)
-    go (refused n i) e = refl
+    go (refused x) e = refl
 
 -- the packet and the record in which it is found
 pub known-in : (id : ℕ) (newer older : Answer Source) (past : Bool) (v : Value) → knownAs (KnownAnswer.Found past v) ≡ answerKnown (lastKnown id newer older)
     → (valueAs (ValueAnswer.Found v) ≡ answerValue (pick past (inLast id older) (inLast id newer)))
     × (view (pick past (inLast id older) (inLast id newer)) ≡ knownView (lastKnown id newer older))
 unfolding knownAs answerKnown lastKnown orElse onAccepted
-known-in id (refused n i) older past v e = absurd (let z : _≡_ {A = ℕ} 0 1 = cc in omega arith)
+known-in id (refused x) older past v e = absurd (let z : _≡_ {A = ℕ} 0 1 = cc in omega arith)
 known-in id (accepted x) older past v e = go (valueInLast id x) e
   where
     go : (found : Answer Found) → knownAs (KnownAnswer.Found past v) ≡ answerKnown (orElse (marked false found) (inOlder id older))
@@ -167,12 +168,12 @@ known-in id (accepted x) older past v e = go (valueInLast id x) e
         let k = known-as false past v (accepted f) e in
         let there = pick-false past (inLast id older) (accepted f) (k .0) in
         (k .1 .0 ∙ ap answerValue (sym there), ap view there ∙ k .1 .1)
-    go (refused n i) e =
+    go (refused x) e =
         let k = known-as true past v (inLast id older) (e ∙ ap answerKnown (in-older id older)) in
-        let there = pick-true past (inLast id older) (refused n i) (k .0) in
+        let there = pick-true past (inLast id older) (refused x) (k .0) in
         (k .1 .0 ∙ ap answerValue (sym there), ap view there ∙ k .1 .1 ∙ ap knownView (sym (in-older id older)))
 
-pub known-nowhere : (known : Answer LastKnown) {n i : ℕ} → refused n i ≡ answerKnown known → [] ≡ knownView known
+pub known-nowhere : (known : Answer LastKnown) {x : Refusal} → refused x ≡ answerKnown known → [] ≡ knownView known
 unfolding answerKnown onAccepted knownView
 known-nowhere (accepted k) e = absurd (let z : _≡_ {A = ℕ} 0 1 = cc in omega arith)
-known-nowhere (refused n i) e = refl
+known-nowhere (refused x) e = refl

@@ -8,19 +8,20 @@ use mathlib.Core.List.{List, [], _∷_}
 use lib.ListN.{length, drop, length-drop}
 use lib.Seq.{length-take-le}
 use lib.Dec.{eqb}
+use Rattle.wire.specs.declared.Limits.{Limits}
 use Rattle.wire.specs.declared.Refusal.{Refusal}
 use Rattle.wire.specs.Numbers.{Bytes, pick}
 use Rattle.wire.specs.Sequences.{All}
 use Rattle.wire.specs.Reading.{got}
-use Rattle.wire.specs.Answers.{Answer, accepted, refused, onAccepted}
+use Rattle.wire.specs.Answers.{Answer, accepted, refused, onAccepted, refusal}
 use Rattle.wire.proofs.Widths.{bytes-take, bytes-drop}
 use Rattle.wire.proofs.Accepting.{onAccepted-accepted, onAccepted-passed, onAccepted-refused}
 use Rattle.avl.specs.declared.Widths.{Widths}
 use Rattle.avl.specs.Codecs.{widthsOf}
 use Rattle.avl.specs.Records.{AvlRecord, elementCount, recordBytes}
 use Rattle.avl.specs.DataField.{AvlData}
-use Rattle.avl.proofs.RecordLaws.{record-exact}
-use Rattle.avl.specs.RecordReader.{avlRecord}
+use Rattle.avl.proofs.Inversion.{plain-record, plain-size}
+use Rattle.avl.specs.RecordReader.{plainRecord}
 use Rattle.walk.specs.declared.Span.{Span}
 use Rattle.walk.specs.declared.DataWalk.{DataWalk}
 use Rattle.walk.specs.Walks.{Narrow, spanOf, dataWalk}
@@ -57,7 +58,7 @@ span-placed w base at n [] h = absurd (not-suc-le-zero h)
 span-placed w base at zero (r ∷ rs) h = (record { start = base + at; content = r }, refl, refl, add-assoc base at (length (recordBytes w r)), refl)
 span-placed w base at (suc n) (r ∷ rs) h = rw (add-assoc base at (length (recordBytes w r))) (span-placed w base (at + length (recordBytes w r)) n rs (le-of-suc-le-suc h))
 
-none-placed : (w : Widths) (at n : ℕ) (rs : List AvlRecord) → length rs ≤ n → nth n (placeRecords w at rs) ≡ refused 16 0
+none-placed : (w : Widths) (at n : ℕ) (rs : List AvlRecord) → length rs ≤ n → nth n (placeRecords w at rs) ≡ refused (refusal 16)
 unfolding placeRecords nth
 none-placed w at n [] h = refl
 none-placed w at zero (r ∷ rs) h = absurd (not-suc-le-zero h)
@@ -87,22 +88,22 @@ part-there x n h =
     let s = there-placed x n h in
     onAccepted-passed (placedRecord x n) _ (s .1) ∙ (λ i. accepted (record { codec = x .content .codec; start = s .2 i; end = s .3 i; elements = s .4 i }))
 
-part-beyond : (x : Source) (n : ℕ) → length (x .content .records) ≤ n → partOf (accepted x) n ≡ refused 16 0
+part-beyond : (x : Source) (n : ℕ) → length (x .content .records) ≤ n → partOf (accepted x) n ≡ refused (refusal 16)
 unfolding partOf placedRecord onAccepted
 part-beyond x n h = onAccepted-refused _ _ (none-placed (widthsOf (x .content .codec)) (x .base) n (x .content .records) h)
 
 -- ---- two steps, of which the second may refuse
 
 -- what is refused before the last step is refused whatever the last step gives
-refused-before : {A B C D : Type 0} (r : Answer A) (next : A → Answer B) (f : A → B → C) (g : A → B → Answer D) {n i : ℕ}
-    → onAccepted r (λ a. onAccepted (next a) (λ b. accepted (f a b))) ≡ refused n i → onAccepted r (λ a. onAccepted (next a) (g a)) ≡ refused n i
+refused-before : {A B C D : Type 0} (r : Answer A) (next : A → Answer B) (f : A → B → C) (g : A → B → Answer D) {x : Refusal}
+    → onAccepted r (λ a. onAccepted (next a) (λ b. accepted (f a b))) ≡ refused x → onAccepted r (λ a. onAccepted (next a) (g a)) ≡ refused x
 unfolding onAccepted
-refused-before (refused m j) next f g e = ap₂ refused (cc) (cc)
-refused-before {A} {B} {C} {D} (accepted a) next f g {n} {i} e = go (next a) e
+refused-before (refused y) next f g e = ap refused (cc)
+refused-before {A} {B} {C} {D} (accepted a) next f g {x} e = go (next a) e
   where
-    go : (r : Answer B) → onAccepted r (λ b. accepted (f a b)) ≡ refused n i → onAccepted r (g a) ≡ refused n i
+    go : (r : Answer B) → onAccepted r (λ b. accepted (f a b)) ≡ refused x → onAccepted r (g a) ≡ refused x
     go (accepted b) e = absurd (let z : _≡_ {A = ℕ} 0 1 = cc in omega arith)
-    go (refused m j) e = ap₂ refused (cc) (cc)
+    go (refused y) e = ap refused (cc)
 
 -- ---- a record of a source that stands in `p`
 
@@ -117,51 +118,51 @@ sizeOf x r = length (recordBytes (widthsOf (x .content .codec)) (r .content))
 abbrev asPart : Source → Placed → Part
 asPart x r = Part.Of (x .content .codec) (r .start) (r .start + sizeOf x r) (elementCount (r .content .groups))
 
-record Lies (p : List ℕ) (source : Answer Source) (number : Source → ℕ) (part : Part) : Type 0 where
+record Lies (longest : ℕ) (p : List ℕ) (source : Answer Source) (number : Source → ℕ) (part : Part) : Type 0 where
   origin : Source
-  stored : Stored 255 p origin
+  stored : Stored longest p origin
   accepts : source ≡ accepted origin
   placed : Placed
   found : placedRecord origin (number origin) ≡ accepted placed
   is : asPart origin placed ≡ part
 
-module _ {p : List ℕ} {source : Answer Source} {number : Source → ℕ} {q : Part} (h : Lies p source number q) where
-  reads : avlRecord 255 (widthsOf (h .origin .content .codec)) (part p (h .placed .start) (h .placed .start + sizeOf (h .origin) (h .placed) - h .placed .start)) 0
+module _ {longest : ℕ} {p : List ℕ} {source : Answer Source} {number : Source → ℕ} {q : Part} (h : Lies longest p source number q) where
+  reads : plainRecord (widthsOf (h .origin .content .codec)) (part p (h .placed .start) (h .placed .start + sizeOf (h .origin) (h .placed) - h .placed .start)) 0
       ≡ got (h .placed .content) (sizeOf (h .origin) (h .placed))
   reads =
       let size : sizeOf (h .origin) (h .placed) ≡ h .placed .start + sizeOf (h .origin) (h .placed) - h .placed .start = omega arith in
-      ap (λ (n : ℕ). avlRecord 255 (widthsOf (h .origin .content .codec)) (part p (h .placed .start) n) 0) (sym size)
-      ∙ own-part 255 p (h .origin) (number (h .origin)) (h .placed) (h .stored) (h .found)
+      ap (λ (n : ℕ). plainRecord (widthsOf (h .origin .content .codec)) (part p (h .placed .start) n) 0) (sym size)
+      ∙ plain-record longest _ _ 0 (own-part longest p (h .origin) (number (h .origin)) (h .placed) (h .stored) (h .found))
 
   lies-in : PartIn p q
   lies-in =
       subst (PartIn p) (h .is) (
         omega arith,
         (
-          kept 255 p (h .origin) (number (h .origin)) (h .placed) (h .stored) (h .found) .stands .inside,
+          kept longest p (h .origin) (number (h .origin)) (h .placed) (h .stored) (h .found) .stands .inside,
           (record { content = _; next = _; reads = reads }, λ x n k. ap (λ (y : AvlRecord). elementCount (y .groups)) (got-same reads k .0)),
         ),
       )
 
 -- a look-up refuses only with 16
 abbrev Sixteen : (List Located → Answer Located) → Type 0
-Sixteen look = (l : List Located) (n i : ℕ) → look l ≡ refused n i → (n ≡ 16) × (i ≡ 0)
+Sixteen look = (l : List Located) (x : Refusal) → look l ≡ refused x → x ≡ refusal 16
 
 -- a found element, its offset counted from the input's start
-shifted-found : (r : Placed) (c : Answer Located) → ((n i : ℕ) → c ≡ refused n i → (n ≡ 16) × (i ≡ 0))
+shifted-found : (r : Placed) (c : Answer Located) → ((x : Refusal) → c ≡ refused x → x ≡ refusal 16)
     → valueAs (shifted (r .start) (elementAs c)) ≡ answerValue (onAccepted c (λ e. accepted (foundIn r e)))
 unfolding valueAs shifted elementAs locatedValue answerValue onAccepted foundIn valueResult
 shifted-found r (accepted e) h = refl
-shifted-found r (refused n i) h = ap₂ refused (sym (h n i refl .0)) (sym (h n i refl .1))
+shifted-found r (refused x) h = ap refused (sym (h x refl))
 
-refused-view : (found : Answer Found) {n i : ℕ} → answerValue found ≡ refused n i → view found ≡ []
+refused-view : (found : Answer Found) {x : Refusal} → answerValue found ≡ refused x → view found ≡ []
 unfolding answerValue onAccepted view
 refused-view (accepted f) e = absurd (let z : _≡_ {A = ℕ} 0 1 = cc in omega arith)
-refused-view (refused n i) e = refl
+refused-view (refused x) e = refl
 
-module _ {p : List ℕ} {source : Answer Source} (stored : (x : Source) → source ≡ accepted x → Stored 255 p x) (number : Source → ℕ) where
+module _ {longest : ℕ} {p : List ℕ} {source : Answer Source} (stored : (x : Source) → source ≡ accepted x → Stored longest p x) (number : Source → ℕ) where
   lies : {codec start end count : ℕ} → accepted (record { codec = codec; start = start; end = end; elements = count }) ≡ partAt number source
-      → Lies p source number (Part.Of codec start end count)
+      → Lies longest p source number (Part.Of codec start end count)
   unfolding partOf onAccepted
   lies {codec} {start} {end} {count} e =
       let i = onAccepted-accepted source _ (sym e) in
@@ -183,8 +184,8 @@ module _ {p : List ℕ} {source : Answer Source} (stored : (x : Source) → sour
   part-in (Part.Refused r) e = tt
 
   -- the answer of a refused part
-  part-refused : {B : Type 0} (g : Source → Placed → Answer B) {n i : ℕ} → refused n i ≡ partAt number source
-      → refused n i ≡ onAccepted source (λ x. onAccepted (placedRecord x (number x)) (g x))
+  part-refused : {B : Type 0} (g : Source → Placed → Answer B) {x : Refusal} → refused x ≡ partAt number source
+      → refused x ≡ onAccepted source (λ x. onAccepted (placedRecord x (number x)) (g x))
   unfolding partOf onAccepted
   part-refused g e = sym (refused-before source (λ x. placedRecord x (number x)) _ g (sym e))
 
@@ -226,8 +227,8 @@ module _ {p : List ℕ} {source : Answer Source} (stored : (x : Source) → sour
         let f = i .0 in
         let j = onAccepted-accepted source _ (i .1) in
         let x = j .0 in
-        let k = value-in-place 255 p x (number x) choose f (stored x (j .1)) member (j .2) in
-        let inside = kept 255 p x (number x) (k .0) (stored x (j .1)) (k .1) .stands .inside in
+        let k = value-in-place longest p x (number x) choose f (stored x (j .1)) member (j .2) in
+        let inside = kept longest p x (number x) (k .0) (stored x (j .1)) (k .1) .stands .inside in
         let same : valueResult f ≡ v = cc (i .2) in (
           subst (λ (v : Value). v .offset + v .size ≤ length p) same (omega (arith, inside, k .3)),
           ap (λ (v : Value). part p (v .offset) (v .size)) (sym same) ∙ k .4 ∙ sym (ap view (i .1)),
@@ -238,44 +239,44 @@ module _ {p : List ℕ} {source : Answer Source} (stored : (x : Source) → sour
 
 pub nth-sixteen : (k : ℕ) → Sixteen (nth k)
 unfolding nth
-nth-sixteen k [] n i e = (cc, cc)
-nth-sixteen zero (a ∷ l) n i e = absurd (let z : _≡_ {A = ℕ} 0 1 = cc in omega arith)
-nth-sixteen (suc k) (a ∷ l) n i e = nth-sixteen k l n i e
+nth-sixteen k [] x e = cc
+nth-sixteen zero (a ∷ l) x e = absurd (let z : _≡_ {A = ℕ} 0 1 = cc in omega arith)
+nth-sixteen (suc k) (a ∷ l) x e = nth-sixteen k l x e
 
 pub first-sixteen : (id : ℕ) → Sixteen (firstWith id)
 unfolding firstWith
-first-sixteen id [] n i e = (cc, cc)
-first-sixteen id (a ∷ l) n i e = go (eqb (a .id) id) e (first-sixteen id l n i)
+first-sixteen id [] x e = cc
+first-sixteen id (a ∷ l) x e = go (eqb (a .id) id) e (first-sixteen id l x)
   where
-    go : (t : Bool) → pick t (accepted a) (firstWith id l) ≡ refused n i → (firstWith id l ≡ refused n i → (n ≡ 16) × (i ≡ 0)) → (n ≡ 16) × (i ≡ 0)
+    go : (t : Bool) → pick t (accepted a) (firstWith id l) ≡ refused x → (firstWith id l ≡ refused x → x ≡ refusal 16) → x ≡ refusal 16
     go true e h = absurd (let z : _≡_ {A = ℕ} 0 1 = cc in omega arith)
     go false e h = h e
 
 -- ---- what may be asked of a part
 
 module _ (p : List ℕ) (codec start end count : ℕ) {w : Widths} (same : w ≡ widthsOf codec) (h : PartIn p (Part.Of codec start end count)) where
-  pub part-fields : Narrow w × (Readable 255 w (part p start (end - start)) × HasElements 255 w (part p start (end - start)) count)
+  pub part-fields : Narrow w × (Readable w (part p start (end - start)) × HasElements w (part p start (end - start)) count)
   part-fields =
-      subst (λ (w : Widths). Narrow w × (Readable 255 w (part p start (end - start)) × HasElements 255 w (part p start (end - start)) count)) (sym same) (narrow codec, h .1 .1)
+      subst (λ (w : Widths). Narrow w × (Readable w (part p start (end - start)) × HasElements w (part p start (end - start)) count)) (sym same) (narrow codec, h .1 .1)
 
-  pub part-narrow : Narrow w × Readable 255 w (part p start (end - start))
+  pub part-narrow : Narrow w × Readable w (part p start (end - start))
   part-narrow = (part-fields .0, part-fields .1 .0)
 
 -- ---- what a search in a part gives
 
-at-inside : (w : Widths) (s : List ℕ) (x : AvlRecord) (n : ℕ) (c : Answer Located) (v : Value) → Bytes s → avlRecord 255 w s 0 ≡ got x n
+at-inside : (w : Widths) (s : List ℕ) (x : AvlRecord) (n : ℕ) (c : Answer Located) (v : Value) → Bytes s → plainRecord w s 0 ≡ got x n
     → ((e : Located) → c ≡ accepted e → (P : Located → Type 0) → All P (elements w x) → P e) → ElementAnswer.At v ≡ elementAs c → v .offset + v .size ≤ length s
 unfolding elementAs locatedValue
 at-inside w s x n (accepted e') v b e member h =
     let m = member e' refl (λ (a : Located). Inside a (recordBytes w x)) (elements-inside w x) in
-    let f = record-exact 255 w .sound s 0 b (omega arith) .if-got _ _ e in
+    let f = plain-size w s 0 b (omega arith) e in
     let same : v ≡ locatedValue e' = cc in
-    subst (λ (v : Value). v .offset + v .size ≤ length s) (sym same) (omega (arith, m .within, f .0 .inside, f .0 .size))
-at-inside w s x n (refused m i) v b e member h = absurd (let z : _≡_ {A = ℕ} 0 1 = cc in omega arith)
+    subst (λ (v : Value). v .offset + v .size ≤ length s) (sym same) (omega (arith, m .within, f .0, f .1))
+at-inside w s x n (refused y) v b e member h = absurd (let z : _≡_ {A = ℕ} 0 1 = cc in omega arith)
 
 module _ (p : List ℕ) (codec start end count : ℕ) (look : List Located → Answer Located) {w : Widths} {answer : ElementAnswer} (same : w ≡ widthsOf codec)
-    (found : Finds 255 w (part p start (end - start)) look answer) where
-  searched : Finds 255 (widthsOf codec) (part p start (end - start)) look answer
+    (found : Finds w (part p start (end - start)) look answer) where
+  searched : Finds (widthsOf codec) (part p start (end - start)) look answer
   searched = rw same at found
 
   pub value-found : {r : ValueAnswer} → r ≡ shifted start answer → ValueIn p (Part.Of codec start end count) look r
@@ -313,19 +314,19 @@ module _ {source : Answer Source} {base n codec count : ℕ} {span : Span} (h : 
       ∙ part-there (record { content = h .content; base = base }) n (subst (λ (m : ℕ). n < m) (sym (h .countIs)) k)
       ∙ ap₂ (λ (c : ℕ) (s : Span). accepted (record { codec = c; start = base + s .start; end = base + s .end; elements = s .elements })) (h .codecIs) (h .spanIs))
 
-  pub walked-none : count ≤ n → partAs (Part.Refused (record { number = 16; index = 0 })) ≡ partOf source n
+  pub walked-none : count ≤ n → partAs (Part.Refused (refusal 16)) ≡ partOf source n
   unfolding partAs
   walked-none k =
       sym (ap (λ (s : Answer Source). partOf s n) (h .accepts)
       ∙ part-beyond (record { content = h .content; base = base }) n (subst (λ (m : ℕ). m ≤ n) (sym (h .countIs)) k))
 
   -- the part lies in the input
-  pub walked-in : {p : List ℕ} → ((x : Source) → source ≡ accepted x → Stored 255 p x) → n < count
+  pub walked-in : {longest : ℕ} {p : List ℕ} → ((x : Source) → source ≡ accepted x → Stored longest p x) → n < count
       → (base + span .start ≤ base + span .end) × (base + span .end ≤ length p)
   unfolding partOf onAccepted
   walked-in stored k = let q = part-in stored (λ x. n) _ (walked-part k) in (q .0, q .1 .0)
 
-source-refused : {source : Answer Source} {r : Refusal} (n : ℕ) → source ≡ refused (r .number) (r .index) → partAs (Part.Refused r) ≡ partOf source n
+source-refused : {source : Answer Source} {r : Refusal} (n : ℕ) → source ≡ refused r → partAs (Part.Refused r) ≡ partOf source n
 unfolding partAs partOf
 source-refused {source} n e = sym (onAccepted-refused source _ e)
 
@@ -338,27 +339,27 @@ source-walked base n r e =
     let t = taken n r e in
     record { content = t .content; accepts = onAccepted-passed r _ (t .accepts); codecIs = t .codecIs; countIs = t .countIs; spanIs = t .spanIs }
 
-module _ (largest longest : ℕ) (p : List ℕ) (n : ℕ) where
-  pub tcp-walked : {codec count : ℕ} {span : Span} → dataWalk n (readPacket largest longest p) ≡ DataWalk.Taken codec count span
-      → Walked (tcpSource largest longest p) 10 n codec count span
+module _ (limits : Limits) (p : List ℕ) (n : ℕ) where
+  pub tcp-walked : {codec count : ℕ} {span : Span} → dataWalk n (readPacket limits p) ≡ DataWalk.Taken codec count span
+      → Walked (tcpSource limits p) 10 n codec count span
   unfolding tcpSource
-  tcp-walked e = source-walked 10 n (readPacket largest longest p) e
+  tcp-walked e = source-walked 10 n (readPacket limits p) e
 
-  pub tcp-refused : {r : Refusal} → dataWalk n (readPacket largest longest p) ≡ DataWalk.Refused r → partAs (Part.Refused r) ≡ partOf (tcpSource largest longest p) n
+  pub tcp-refused : {r : Refusal} → dataWalk n (readPacket limits p) ≡ DataWalk.Refused r → partAs (Part.Refused r) ≡ partOf (tcpSource limits p) n
   unfolding tcpSource
-  tcp-refused e = source-refused n (onAccepted-refused (readPacket largest longest p) _ (not-taken n _ e))
+  tcp-refused e = source-refused n (onAccepted-refused (readPacket limits p) _ (not-taken n _ e))
 
-  udp-source : udpSource largest longest p ≡ sourceAt 25 (payloadOf (readDatagram largest longest p))
+  udp-source : udpSource limits p ≡ sourceAt 25 (payloadOf (readDatagram limits p))
   unfolding udpSource payloadOf onAccepted
-  udp-source = go (readDatagram largest longest p)
+  udp-source = go (readDatagram limits p)
     where
       go : (r : Answer Datagram) → onAccepted r (λ g. accepted (record { content = g .payload; base = 25 })) ≡ sourceAt 25 (payloadOf r)
       go (accepted g) = refl
-      go (refused m i) = refl
+      go (refused x) = refl
 
-  pub udp-walked : {codec count : ℕ} {span : Span} → dataWalk n (payloadOf (readDatagram largest longest p)) ≡ DataWalk.Taken codec count span
-      → Walked (udpSource largest longest p) 25 n codec count span
-  udp-walked {codec} {count} {span} e = subst (λ (s : Answer Source). Walked s 25 n codec count span) (sym udp-source) (source-walked 25 n (payloadOf (readDatagram largest longest p)) e)
+  pub udp-walked : {codec count : ℕ} {span : Span} → dataWalk n (payloadOf (readDatagram limits p)) ≡ DataWalk.Taken codec count span
+      → Walked (udpSource limits p) 25 n codec count span
+  udp-walked {codec} {count} {span} e = subst (λ (s : Answer Source). Walked s 25 n codec count span) (sym udp-source) (source-walked 25 n (payloadOf (readDatagram limits p)) e)
 
-  pub udp-refused : {r : Refusal} → dataWalk n (payloadOf (readDatagram largest longest p)) ≡ DataWalk.Refused r → partAs (Part.Refused r) ≡ partOf (udpSource largest longest p) n
+  pub udp-refused : {r : Refusal} → dataWalk n (payloadOf (readDatagram limits p)) ≡ DataWalk.Refused r → partAs (Part.Refused r) ≡ partOf (udpSource limits p) n
   udp-refused e = source-refused n (udp-source ∙ onAccepted-refused _ _ (not-taken n _ e))

@@ -10,6 +10,7 @@ use lib.ListN.{length, take, drop, length-append, length-drop, take-append-drop}
 use lib.Seq.{drop-drop, drop-at, take-append-le, drop-append-le}
 use lib.Dec.{eqb}
 use borrow.Author.Tests.{eqb-true}
+use Rattle.wire.specs.declared.Limits.{Limits}
 use Rattle.wire.specs.Numbers.{Bytes, digits, be, pick}
 use Rattle.wire.specs.Sequences.{joined, All}
 use Rattle.wire.specs.Envelope.{enclosed}
@@ -58,10 +59,10 @@ data-tiles p a at next from to f e h =
     let c = between-split body (b .1) in
     records-tile (widthsOf (a .codec)) p (a .records) from to (between-moved (omega arith) (omega (arith, c .1 .size)) (c .0))
 
-pub tcp-tiles : (largest longest : ℕ) (p : List ℕ) (a : AvlData) → DataPacket largest longest a p
+pub tcp-tiles : (limits : Limits) (p : List ℕ) (a : AvlData) → DataPacket limits a p
     → Tiles (widthsOf (a .codec)) p 10 (length p - 5) (placeRecords (widthsOf (a .codec)) 10 (a .records))
 unfolding packetBytes framed
-tcp-tiles largest longest p a k =
+tcp-tiles limits p a k =
     let d = dataBytes a in
     let f₁ = between-split (be 4 0) (between-bytes (k .whole) (between-whole p)) in
     let f₂ = between-split (be 4 (length d)) (f₁ .1) in
@@ -69,10 +70,10 @@ tcp-tiles largest longest p a k =
     data-tiles p a _ _ 10 (length p - 5) (f₃ .0) (simp length-digits)
     (omega (arith, f₃ .1 .size, length-digits 256 4 (crc d)))
 
-pub udp-tiles : (largest longest : ℕ) (p : List ℕ) (g : Datagram) → UdpPacket largest longest g p
+pub udp-tiles : (limits : Limits) (p : List ℕ) (g : Datagram) → UdpPacket limits g p
     → Tiles (widthsOf (g .payload .codec)) p 25 (length p - 1) (placeRecords (widthsOf (g .payload .codec)) 25 (g .payload .records))
 unfolding datagramBytes contentBytes headerBytes
-udp-tiles largest longest p g k =
+udp-tiles limits p g k =
     let f₁ = between-split (be 2 (length (contentBytes g))) (between-bytes (k .whole) (between-whole p)) in
     let f₂ = between-split (headerBytes (g .header)) (f₁ .1) in
     data-tiles p (g .payload) _ (length p) 25 (length p - 1) (f₂ .1) (simp (length-append, length-digits, length-imeiText)) refl
@@ -84,19 +85,19 @@ pub record Stored (longest : ℕ) (p : List ℕ) (x : Source) : Type 0 where
   pub rules : DataRules longest (x .content)
   pub tiles : (to : ℕ) × Tiles (widthsOf (x .content .codec)) p (x .base) to (placeRecords (widthsOf (x .content .codec)) (x .base) (x .content .records))
 
-pub tcp-stored : (largest longest : ℕ) (p : List ℕ) (x : Source) → Bytes p → tcpSource largest longest p ≡ accepted x → Stored longest p x
+pub tcp-stored : (limits : Limits) (p : List ℕ) (x : Source) → Bytes p → tcpSource limits p ≡ accepted x → Stored (limits .longest) p x
 unfolding tcpSource
-tcp-stored largest longest p x h e =
-    let i = onAccepted-accepted (readPacket largest longest p) _ e in
-    let k = packet-exact largest longest p (i .0) h .0 (i .1) in
-    subst (λ (y : Source). Stored longest p y) (cc) (record { rules = k .rules; tiles = (_, tcp-tiles largest longest p (i .0) k) })
+tcp-stored limits p x h e =
+    let i = onAccepted-accepted (readPacket limits p) _ e in
+    let k = packet-exact limits p (i .0) h .0 (i .1) in
+    subst (λ (y : Source). Stored (limits .longest) p y) (cc) (record { rules = k .rules; tiles = (_, tcp-tiles limits p (i .0) k) })
 
-pub udp-stored : (largest longest : ℕ) (p : List ℕ) (x : Source) → Bytes p → udpSource largest longest p ≡ accepted x → Stored longest p x
+pub udp-stored : (limits : Limits) (p : List ℕ) (x : Source) → Bytes p → udpSource limits p ≡ accepted x → Stored (limits .longest) p x
 unfolding udpSource
-udp-stored largest longest p x h e =
-    let i = onAccepted-accepted (readDatagram largest longest p) _ e in
-    let k = datagram-exact largest longest p (i .0) h .0 (i .1) in
-    subst (λ (y : Source). Stored longest p y) (cc) (record { rules = k .payload; tiles = (_, udp-tiles largest longest p (i .0) k) })
+udp-stored limits p x h e =
+    let i = onAccepted-accepted (readDatagram limits p) _ e in
+    let k = datagram-exact limits p (i .0) h .0 (i .1) in
+    subst (λ (y : Source). Stored (limits .longest) p y) (cc) (record { rules = k .payload; tiles = (_, udp-tiles limits p (i .0) k) })
 
 -- ---- what is found is one of the list: what holds of each holds of it
 

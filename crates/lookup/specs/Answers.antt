@@ -5,10 +5,10 @@ use mathlib.Core.Bool.{Bool}
 use mathlib.Core.List.{List, []}
 use lib.ListN.{length}
 use Rattle.wire.specs.Reading.{got}
-use Rattle.wire.specs.Answers.{Answer, accepted, refused, onAccepted}
+use Rattle.wire.specs.Answers.{Answer, accepted, refused, onAccepted, refusal}
 use Rattle.avl.specs.Codecs.{widthsOf}
 use Rattle.avl.specs.Records.{AvlRecord, elementCount, recordBytes}
-use Rattle.avl.specs.RecordReader.{avlRecord}
+use Rattle.avl.specs.RecordReader.{plainRecord}
 use Rattle.element.specs.declared.Value.{Value}
 use Rattle.element.specs.declared.RecordFields.{RecordFields}
 use Rattle.element.specs.declared.ElementAnswer.{ElementAnswer}
@@ -24,7 +24,7 @@ use Rattle.lookup.specs.Lookups.{Source, placedRecord, Found, LastKnown}
 
 unfoldable pub recordAs : RecordAnswer → Answer RecordFields
 recordAs (RecordAnswer.Fields f) = accepted f
-recordAs (RecordAnswer.Refused r) = refused (r .number) (r .index)
+recordAs (RecordAnswer.Refused r) = refused r
 
 -- ---- a record as a part of the input
 
@@ -52,19 +52,19 @@ lastPart source = onAccepted source (λ x. partOf (accepted x) (length (x .conte
 
 unfoldable pub partAs : Part → Answer PartResult
 partAs (Part.Of codec start end elements) = accepted (record { codec = codec; start = start; end = end; elements = elements })
-partAs (Part.Refused r) = refused (r .number) (r .index)
+partAs (Part.Refused r) = refused r
 
 -- the part is a record of the input, which can be read and has so many elements
 abbrev pub PartIn : List ℕ → Part → Type 0
 PartIn p (Part.Of codec start end elements) =
     (start ≤ end)
-    × ((end ≤ length p) × (Readable 255 (widthsOf codec) (part p start (end - start)) × HasElements 255 (widthsOf codec) (part p start (end - start)) elements))
+    × ((end ≤ length p) × (Readable (widthsOf codec) (part p start (end - start)) × HasElements (widthsOf codec) (part p start (end - start)) elements))
 PartIn p (Part.Refused r) = Unit {0}
 
 -- the answer is the fields of the record that the part is
 abbrev pub RecordIn : List ℕ → Part → RecordAnswer → Type 0
 RecordIn p (Part.Of codec start end elements) answer =
-    (x : AvlRecord) (n : ℕ) → avlRecord 255 (widthsOf codec) (part p start (end - start)) 0 ≡ got x n → answer ≡ RecordAnswer.Fields (recordResult x)
+    (x : AvlRecord) (n : ℕ) → plainRecord (widthsOf codec) (part p start (end - start)) 0 ≡ got x n → answer ≡ RecordAnswer.Fields (recordResult x)
 RecordIn p (Part.Refused r) answer = answer ≡ RecordAnswer.Refused r
 
 -- ---- a value
@@ -77,12 +77,12 @@ Reaches start ElementAnswer.Nothing = Unit {0}
 -- a value of the record at `start`, its offset counted from the input's start
 unfoldable pub shifted : ℕ → ElementAnswer → ValueAnswer
 shifted start (ElementAnswer.At v) = ValueAnswer.Found (record { id = v .id; kind = v .kind; offset = start + v .offset; size = v .size })
-shifted start ElementAnswer.Nothing = ValueAnswer.Refused (record { number = 16; index = 0 })
+shifted start ElementAnswer.Nothing = ValueAnswer.Refused (refusal 16)
 
 -- the answer is the element that is looked for in the record that the part is
 abbrev pub ValueIn : List ℕ → Part → (List Located → Answer Located) → ValueAnswer → Type 0
 ValueIn p (Part.Of codec start end count) look answer =
-    (x : AvlRecord) (n : ℕ) → avlRecord 255 (widthsOf codec) (part p start (end - start)) 0 ≡ got x n
+    (x : AvlRecord) (n : ℕ) → plainRecord (widthsOf codec) (part p start (end - start)) 0 ≡ got x n
     → answer ≡ shifted start (elementAs (look (elements (widthsOf codec) x)))
 ValueIn p (Part.Refused r) look answer = answer ≡ ValueAnswer.Refused r
 
@@ -103,7 +103,7 @@ answerValue found = onAccepted found (λ f. accepted (valueResult f))
 
 unfoldable pub valueAs : ValueAnswer → Answer Value
 valueAs (ValueAnswer.Found v) = accepted v
-valueAs (ValueAnswer.Refused r) = refused (r .number) (r .index)
+valueAs (ValueAnswer.Refused r) = refused r
 
 -- ---- the last known value
 
@@ -116,8 +116,8 @@ answerKnown known = onAccepted known (λ k. accepted (record { older = k .older;
 
 unfoldable pub knownAs : KnownAnswer → Answer KnownResult
 knownAs (KnownAnswer.Found older v) = accepted (record { older = older; value = v })
-knownAs (KnownAnswer.Refused r) = refused (r .number) (r .index)
+knownAs (KnownAnswer.Refused r) = refused r
 
 unfoldable pub knownView : Answer LastKnown → List ℕ
 knownView (accepted k) = k .found .value
-knownView (refused number index) = []
+knownView (refused r) = []

@@ -3,6 +3,7 @@ use Prim.Native.Nat.{ℕ, _+_, _-_}
 use mathlib.Core.Bool.{Bool, true, false}
 use mathlib.Core.List.{List, []}
 use lib.ListN.{length}
+use Rattle.wire.specs.declared.Limits.{Limits}
 use Rattle.wire.specs.Answers.{Answer, accepted, refused, onAccepted}
 use Rattle.avl.specs.Codecs.{widthsOf}
 use Rattle.avl.specs.DataField.{AvlData}
@@ -19,11 +20,11 @@ pub record Source : Type 0 where
   pub content : AvlData
   pub base : ℕ
 
-unfoldable pub tcpSource : ℕ → ℕ → List ℕ → Answer Source
-tcpSource largest longest p = onAccepted (readPacket largest longest p) (λ a. accepted (record { content = a; base = 10 }))
+unfoldable pub tcpSource : Limits → List ℕ → Answer Source
+tcpSource limits p = onAccepted (readPacket limits p) (λ a. accepted (record { content = a; base = 10 }))
 
-unfoldable pub udpSource : ℕ → ℕ → List ℕ → Answer Source
-udpSource largest longest p = onAccepted (readDatagram largest longest p) (λ g. accepted (record { content = g .payload; base = 25 }))
+unfoldable pub udpSource : Limits → List ℕ → Answer Source
+udpSource limits p = onAccepted (readDatagram limits p) (λ g. accepted (record { content = g .payload; base = 25 }))
 
 unfoldable pub placedRecord : Source → ℕ → Answer Placed
 placedRecord x n = nth n (placeRecords (widthsOf (x .content .codec)) (x .base) (x .content .records))
@@ -57,7 +58,7 @@ valueById source n id = onAccepted source (λ x. valueIn (firstWith id) x n)
 -- the view: the value's bytes, empty on every refusal
 unfoldable pub view : Answer Found → List ℕ
 view (accepted f) = f .value
-view (refused number index) = []
+view (refused r) = []
 
 -- ---- the last known value
 
@@ -73,7 +74,7 @@ inOlder id source = onAccepted source (λ x. onAccepted (valueInLast id x) (λ f
 
 unfoldable pub orElse : {A : Type 0} → Answer A → Answer A → Answer A
 orElse (accepted a) b = accepted a
-orElse (refused number index) b = b
+orElse (refused r) b = b
 
 -- in the newer's last record, else in the older's, which is judged only then
 unfoldable pub lastKnown : ℕ → Answer Source → Answer Source → Answer LastKnown

@@ -4,10 +4,12 @@ use element::ElementAnswer;
 use element::RecordFields;
 use element::Value;
 use walk::DataWalk;
+use wire::Limits;
 use wire::Refusal;
 ghost use mathlib.Core.Path.{_≡_};
 ghost use Rattle.lookup.specs.Lookups.{tcpSource, udpSource, recordByNumber, valueByNumber, valueById, view, lastKnown};
 ghost use Rattle.element.specs.Elements.{nth, firstWith};
+ghost use Rattle.wire.specs.Limits.{baseLimits};
 ghost use Rattle.lookup.specs.Answers.{recordAs, partAs, partOf, lastPart, PartIn, RecordIn, ValueIn, Reaches, shifted, Within, viewOf, answerValue, valueAs, answerKnown, knownAs, knownView};
 
 pub enum RecordAnswer {
@@ -39,10 +41,10 @@ enum Part {
 
 // ---- records as parts of the input
 
-fn packet_part(p: &[u8], n: usize) -> Part
-    ensures { λ r. ⌜ partAs r ≡ partOf (tcpSource 1280 255 (now (p .entry))) n ⌝ }
+fn packet_part(limits: Limits, p: &[u8], n: usize) -> Part
+    ensures { λ r. ⌜ partAs r ≡ partOf (tcpSource limits (now (p .entry))) n ⌝ }
 {
-    match packet::judge_packet(packet::LARGEST, packet::LONGEST, p, n) {
+    match packet::judge_packet(limits, p, n) {
         DataWalk::Refused(r) => Part::Refused(r),
         DataWalk::Taken { codec, count, span } => {
             if n < count {
@@ -61,10 +63,10 @@ fn packet_part(p: &[u8], n: usize) -> Part
     }
 }
 
-fn datagram_part(p: &[u8], n: usize) -> Part
-    ensures { λ r. ⌜ partAs r ≡ partOf (udpSource 1280 255 (now (p .entry))) n ⌝ }
+fn datagram_part(limits: Limits, p: &[u8], n: usize) -> Part
+    ensures { λ r. ⌜ partAs r ≡ partOf (udpSource limits (now (p .entry))) n ⌝ }
 {
-    match datagram::judge_datagram(datagram::LARGEST, datagram::LONGEST, p, n) {
+    match datagram::judge_datagram(limits, p, n) {
         DataWalk::Refused(r) => Part::Refused(r),
         DataWalk::Taken { codec, count, span } => {
             if n < count {
@@ -84,17 +86,17 @@ fn datagram_part(p: &[u8], n: usize) -> Part
 }
 
 // The last record of a TCP packet: its number is one below the first count.
-fn last_part(p: &[u8]) -> Part
-    ensures { λ r. ⌜ partAs r ≡ lastPart (tcpSource 1280 255 (now (p .entry))) ⌝ }
+fn last_part(limits: Limits, p: &[u8]) -> Part
+    ensures { λ r. ⌜ partAs r ≡ lastPart (tcpSource limits (now (p .entry))) ⌝ }
 {
     if p.len() < 10 {
-        return packet_part(p, 0);
+        return packet_part(limits, p, 0);
     }
     let count = p[9] as usize;
     if count < 1 {
-        return packet_part(p, 0);
+        return packet_part(limits, p, 0);
     }
-    packet_part(p, count - 1)
+    packet_part(limits, p, count - 1)
 }
 
 // ---- records by number
@@ -119,15 +121,15 @@ fn record_in(p: &[u8], part: Part) -> RecordAnswer
 }
 
 pub fn record_in_packet(p: &[u8], n: usize) -> RecordAnswer
-    ensures { λ r. ⌜ recordAs r ≡ recordByNumber (tcpSource 1280 255 (now (p .entry))) n ⌝ }
+    ensures { λ r. ⌜ recordAs r ≡ recordByNumber (tcpSource baseLimits (now (p .entry))) n ⌝ }
 {
-    record_in(p, packet_part(p, n))
+    record_in(p, packet_part(wire::BASE, p, n))
 }
 
 pub fn record_in_datagram(p: &[u8], n: usize) -> RecordAnswer
-    ensures { λ r. ⌜ recordAs r ≡ recordByNumber (udpSource 1280 255 (now (p .entry))) n ⌝ }
+    ensures { λ r. ⌜ recordAs r ≡ recordByNumber (udpSource baseLimits (now (p .entry))) n ⌝ }
 {
-    record_in(p, datagram_part(p, n))
+    record_in(p, datagram_part(wire::BASE, p, n))
 }
 
 // ---- values by number and by ID
@@ -190,27 +192,27 @@ fn id_in(p: &[u8], part: Part, id: u16) -> ValueAnswer
 }
 
 pub fn value_in_packet(p: &[u8], n: usize, k: usize) -> ValueAnswer
-    ensures { λ r. ⌜ valueAs r ≡ answerValue (valueByNumber (tcpSource 1280 255 (now (p .entry))) n k) ⌝ }
+    ensures { λ r. ⌜ valueAs r ≡ answerValue (valueByNumber (tcpSource baseLimits (now (p .entry))) n k) ⌝ }
 {
-    number_in(p, packet_part(p, n), k)
+    number_in(p, packet_part(wire::BASE, p, n), k)
 }
 
 pub fn value_in_datagram(p: &[u8], n: usize, k: usize) -> ValueAnswer
-    ensures { λ r. ⌜ valueAs r ≡ answerValue (valueByNumber (udpSource 1280 255 (now (p .entry))) n k) ⌝ }
+    ensures { λ r. ⌜ valueAs r ≡ answerValue (valueByNumber (udpSource baseLimits (now (p .entry))) n k) ⌝ }
 {
-    number_in(p, datagram_part(p, n), k)
+    number_in(p, datagram_part(wire::BASE, p, n), k)
 }
 
 pub fn id_in_packet(p: &[u8], n: usize, id: u16) -> ValueAnswer
-    ensures { λ r. ⌜ valueAs r ≡ answerValue (valueById (tcpSource 1280 255 (now (p .entry))) n id) ⌝ }
+    ensures { λ r. ⌜ valueAs r ≡ answerValue (valueById (tcpSource baseLimits (now (p .entry))) n id) ⌝ }
 {
-    id_in(p, packet_part(p, n), id)
+    id_in(p, packet_part(wire::BASE, p, n), id)
 }
 
 pub fn id_in_datagram(p: &[u8], n: usize, id: u16) -> ValueAnswer
-    ensures { λ r. ⌜ valueAs r ≡ answerValue (valueById (udpSource 1280 255 (now (p .entry))) n id) ⌝ }
+    ensures { λ r. ⌜ valueAs r ≡ answerValue (valueById (udpSource baseLimits (now (p .entry))) n id) ⌝ }
 {
-    id_in(p, datagram_part(p, n), id)
+    id_in(p, datagram_part(wire::BASE, p, n), id)
 }
 
 // ---- the same as views: parts of the input, empty on every refusal
@@ -230,25 +232,25 @@ fn view_of(p: &[u8], answer: ValueAnswer) -> &[u8]
 }
 
 pub fn view_in_packet(p: &[u8], n: usize, k: usize) -> &[u8]
-    ensures { λ r. ⌜ now r ≡ view (valueByNumber (tcpSource 1280 255 (now (p .entry))) n k) ⌝ }
+    ensures { λ r. ⌜ now r ≡ view (valueByNumber (tcpSource baseLimits (now (p .entry))) n k) ⌝ }
 {
     view_of(p, value_in_packet(p, n, k))
 }
 
 pub fn view_in_datagram(p: &[u8], n: usize, k: usize) -> &[u8]
-    ensures { λ r. ⌜ now r ≡ view (valueByNumber (udpSource 1280 255 (now (p .entry))) n k) ⌝ }
+    ensures { λ r. ⌜ now r ≡ view (valueByNumber (udpSource baseLimits (now (p .entry))) n k) ⌝ }
 {
     view_of(p, value_in_datagram(p, n, k))
 }
 
 pub fn id_view_in_packet(p: &[u8], n: usize, id: u16) -> &[u8]
-    ensures { λ r. ⌜ now r ≡ view (valueById (tcpSource 1280 255 (now (p .entry))) n id) ⌝ }
+    ensures { λ r. ⌜ now r ≡ view (valueById (tcpSource baseLimits (now (p .entry))) n id) ⌝ }
 {
     view_of(p, id_in_packet(p, n, id))
 }
 
 pub fn id_view_in_datagram(p: &[u8], n: usize, id: u16) -> &[u8]
-    ensures { λ r. ⌜ now r ≡ view (valueById (udpSource 1280 255 (now (p .entry))) n id) ⌝ }
+    ensures { λ r. ⌜ now r ≡ view (valueById (udpSource baseLimits (now (p .entry))) n id) ⌝ }
 {
     view_of(p, id_in_datagram(p, n, id))
 }
@@ -256,9 +258,9 @@ pub fn id_view_in_datagram(p: &[u8], n: usize, id: u16) -> &[u8]
 // ---- the last known value of an ID: in the newer packet's last record, else in the older's
 
 pub fn last_known(newer: &[u8], older: &[u8], id: u16) -> KnownAnswer
-    ensures { λ r. ⌜ knownAs r ≡ answerKnown (lastKnown id (tcpSource 1280 255 (now (newer .entry))) (tcpSource 1280 255 (now (older .entry)))) ⌝ }
+    ensures { λ r. ⌜ knownAs r ≡ answerKnown (lastKnown id (tcpSource baseLimits (now (newer .entry))) (tcpSource baseLimits (now (older .entry)))) ⌝ }
 {
-    let part = last_part(newer);
+    let part = last_part(wire::BASE, newer);
     if let Part::Refused(r) = part {
         return KnownAnswer::Refused(r);
     }
@@ -268,14 +270,14 @@ pub fn last_known(newer: &[u8], older: &[u8], id: u16) -> KnownAnswer
             value,
         };
     }
-    match id_in(older, last_part(older), id) {
+    match id_in(older, last_part(wire::BASE, older), id) {
         ValueAnswer::Found(value) => KnownAnswer::Found { older: true, value },
         ValueAnswer::Refused(r) => KnownAnswer::Refused(r),
     }
 }
 
 pub fn last_known_view<'a>(newer: &'a [u8], older: &'a [u8], id: u16) -> &'a [u8]
-    ensures { λ r. ⌜ now r ≡ knownView (lastKnown id (tcpSource 1280 255 (now (newer .entry))) (tcpSource 1280 255 (now (older .entry)))) ⌝ }
+    ensures { λ r. ⌜ now r ≡ knownView (lastKnown id (tcpSource baseLimits (now (newer .entry))) (tcpSource baseLimits (now (older .entry)))) ⌝ }
 {
     match last_known(newer, older, id) {
         KnownAnswer::Refused(_) => &newer[0..0],

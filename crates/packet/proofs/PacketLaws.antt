@@ -3,6 +3,7 @@ use Prim.Native.Nat.{ℕ}
 use mathlib.Core.Path.{_≡_, ap, _∙_}
 use mathlib.Core.Logic.{_↔_}
 use mathlib.Core.List.{List}
+use Rattle.wire.specs.declared.Limits.{Limits}
 use Rattle.wire.specs.Numbers.{Bytes}
 use Rattle.wire.specs.Answers.{accepted}
 use Rattle.wire.proofs.Accepting.{onAccepted-accepted, onAccepted-passed}
@@ -12,25 +13,25 @@ use Rattle.frame.specs.Frame.{framed, unframe}
 use Rattle.frame.proofs.FrameLaws.{frame-exact, frame-complete}
 use Rattle.packet.specs.DataPackets.{packetBytes, DataPacket, readPacket}
 
-packet-sound : (largest longest : ℕ) (p : List ℕ) (a : AvlData) → Bytes p → readPacket largest longest p ≡ accepted a → DataPacket largest longest a p
+packet-sound : (limits : Limits) (p : List ℕ) (a : AvlData) → Bytes p → readPacket limits p ≡ accepted a → DataPacket limits a p
 unfolding readPacket packetBytes
-packet-sound largest longest p a h e =
-    let i = onAccepted-accepted (unframe largest p) (readData longest) e in
-    let f = frame-exact largest p (i .0) h .0 (i .1) in
-    let d = data-exact longest (i .0) a (f .0 .bytes) (f .0 .least) .0 (i .2) in
+packet-sound limits p a h e =
+    let i = onAccepted-accepted (unframe (limits .largest) p) (readData (limits .longest)) e in
+    let f = frame-exact (limits .largest) p (i .0) h .0 (i .1) in
+    let d = data-exact (limits .longest) (i .0) a (f .0 .bytes) (f .0 .least) .0 (i .2) in
     record { rules = d .0; frame = rw (d .1) at (f .0); whole = f .1 ∙ ap framed (d .1) }
 
-pub packet-complete : (largest longest : ℕ) (p : List ℕ) (a : AvlData) → DataPacket largest longest a p → readPacket largest longest p ≡ accepted a
+pub packet-complete : (limits : Limits) (p : List ℕ) (a : AvlData) → DataPacket limits a p → readPacket limits p ≡ accepted a
 unfolding readPacket packetBytes
-packet-complete largest longest p a k =
-    onAccepted-passed (unframe largest p) (readData longest) (ap (unframe largest) (k .whole) ∙ frame-complete largest (dataBytes a) (k .frame))
-    ∙ data-complete longest a (k .rules)
+packet-complete limits p a k =
+    onAccepted-passed (unframe (limits .largest) p) (readData (limits .longest)) (ap (unframe (limits .largest)) (k .whole) ∙ frame-complete (limits .largest) (dataBytes a) (k .frame))
+    ∙ data-complete (limits .longest) a (k .rules)
 
-pub packet-exact : (largest longest : ℕ) (p : List ℕ) (a : AvlData) → Bytes p → (readPacket largest longest p ≡ accepted a) ↔ DataPacket largest longest a p
-packet-exact largest longest p a h = (packet-sound largest longest p a h, packet-complete largest longest p a)
+pub packet-exact : (limits : Limits) (p : List ℕ) (a : AvlData) → Bytes p → (readPacket limits p ≡ accepted a) ↔ DataPacket limits a p
+packet-exact limits p a h = (packet-sound limits p a h, packet-complete limits p a)
 
-pub packet-unique : (largest longest : ℕ) (p : List ℕ) (a b : AvlData) → DataPacket largest longest a p → DataPacket largest longest b p → a ≡ b
-packet-unique largest longest p a b f g =
-    let left = packet-complete largest longest p a f in
-    let right = packet-complete largest longest p b g in
+pub packet-unique : (limits : Limits) (p : List ℕ) (a b : AvlData) → DataPacket limits a p → DataPacket limits b p → a ≡ b
+packet-unique limits p a b f g =
+    let left = packet-complete limits p a f in
+    let right = packet-complete limits p b g in
     cc

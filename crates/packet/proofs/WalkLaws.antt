@@ -5,6 +5,8 @@ use mathlib.Core.Path.{_≡_, sym, ap, ap₂, _∙_}
 use mathlib.Core.List.{List, [], _∷_, _++_}
 use lib.ListN.{length, take, drop, length-drop}
 use lib.Seq.{length-take-le}
+use Rattle.wire.specs.declared.Limits.{Limits}
+use Rattle.wire.specs.declared.Refusal.{Refusal}
 use Rattle.wire.specs.Numbers.{Bytes, digits, be}
 use Rattle.wire.specs.Answers.{accepted, refused, onAccepted}
 use Rattle.wire.proofs.Accepting.{onAccepted-passed}
@@ -17,14 +19,14 @@ use Rattle.walk.proofs.TakenLaws.{TakenOf, taken-fits}
 use Rattle.packet.specs.DataPackets.{readPacket, answerPacket, acknowledged, tcpAcknowledgement}
 use Rattle.packet.proofs.PacketLaws.{packet-exact}
 
-pub unframed-refused : (largest longest : ℕ) (p : List ℕ) (n : ℕ) → framing (unframe largest p) ≡ Framed.Unframed n → readPacket largest longest p ≡ refused n 0
+pub unframed-refused : (limits : Limits) (p : List ℕ) (x : Refusal) → framing (unframe (limits .largest) p) ≡ Framed.Unframed x → readPacket limits p ≡ refused x
 unfolding readPacket onAccepted
-unframed-refused largest longest p n e = ap (λ r. onAccepted r (readData longest)) (framing-unframed largest p n e)
+unframed-refused limits p x e = ap (λ r. onAccepted r (readData (limits .longest))) (framing-unframed (limits .largest) p x e)
 
-module _ (largest : ℕ) (p : List ℕ) (n : ℕ) (e : framing (unframe largest p) ≡ Framed.Field n) (b : Bytes p) where
+module _ (limits : Limits) (p : List ℕ) (n : ℕ) (e : framing (unframe (limits .largest) p) ≡ Framed.Field n) (b : Bytes p) where
   -- the data field lies in the packet
   pub field-inside : (8 + n ≤ length p) × (3 ≤ n)
-  field-inside = let f = framing-field largest p n e b in omega arith
+  field-inside = let f = framing-field (limits .largest) p n e b in omega arith
 
   -- the part that is handed on
   field-part : take (8 + n - 8) (drop 8 p) ≡ take n (drop 8 p)
@@ -34,41 +36,41 @@ module _ (largest : ℕ) (p : List ℕ) (n : ℕ) (e : framing (unframe largest 
 
   pub field-long : 3 ≤ length (take (8 + n - 8) (drop 8 p))
   field-long =
-      let f = framing-field largest p n e b in
+      let f = framing-field (limits .largest) p n e b in
       let k = length-take-le n (drop 8 p) (simp length-drop (omega arith)) in
       omega (arith, ap length field-part)
 
-  pub field-read : (longest : ℕ) → readData longest (take (8 + n - 8) (drop 8 p)) ≡ readPacket largest longest p
+  pub field-read : readData (limits .longest) (take (8 + n - 8) (drop 8 p)) ≡ readPacket limits p
   unfolding readPacket
-  field-read longest = ap (readData longest) field-part ∙ sym (onAccepted-passed (unframe largest p) (readData longest) (framing-field largest p n e b .0))
+  field-read = ap (readData (limits .longest)) field-part ∙ sym (onAccepted-passed (unframe (limits .largest) p) (readData (limits .longest)) (framing-field (limits .largest) p n e b .0))
 
 -- ---- what the walk tells of the answers
 
-module _ (largest longest : ℕ) (p : List ℕ) where
+module _ (limits : Limits) (p : List ℕ) where
   -- codec and count fit a byte
-  pub packet-fits : {want codec count : ℕ} {span : Span} → Bytes p → TakenOf want (readPacket largest longest p) codec count span → (codec < 256) × (count < 256)
-  packet-fits b k = taken-fits k (packet-exact largest longest p (k .content) b .0 (k .accepts) .rules)
+  pub packet-fits : {want codec count : ℕ} {span : Span} → Bytes p → TakenOf want (readPacket limits p) codec count span → (codec < 256) × (count < 256)
+  packet-fits b k = taken-fits k (packet-exact limits p (k .content) b .0 (k .accepts) .rules)
 
-  pub answer-taken : {want codec count : ℕ} {span : Span} → TakenOf want (readPacket largest longest p) codec count span
-      → answerPacket largest longest p ≡ accepted (record { codec = codec; count = count })
+  pub answer-taken : {want codec count : ℕ} {span : Span} → TakenOf want (readPacket limits p) codec count span
+      → answerPacket limits p ≡ accepted (record { codec = codec; count = count })
   unfolding answerPacket dataResult
   answer-taken k =
-      onAccepted-passed (readPacket largest longest p) _ (k .accepts) ∙ ap₂ (λ (x y : ℕ). accepted (record { codec = x; count = y })) (k .codecIs) (k .countIs)
+      onAccepted-passed (readPacket limits p) _ (k .accepts) ∙ ap₂ (λ (x y : ℕ). accepted (record { codec = x; count = y })) (k .codecIs) (k .countIs)
 
-  pub answer-refused : {n i : ℕ} → readPacket largest longest p ≡ refused n i → answerPacket largest longest p ≡ refused n i
+  pub answer-refused : {x : Refusal} → readPacket limits p ≡ refused x → answerPacket limits p ≡ refused x
   unfolding answerPacket onAccepted
   answer-refused e = ap (λ r. onAccepted r (λ a. accepted (dataResult a))) e
 
-  pub count-taken : {want codec count : ℕ} {span : Span} → TakenOf want (readPacket largest longest p) codec count span
-      → acknowledged (readPacket largest longest p) ≡ count
+  pub count-taken : {want codec count : ℕ} {span : Span} → TakenOf want (readPacket limits p) codec count span
+      → acknowledged (readPacket limits p) ≡ count
   unfolding acknowledged
   count-taken k = ap acknowledged (k .accepts) ∙ k .countIs
 
-  pub count-refused : {n i : ℕ} → readPacket largest longest p ≡ refused n i → acknowledged (readPacket largest longest p) ≡ 0
+  pub count-refused : {x : Refusal} → readPacket limits p ≡ refused x → acknowledged (readPacket limits p) ≡ 0
   unfolding acknowledged
   count-refused e = ap acknowledged e
 
-  pub acknowledgement-bytes : {n : ℕ} → n ≡ acknowledged (readPacket largest longest p) → n < 256 → 0 ∷ 0 ∷ 0 ∷ n ∷ [] ≡ tcpAcknowledgement largest longest p
+  pub acknowledgement-bytes : {n : ℕ} → n ≡ acknowledged (readPacket limits p) → n < 256 → 0 ∷ 0 ∷ 0 ∷ n ∷ [] ≡ tcpAcknowledgement limits p
   unfolding tcpAcknowledgement digits
   acknowledgement-bytes {n} e h =
       let high : n / 256 ≡ 0 = omega arith in

@@ -3,6 +3,7 @@ use Prim.Native.Nat.{ℕ}
 use mathlib.Core.Path.{_≡_}
 use mathlib.Core.List.{List}
 use lib.ListN.{length}
+use Rattle.wire.specs.declared.Limits.{Limits}
 use Rattle.wire.specs.Numbers.{be}
 use Rattle.wire.specs.Answers.{Answer, accepted, refused, onAccepted}
 use Rattle.avl.specs.DataField.{AvlData, dataBytes, DataRules, readData, DataResult, dataResult}
@@ -16,30 +17,30 @@ unfoldable pub packetBytes : AvlData → List ℕ
 packetBytes a = framed (dataBytes a)
 
 -- the packet `p` carries the records of `a`
-pub record DataPacket (largest longest : ℕ) (a : AvlData) (p : List ℕ) : Type 0 where
-  pub rules : DataRules longest a
-  pub frame : FrameRules largest (dataBytes a)
+pub record DataPacket (limits : Limits) (a : AvlData) (p : List ℕ) : Type 0 where
+  pub rules : DataRules (limits .longest) a
+  pub frame : FrameRules (limits .largest) (dataBytes a)
   pub whole : p ≡ packetBytes a
 
 -- ---- the judge: 1 to 5, 6, 7, then the walk
 
-unfoldable pub readPacket : ℕ → ℕ → List ℕ → Answer AvlData
-readPacket largest longest p = onAccepted (unframe largest p) (readData longest)
+unfoldable pub readPacket : Limits → List ℕ → Answer AvlData
+readPacket limits p = onAccepted (unframe (limits .largest) p) (readData (limits .longest))
 
-unfoldable pub answerPacket : ℕ → ℕ → List ℕ → Answer DataResult
-answerPacket largest longest p = onAccepted (readPacket largest longest p) (λ a. accepted (dataResult a))
+unfoldable pub answerPacket : Limits → List ℕ → Answer DataResult
+answerPacket limits p = onAccepted (readPacket limits p) (λ a. accepted (dataResult a))
 
 -- ---- the acknowledgement: the number of records in four bytes, 0 for a refused packet
 
 unfoldable pub acknowledged : Answer AvlData → ℕ
 acknowledged (accepted a) = length (a .records)
-acknowledged (refused number index) = 0
+acknowledged (refused r) = 0
 
-unfoldable pub tcpAcknowledgement : ℕ → ℕ → List ℕ → List ℕ
-tcpAcknowledgement largest longest p = be 4 (acknowledged (readPacket largest longest p))
+unfoldable pub tcpAcknowledgement : Limits → List ℕ → List ℕ
+tcpAcknowledgement limits p = be 4 (acknowledged (readPacket limits p))
 
 -- ---- what the code's answer says
 
 unfoldable pub packetAs : PacketAnswer → Answer DataResult
 packetAs (Accepted codec count) = accepted (record { codec = codec; count = count })
-packetAs (Refused r) = refused (r .number) (r .index)
+packetAs (Refused r) = refused r

@@ -7,17 +7,20 @@ use mathlib.Core.Bool.{Bool, true, false}
 use mathlib.Core.List.{List, [], _∷_, _++_}
 use lib.ListN.{length, take, drop, getD, drop-of-length-le}
 use lib.Seq.{sets, length-sets, take-at, drop-cons}
-use lib.Dec.{leb, eqb, lit<}
-use borrow.Author.Tests.{leb-true, eq-eqb, ne-eqb}
+use lib.Dec.{leb, eqb}
+use borrow.Author.Tests.{le-leb, lt-leb, leb-true, eq-eqb, ne-eqb}
+use Rattle.wire.specs.declared.Limits.{Limits}
+use Rattle.wire.specs.Limits.{baseLimits}
+use Rattle.wire.specs.declared.Refusal.{Refusal}
 use Rattle.wire.specs.Numbers.{Bytes, pick}
 use Rattle.wire.specs.Sequences.{joined}
-use Rattle.wire.specs.Answers.{Answer, accepted, refused, onAccepted}
+use Rattle.wire.specs.Answers.{Answer, accepted, refused, onAccepted, refusal}
 use Rattle.wire.specs.Buffers.{writing, leaving, writtenAs}
 use Rattle.wire.specs.declared.Written.{Written}
 use Rattle.wire.proofs.BufferLaws.{sets-front, writing-done, writing-short, leaving-done, leaving-short}
 use Rattle.wire.proofs.Storing.{drop-sets, drop-at-sets}
 use Rattle.wire.proofs.Enclosed.{length-enclosed}
-use Rattle.wire.proofs.Accepting.{pick-true, pick-false, pick-either, check-accepted, check-passed, onAccepted-accepted, onAccepted-passed}
+use Rattle.wire.proofs.Accepting.{pick-true, pick-false, pick-either, check-accepted, check-passed, check-failed, onAccepted-accepted, onAccepted-passed}
 use Rattle.avl.specs.Codecs.{widthsOf}
 use Rattle.avl.specs.Records.{recordBytes}
 use Rattle.avl.specs.DataField.{AvlData, dataBytes, readData}
@@ -35,7 +38,7 @@ use Rattle.tlv.proofs.PacketOfLaws.{form-exact, form-refusal}
 use Rattle.form.specs.Moves.{formOfField}
 use Rattle.form.proofs.WholeLaws.{Answers, refused-whole}
 use Rattle.form.proofs.FormSize.{form-size}
-use Rattle.rebuild.specs.Candidates.{hasForm}
+use Rattle.rebuild.specs.Candidates.{Roomy, formWithin, hasForm}
 
 -- ---- the candidate
 
@@ -44,76 +47,89 @@ unfolding dataBytes
 data-long a = omega (arith, length-enclosed (a .codec) (length (a .records)) (joined (recordBytes (widthsOf (a .codec))) (a .records)))
 
 -- a packet is judged by its data field
-packet-read : (a : AvlData) → Bytes (dataBytes a) → length (dataBytes a) ≤ 1268 → readPacket 1280 255 (packetBytes a) ≡ readData 255 (dataBytes a)
+packet-read : (limits : Limits) (a : AvlData) → Roomy limits → Bytes (dataBytes a) → length (dataBytes a) + 12 ≤ limits .largest
+    → readPacket limits (packetBytes a) ≡ readData (limits .longest) (dataBytes a)
 unfolding readPacket packetBytes
-packet-read a b h =
-    onAccepted-passed (unframe 1280 (framed (dataBytes a))) (readData 255)
-    (frame-complete 1280 (dataBytes a) (record { bytes = b; least = data-long a; most = omega arith; counted = omega arith }))
+packet-read limits a room b h =
+    onAccepted-passed (unframe (limits .largest) (framed (dataBytes a))) (readData (limits .longest))
+    (frame-complete (limits .largest) (dataBytes a) (record { bytes = b; least = data-long a; most = h; counted = omega (arith, room .packets) }))
 
 -- ---- the comparison
 
 hasForm-true : (r : Answer (List ℕ)) (f : List ℕ) → hasForm r f ≡ true → (g : List ℕ) × (r ≡ accepted g) × (same g f ≡ true)
 unfolding hasForm
 hasForm-true (accepted g) f e = (g, refl, e)
-hasForm-true (refused n i) f e = absurd (let z : _≡_ {A = ℕ} 0 1 = cc in omega arith)
+hasForm-true (refused x) f e = absurd (let z : _≡_ {A = ℕ} 0 1 = cc in omega arith)
 
-none : (r : Answer AvlData) → ((n i : ℕ) → r ≡ refused n i → (n ≡ 17) × (i ≡ 0)) → ((a : AvlData) → r ≡ accepted a → ⊥)
-    → onAccepted r (λ a. accepted (packetBytes a)) ≡ refused 17 0
+none : (r : Answer AvlData) → ((x : Refusal) → r ≡ refused x → x ≡ refusal 17) → ((a : AvlData) → r ≡ accepted a → ⊥)
+    → onAccepted r (λ a. accepted (packetBytes a)) ≡ refused (refusal 17)
 unfolding onAccepted
 none (accepted a) only h = absurd (h a refl)
-none (refused n i) only h = ap₂ refused (only n i refl .0) (only n i refl .1)
+none (refused x) only h = ap refused (only x refl)
 
-module _ (f : List ℕ) where
+-- within the limit the form is that of the data field
+pub form-within : (limits : Limits) (d : List ℕ) → length d + 12 ≤ limits .largest → formWithin limits d ≡ formOfField (limits .longest) d
+unfolding formWithin
+form-within limits d h = check-passed (leb (length d + 12) (limits .largest)) 17 _ (le-leb _ _ h)
+
+pub form-over : (limits : Limits) (d f : List ℕ) → limits .largest < length d + 12 → false ≡ hasForm (formWithin limits d) f
+unfolding formWithin hasForm
+form-over limits d f h = sym (ap (λ r. hasForm r f) (check-failed (leb (length d + 12) (limits .largest)) 17 _ (lt-leb _ _ h)))
+
+module _ (limits : Limits) (room : Roomy limits) (f : List ℕ) where
   abbrev field : List ℕ
   field = dataBytes (decoded f)
 
   module _ (b : Bytes f) where
     -- what an accepted form stands for
-    reads : (a : AvlData) → readForm 1280 255 f ≡ accepted a → (readData 255 field ≡ accepted a) × (f ≡ form a) × (length field ≤ 1268)
+    reads : (a : AvlData) → readForm limits f ≡ accepted a → (readData (limits .longest) field ≡ accepted a) × (f ≡ form a) × (length field + 12 ≤ limits .largest)
     reads a e =
-        let k = form-exact 1280 255 f a b (lit< tt) .0 e in
-        let again : decoded f ≡ a = ap decoded (k .form) ∙ form-decoded 255 a (lit< tt) (k .packet .rules) in
-        let is = ap dataBytes again in (ap (readData 255) is ∙ data-complete 255 a (k .packet .rules), k .form, omega (arith, ap length is, k .packet .frame .most))
+        let k = form-exact limits f a b (room .records) .0 e in
+        let again : decoded f ≡ a = ap decoded (k .form) ∙ form-decoded (limits .longest) a (room .records) (k .packet .rules) in
+        let is = ap dataBytes again in
+        (ap (readData (limits .longest)) is ∙ data-complete (limits .longest) a (k .packet .rules), k .form, omega (arith, ap length is, k .packet .frame .most))
 
-    refused-form : ((a : AvlData) → readForm 1280 255 f ≡ accepted a → ⊥) → packetOfForm 1280 255 f ≡ refused 17 0
+    refused-form : ((a : AvlData) → readForm limits f ≡ accepted a → ⊥) → packetOfForm limits f ≡ refused (refusal 17)
     unfolding packetOfForm
-    refused-form h = none (readForm 1280 255 f) (form-refusal 1280 255 f) h
+    refused-form h = none (readForm limits f) (form-refusal limits f) h
 
-    pub long-refused : 5120 < length f → packetOfForm 1280 255 f ≡ refused 17 0
+    pub long-refused : 4 * baseLimits .largest < length f → packetOfForm limits f ≡ refused (refusal 17)
     long-refused h =
         refused-form (λ a e.
         let k = reads a e in
-        omega (arith, h, form-size 255 field a (bytes-field f b) (data-long (decoded f)) (k .0), ap length (k .1), k .2))
+        omega (arith, h, form-size (limits .longest) field a (bytes-field f b) (data-long (decoded f)) (k .0), ap length (k .1), k .2, room .packets))
 
-    pub over-refused : 1268 < length field → packetOfForm 1280 255 f ≡ refused 17 0
-    over-refused h = refused-form (λ a e. omega (arith, h, reads a e .2))
+    pub over-refused : baseLimits .largest < length field + 12 → packetOfForm limits f ≡ refused (refusal 17)
+    over-refused h = refused-form (λ a e. omega (arith, h, reads a e .2, room .packets))
 
-    other-refused : hasForm (formOfField 255 field) f ≡ false → packetOfForm 1280 255 f ≡ refused 17 0
+    other-refused : hasForm (formWithin limits field) f ≡ false → packetOfForm limits f ≡ refused (refusal 17)
     unfolding formOfField hasForm readForm
     other-refused h =
         refused-form (λ a e.
         let k = reads a e in
-        let i = onAccepted-accepted (or17 (readPacket 1280 255 (packetBytes (decoded f)))) _ e in
+        let i = onAccepted-accepted (or17 (readPacket limits (packetBytes (decoded f)))) _ e in
         let c = check-accepted (same (form (i .0)) f) 17 (accepted (i .0)) (i .2) in
         let is : i .0 ≡ a = cc in
         let equal : same (form a) f ≡ true = ap (λ (x : AvlData). same (form x) f) (sym is) ∙ c .0 in
-        let yes : true ≡ false = sym (ap (λ r. hasForm r f) (onAccepted-passed (readData 255 field) _ (k .0)) ∙ equal) ∙ h in
+        let within = form-within limits field (k .2) ∙ onAccepted-passed (readData (limits .longest) field) _ (k .0) in
+        let yes : true ≡ false = sym (ap (λ r. hasForm r f) within ∙ equal) ∙ h in
         let z : _≡_ {A = ℕ} 0 1 = cc in
         omega arith)
 
-    found : length field ≤ 1268 → hasForm (formOfField 255 field) f ≡ true → packetOfForm 1280 255 f ≡ accepted (framed field)
-    unfolding packetOfForm packetBytes formOfField readForm or17
-    found short h =
-        let g = hasForm-true (formOfField 255 field) f h in
-        let i = onAccepted-accepted (readData 255 field) _ (g .1) in
+    found : hasForm (formWithin limits field) f ≡ true → packetOfForm limits f ≡ accepted (framed field)
+    unfolding packetOfForm packetBytes formOfField formWithin readForm or17
+    found h =
+        let g = hasForm-true (formWithin limits field) f h in
+        let c = check-accepted (leb (length field + 12) (limits .largest)) 17 _ (g .1) in
+        let i = onAccepted-accepted (readData (limits .longest) field) _ (c .1) in
         let a = i .0 in
         let packet = packetBytes (decoded f) in
-        let accepts : readPacket 1280 255 packet ≡ accepted a = packet-read (decoded f) (bytes-field f b) short ∙ i .1 in
+        let accepts : readPacket limits packet ≡ accepted a = packet-read limits (decoded f) room (bytes-field f b) (leb-true _ _ (c .0)) ∙ i .1 in
         let formed : form a ≡ g .0 = cc in
         let equal = ap (λ (x : List ℕ). same x f) formed ∙ g .2 in
-        onAccepted-passed (readForm 1280 255 f) _
-        (onAccepted-passed (or17 (readPacket 1280 255 packet)) _ (ap or17 accepts) ∙ check-passed (same (form a) f) 17 (accepted a) equal)
-        ∙ ap accepted (sym (packet-exact 1280 255 packet a (bytes-decoded f b) .0 accepts .whole))
+        onAccepted-passed (readForm limits f) _
+        (onAccepted-passed (or17 (readPacket limits packet)) _ (ap or17 accepts) ∙ check-passed (same (form a) f) 17 (accepted a) equal)
+        ∙ ap accepted (sym (packet-exact limits packet a (bytes-decoded f b) .0 accepts .whole))
 
   -- the data field at the start of an array, and what the comparison tells
   module _ (z : List ℕ) {d : List ℕ} (n : ℕ) (stored : d ≡ sets z 0 field) (size : n ≡ length field) (fits : n ≤ length z) where
@@ -126,14 +142,14 @@ module _ (f : List ℕ) where
     pub part-size : (length part ≡ n) × (3 ≤ n)
     part-size = (ap length front ∙ sym size, omega (arith, size, data-long (decoded f)))
 
-    module _ (b : Bytes f) {r : Bool} (told : r ≡ hasForm (formOfField 255 part) f) where
-      seen : {t : Bool} → r ≡ t → hasForm (formOfField 255 field) f ≡ t
-      seen k = sym (ap (λ (x : List ℕ). hasForm (formOfField 255 x) f) front) ∙ sym told ∙ k
+    module _ (b : Bytes f) {r : Bool} (told : r ≡ hasForm (formWithin limits part) f) where
+      seen : {t : Bool} → r ≡ t → hasForm (formWithin limits field) f ≡ t
+      seen k = sym (ap (λ (x : List ℕ). hasForm (formWithin limits x) f) front) ∙ sym told ∙ k
 
-      pub part-found : n ≤ 1268 → r ≡ true → packetOfForm 1280 255 f ≡ accepted (framed part)
-      part-found short k = found b (omega arith) (seen k) ∙ ap (λ (x : List ℕ). accepted (framed x)) (sym front)
+      pub part-found : r ≡ true → packetOfForm limits f ≡ accepted (framed part)
+      part-found k = found b (seen k) ∙ ap (λ (x : List ℕ). accepted (framed x)) (sym front)
 
-      pub part-other : r ≡ false → packetOfForm 1280 255 f ≡ refused 17 0
+      pub part-other : r ≡ false → packetOfForm limits f ≡ refused (refusal 17)
       part-other k = other-refused b (seen k)
 
 -- ---- bytes compared one by one
@@ -172,18 +188,18 @@ module _ (p q : List ℕ) (long : length p ≡ length q) (alike : Bool) (i : ℕ
 -- ---- what a writer's answer tells
 
 -- an array of four times the field's length is never too short
-pub form-refused : (d g f : List ℕ) {n i : ℕ} → Bytes d → 3 ≤ length d → 4 * length d ≤ length g → refused n i ≡ writing (formOfField 255 d) g → false ≡ hasForm (formOfField 255 d) f
+pub form-refused : (longest : ℕ) (d g f : List ℕ) {x : Refusal} → Bytes d → 3 ≤ length d → 4 * length d ≤ length g → refused x ≡ writing (formOfField longest d) g → false ≡ hasForm (formOfField longest d) f
 unfolding formOfField hasForm
-form-refused d g f {n} {i} b l room e = go (formOfField 255 d) refl
+form-refused longest d g f {x} b l room e = go (formOfField longest d) refl
   where
-    go : (r : Answer (List ℕ)) → formOfField 255 d ≡ r → false ≡ hasForm (formOfField 255 d) f
-    go (accepted x) is =
-        let k = onAccepted-accepted (readData 255 d) _ is in
-        let whole : form (k .0) ≡ x = cc in
-        let fits : length x ≤ length g = omega (arith, room, form-size 255 d (k .0) b l (k .1), ap length whole) in
-        let done = e ∙ ap (λ r. writing r g) is ∙ writing-done x g fits in
+    go : (r : Answer (List ℕ)) → formOfField longest d ≡ r → false ≡ hasForm (formOfField longest d) f
+    go (accepted y) is =
+        let k = onAccepted-accepted (readData longest d) _ is in
+        let whole : form (k .0) ≡ y = cc in
+        let fits : length y ≤ length g = omega (arith, room, form-size longest d (k .0) b l (k .1), ap length whole) in
+        let done = e ∙ ap (λ r. writing r g) is ∙ writing-done y g fits in
         absurd (let z : _≡_ {A = ℕ} 0 1 = cc in omega arith)
-    go (refused m j) is = sym (ap (λ r. hasForm r f) is)
+    go (refused y) is = sym (ap (λ r. hasForm r f) is)
 
 pub form-fits : (result : Answer (List ℕ)) (before : List ℕ) {n : ℕ} → accepted n ≡ writing result before → (g : List ℕ) × (result ≡ accepted g) × (length g ≡ n) × (n ≤ length before)
 unfolding writing onAccepted
@@ -192,7 +208,7 @@ form-fits (accepted g) before {n} e =
     let fits = leb-true (length g) (length before) (c .0) in
     let size : length g ≡ n = cc in
     (g, refl, size, omega arith)
-form-fits (refused m j) before {n} e = absurd (let z : _≡_ {A = ℕ} 0 1 = cc in omega arith)
+form-fits (refused y) before {n} e = absurd (let z : _≡_ {A = ℕ} 0 1 = cc in omega arith)
 
 pub form-written : (result : Answer (List ℕ)) (before after f : List ℕ) {n : ℕ} → accepted n ≡ writing result before → after ≡ leaving result before
     → same (take (n - 0) (drop 0 after)) f ≡ hasForm result f
@@ -204,14 +220,14 @@ form-written result before after f {n} e k =
 
 -- ---- the answer
 
-pub answers-refused : {result : Answer (List ℕ)} {out : List ℕ} {r : Written} → result ≡ refused 17 0 → r ≡ Written.Refused (record { number = 17; index = 0 }) → Answers result out out r
+pub answers-refused : {result : Answer (List ℕ)} {out : List ℕ} {r : Written} → result ≡ refused (refusal 17) → r ≡ Written.Refused (refusal 17) → Answers result out out r
 answers-refused {result} {out} e k = subst (λ (x : Written). Answers result out out x) (sym k) (refused-whole e)
 
 pub answers-found : {result : Answer (List ℕ)} {p after : List ℕ} (before : List ℕ) (r : Written) → result ≡ accepted p → Answers (accepted p) before after r → Answers result before after r
 answers-found {after = after} before r e k = subst (λ y. Answers y before after r) (sym e) k
 
 module _ (field out : List ℕ) where
-  pub answers-short : {r : Written} → length out < length field + 12 → r ≡ Written.Refused (record { number = 18; index = 0 }) → Answers (accepted (framed field)) out out r
+  pub answers-short : {r : Written} → length out < length field + 12 → r ≡ Written.Refused (refusal 18) → Answers (accepted (framed field)) out out r
   unfolding writtenAs
   answers-short h k =
       let long : length out < length (framed field) = omega (arith, length-framed field) in

@@ -1,5 +1,6 @@
 // The TCP data packet of a TLV form: entries are read leniently, bytes are stored as far as the buffer goes, and what comes of it is judged.
 use avl::Widths;
+use wire::Limits;
 use wire::Refusal;
 use wire::Written;
 ghost use mathlib.Core.Path.{_≡_};
@@ -18,8 +19,8 @@ ghost use Rattle.frame.specs.Frame.{framed};
 ghost use Rattle.walk.specs.Walks.{Narrow};
 ghost use Rattle.tlv.specs.Decoding.{entryElement, run, behind, fixedOf, groupsOf, recordsOf, decoded};
 ghost use Rattle.tlv.specs.PacketOf.{same, packetOfForm};
-ghost use Rattle.form.specs.Moves.{formOfField};
-ghost use Rattle.rebuild.specs.Candidates.{hasForm};
+ghost use Rattle.rebuild.specs.Candidates.{Roomy, formWithin, hasForm};
+ghost use Rattle.wire.specs.Limits.{baseLimits};
 ghost use Rattle.rebuild.specs.FormPlaces.{kindAt, nextAt, entryAt, entriesAt, recordAt, behindAll, Stored, Goes, RecordFrom};
 
 // Where reading and storing go on, and how many elements or records were stored.
@@ -28,6 +29,11 @@ struct Run {
     to: usize,
     count: usize,
 }
+
+// The most bytes of a data field, and of a form: four for each byte of the packet.
+const FIELD: usize = wire::LARGEST - 12;
+
+const FORM: usize = 4 * wire::LARGEST;
 
 // Stores a byte; past the buffer's end it does nothing.
 fn put(out: &mut [u8], at: usize, b: u8)
@@ -363,12 +369,15 @@ fn equal(a: &[u8], b: &[u8]) -> bool
     alike
 }
 
-// Whether `d` is an accepted data field that has the form `f`; its form is written into `g`.
-fn same_form(d: &[u8], f: &[u8], g: &mut [u8]) -> bool
-    requires { ⌜ (3 ≤ length (now d)) × (length (now d) ≤ 1280) × (4 * length (now d) ≤ length (now g)) ⌝ }
-    ensures { λ r. ⌜ r ≡ hasForm (formOfField 255 (now (d .entry))) (now (f .entry)) ⌝ }
+// Whether `d` is the data field of an acceptable packet and has the form `f`; its form is written into `g`.
+fn same_form(limits: Limits, d: &[u8], f: &[u8], g: &mut [u8]) -> bool
+    requires { ⌜ (3 ≤ length (now d)) × (length (now d) < 2 ^ 32) × (4 * length (now d) ≤ length (now g)) ⌝ }
+    ensures { λ r. ⌜ r ≡ hasForm (formWithin limits (now (d .entry))) (now (f .entry)) ⌝ }
 {
-    match form::form_of_field(d, g) {
+    if limits.largest < d.len() + 12 {
+        return false;
+    }
+    match form::form_of_field(limits.longest, d, g) {
         Written::Refused(_) => false,
         Written::Bytes(n) => equal(&g[0..n], f),
     }
@@ -382,7 +391,7 @@ fn refused(number: usize) -> Written
 
 // Writes the packet around a data field.
 fn put_packet(d: &[u8], out: &mut [u8]) -> Written
-    requires { ⌜ length (now d) ≤ 1268 ⌝ }
+    requires { ⌜ length (now d) < 2 ^ 32 ⌝ }
     ensures answer { λ r. ⌜ writtenAs r ≡ writing (accepted (framed (now (d .entry)))) (now (out .entry)) ⌝ }
     ensures buffer { λ r. ⌜ now (out .exit) ≡ leaving (accepted (framed (now (d .entry)))) (now (out .entry)) ⌝ }
 {
@@ -396,36 +405,38 @@ fn put_packet(d: &[u8], out: &mut [u8]) -> Written
 }
 
 // The packet of a form, in arrays long enough for the longest.
-fn long_packet(f: &[u8], out: &mut [u8]) -> Written
+fn long_packet(limits: Limits, f: &[u8], out: &mut [u8]) -> Written
+    requires { ⌜ Roomy limits ⌝ }
     requires { ⌜ length (now f) ≤ 65536 ⌝ }
-    ensures answer { λ r. ⌜ writtenAs r ≡ writing (packetOfForm 1280 255 (now (f .entry))) (now (out .entry)) ⌝ }
-    ensures buffer { λ r. ⌜ now (out .exit) ≡ leaving (packetOfForm 1280 255 (now (f .entry))) (now (out .entry)) ⌝ }
+    ensures answer { λ r. ⌜ writtenAs r ≡ writing (packetOfForm limits (now (f .entry))) (now (out .entry)) ⌝ }
+    ensures buffer { λ r. ⌜ now (out .exit) ≡ leaving (packetOfForm limits (now (f .entry))) (now (out .entry)) ⌝ }
 {
-    let mut d = [0u8; 1268];
+    let mut d = [0u8; FIELD];
     let n = decode_form(f, &mut d);
-    if 1268 < n {
+    if FIELD < n {
         return refused(17);
     }
-    let mut g = [0u8; 5120];
-    if same_form(&d[0..n], f, &mut g) {
+    let mut g = [0u8; FORM];
+    if same_form(limits, &d[0..n], f, &mut g) {
         return put_packet(&d[0..n], out);
     }
     refused(17)
 }
 
 // The same in short arrays, where they are enough: clearing long ones costs time.
-fn short_packet(f: &[u8], out: &mut [u8]) -> Written
+fn short_packet(limits: Limits, f: &[u8], out: &mut [u8]) -> Written
+    requires { ⌜ Roomy limits ⌝ }
     requires { ⌜ length (now f) ≤ 65536 ⌝ }
-    ensures answer { λ r. ⌜ writtenAs r ≡ writing (packetOfForm 1280 255 (now (f .entry))) (now (out .entry)) ⌝ }
-    ensures buffer { λ r. ⌜ now (out .exit) ≡ leaving (packetOfForm 1280 255 (now (f .entry))) (now (out .entry)) ⌝ }
+    ensures answer { λ r. ⌜ writtenAs r ≡ writing (packetOfForm limits (now (f .entry))) (now (out .entry)) ⌝ }
+    ensures buffer { λ r. ⌜ now (out .exit) ≡ leaving (packetOfForm limits (now (f .entry))) (now (out .entry)) ⌝ }
 {
     let mut d = [0u8; 64];
     let n = decode_form(f, &mut d);
     if 64 < n {
-        return long_packet(f, out);
+        return long_packet(limits, f, out);
     }
     let mut g = [0u8; 256];
-    if same_form(&d[0..n], f, &mut g) {
+    if same_form(limits, &d[0..n], f, &mut g) {
         return put_packet(&d[0..n], out);
     }
     refused(17)
@@ -433,14 +444,14 @@ fn short_packet(f: &[u8], out: &mut [u8]) -> Written
 
 // The TCP data packet of a form; 17 where no acceptable packet has it.
 pub fn packet_of_form(f: &[u8], out: &mut [u8]) -> Written
-    ensures answer { λ r. ⌜ writtenAs r ≡ writing (packetOfForm 1280 255 (now (f .entry))) (now (out .entry)) ⌝ }
-    ensures buffer { λ r. ⌜ now (out .exit) ≡ leaving (packetOfForm 1280 255 (now (f .entry))) (now (out .entry)) ⌝ }
+    ensures answer { λ r. ⌜ writtenAs r ≡ writing (packetOfForm baseLimits (now (f .entry))) (now (out .entry)) ⌝ }
+    ensures buffer { λ r. ⌜ now (out .exit) ≡ leaving (packetOfForm baseLimits (now (f .entry))) (now (out .entry)) ⌝ }
 {
-    if 5120 < f.len() {
+    if FORM < f.len() {
         return refused(17);
     }
     if f.len() <= 96 {
-        return short_packet(f, out);
+        return short_packet(wire::BASE, f, out);
     }
-    long_packet(f, out)
+    long_packet(wire::BASE, f, out)
 }

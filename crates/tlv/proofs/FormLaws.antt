@@ -8,7 +8,7 @@ use lib.ListN.{length, length-append}
 use lib.Dec.{eqb, lit<, lit≤}
 use borrow.Author.Tests.{eq-eqb, ne-eqb}
 use Rattle.wire.specs.Numbers.{digits, be, littleAt, le, pick}
-use Rattle.wire.specs.Sequences.{fields, joined, All}
+use Rattle.wire.specs.Sequences.{joined, All}
 use Rattle.wire.proofs.Widths.{little-le, all-append}
 use Rattle.wire.proofs.Accepting.{pick-true, pick-false, pick-either}
 use Rattle.avl.specs.declared.Widths.{Widths}

@@ -7,8 +7,10 @@ use mathlib.Core.Bool.{Bool, true, false}
 use mathlib.Core.List.{List, [], _∷_}
 use lib.Dec.{eqb}
 use borrow.Author.Tests.{eq-eqb, eqb-true}
+use Rattle.wire.specs.declared.Refusal.{Refusal}
+use Rattle.wire.specs.declared.Limits.{Limits}
 use Rattle.wire.specs.Numbers.{Bytes}
-use Rattle.wire.specs.Answers.{Answer, accepted, refused, check, onAccepted}
+use Rattle.wire.specs.Answers.{Answer, accepted, refused, check, onAccepted, refusal}
 use Rattle.wire.proofs.Accepting.{both-true, pick-true, check-accepted, check-passed, onAccepted-accepted, onAccepted-passed}
 use Rattle.avl.specs.DataField.{AvlData, DataRules}
 use Rattle.packet.specs.DataPackets.{packetBytes, DataPacket, readPacket}
@@ -34,87 +36,81 @@ equal-same (a ∷ p) = pick-true (eqb a a) (same p p) false (eq-eqb a a refl) �
 or17-accepted : {A : Type 0} (r : Answer A) {a : A} → or17 r ≡ accepted a → r ≡ accepted a
 unfolding or17
 or17-accepted (accepted b) e = e
-or17-accepted (refused n i) e = absurd (let z : _≡_ {A = ℕ} 0 1 = cc in omega arith)
+or17-accepted (refused x) e = absurd (let z : _≡_ {A = ℕ} 0 1 = cc in omega arith)
 
 -- a refusal on the way is 17, at no record
 abbrev Only17 : {A : Type 0} → Answer A → Type 0
-Only17 r = (n i : ℕ) → r ≡ refused n i → (n ≡ 17) × (i ≡ 0)
+Only17 r = (x : Refusal) → r ≡ refused x → x ≡ refusal 17
 
 pick-17 : (test : Bool) (a : AvlData) → Only17 (check test 17 (accepted a))
 unfolding check
-pick-17 true a n i e = absurd (let z : _≡_ {A = ℕ} 0 1 = cc in omega arith)
-pick-17 false a n i e =
-    let number : 17 ≡ n = cc in
-    let index : 0 ≡ i = cc in
-    (sym number, sym index)
+pick-17 true a x e = absurd (let z : _≡_ {A = ℕ} 0 1 = cc in omega arith)
+pick-17 false a x e = cc
 
 refused-17 : {A B : Type 0} (r : Answer A) (f : A → Answer B) → ((a : A) → Only17 (f a)) → Only17 (onAccepted (or17 r) f)
 unfolding onAccepted or17
-refused-17 (accepted a) f h n i e = h a n i e
-refused-17 (refused m j) f h n i e =
-    let number : 17 ≡ n = cc in
-    let index : 0 ≡ i = cc in
-    (sym number, sym index)
+refused-17 (accepted a) f h x e = h a x e
+refused-17 (refused y) f h x e = cc
 
 -- the form stands for this packet
-pub record FormOf (largest longest : ℕ) (a : AvlData) (f : List ℕ) : Type 0 where
-  pub packet : DataPacket largest longest a (packetBytes a)
+pub record FormOf (limits : Limits) (a : AvlData) (f : List ℕ) : Type 0 where
+  pub packet : DataPacket limits a (packetBytes a)
   pub form : f ≡ form a
 
-form-sound : (largest longest : ℕ) (f : List ℕ) (a : AvlData) → Bytes f → readForm largest longest f ≡ accepted a → FormOf largest longest a f
+form-sound : (limits : Limits) (f : List ℕ) (a : AvlData) → Bytes f → readForm limits f ≡ accepted a → FormOf limits a f
 unfolding readForm
-form-sound largest longest f a h e =
-    let i = onAccepted-accepted (or17 (readPacket largest longest (packetBytes (decoded f)))) _ e in
+form-sound limits f a h e =
+    let i = onAccepted-accepted (or17 (readPacket limits (packetBytes (decoded f)))) _ e in
     let c = check-accepted (same (form (i .0)) f) 17 (accepted (i .0)) (i .2) in
-    let k = packet-exact largest longest (packetBytes (decoded f)) (i .0) (bytes-decoded f h) .0 (or17-accepted _ (i .1)) in
+    let k = packet-exact limits (packetBytes (decoded f)) (i .0) (bytes-decoded f h) .0 (or17-accepted _ (i .1)) in
     let result : i .0 ≡ a = cc in
-    subst (λ (x : AvlData). FormOf largest longest x f) result
+    subst (λ (x : AvlData). FormOf limits x f) result
     (record { packet = record { rules = k .rules; frame = k .frame; whole = refl }; form = sym (same-equal (form (i .0)) f (c .0)) })
 
-form-complete : (largest longest : ℕ) (f : List ℕ) (a : AvlData) → longest < 256 ^ 2 → FormOf largest longest a f → readForm largest longest f ≡ accepted a
+form-complete : (limits : Limits) (f : List ℕ) (a : AvlData) → (limits .longest) < 256 ^ 2 → FormOf limits a f → readForm limits f ≡ accepted a
 unfolding readForm or17
-form-complete largest longest f a l k =
-    let again : decoded f ≡ a = ap decoded (k .form) ∙ form-decoded longest a l (k .packet .rules) in
-    let accepts : readPacket largest longest (packetBytes (decoded f)) ≡ accepted a =
-    ap (λ (x : AvlData). readPacket largest longest (packetBytes x)) again ∙ packet-complete largest longest (packetBytes a) a (k .packet)
+form-complete limits f a l k =
+    let again : decoded f ≡ a = ap decoded (k .form) ∙ form-decoded (limits .longest) a l (k .packet .rules) in
+    let accepts : readPacket limits (packetBytes (decoded f)) ≡ accepted a =
+    ap (λ (x : AvlData). readPacket limits (packetBytes x)) again ∙ packet-complete limits (packetBytes a) a (k .packet)
     in
-    onAccepted-passed (or17 (readPacket largest longest (packetBytes (decoded f)))) _ (ap or17 accepts)
+    onAccepted-passed (or17 (readPacket limits (packetBytes (decoded f)))) _ (ap or17 accepts)
     ∙ check-passed (same (form a) f) 17 (accepted a) (ap (λ (x : List ℕ). same (form a) x) (k .form) ∙ equal-same (form a))
 
 -- a form is taken exactly if it is the form of an acceptable packet; every other gets 17
-pub form-exact : (largest longest : ℕ) (f : List ℕ) (a : AvlData) → Bytes f → longest < 256 ^ 2
-    → (readForm largest longest f ≡ accepted a) ↔ FormOf largest longest a f
-form-exact largest longest f a h l = (form-sound largest longest f a h, form-complete largest longest f a l)
+pub form-exact : (limits : Limits) (f : List ℕ) (a : AvlData) → Bytes f → (limits .longest) < 256 ^ 2
+    → (readForm limits f ≡ accepted a) ↔ FormOf limits a f
+form-exact limits f a h l = (form-sound limits f a h, form-complete limits f a l)
 
-pub form-refusal : (largest longest : ℕ) (f : List ℕ) (n i : ℕ) → readForm largest longest f ≡ refused n i → (n ≡ 17) × (i ≡ 0)
+pub form-refusal : (limits : Limits) (f : List ℕ) (x : Refusal) → readForm limits f ≡ refused x → x ≡ refusal 17
 unfolding readForm
-form-refusal largest longest f n i e = refused-17 (readPacket largest longest (packetBytes (decoded f))) _ (λ a. pick-17 (same (form a) f) a) n i e
+form-refusal limits f x e = refused-17 (readPacket limits (packetBytes (decoded f))) _ (λ a. pick-17 (same (form a) f) a) x e
 
 -- a form stands for one packet at most, whatever the limits
 pub form-unique : (longest other : ℕ) (a b : AvlData) → longest < 256 ^ 2 → other < 256 ^ 2 → DataRules longest a → DataRules other b → form a ≡ form b → a ≡ b
 form-unique longest other a b l m h k e = sym (form-decoded longest a l h) ∙ ap decoded e ∙ form-decoded other b m k
 
 -- packet to form to packet: the same bytes
-pub packet-again : (largest longest : ℕ) (p f : List ℕ) → Bytes p → longest < 256 ^ 2
-    → formOfPacket largest longest p ≡ accepted f → packetOfForm largest longest f ≡ accepted p
+pub packet-again : (limits : Limits) (p f : List ℕ) → Bytes p → (limits .longest) < 256 ^ 2
+    → formOfPacket limits p ≡ accepted f → packetOfForm limits f ≡ accepted p
 unfolding formOfPacket packetOfForm
-packet-again largest longest p f h l e =
-    let i = onAccepted-accepted (readPacket largest longest p) _ e in
-    let k = packet-exact largest longest p (i .0) h .0 (i .1) in
+packet-again limits p f h l e =
+    let i = onAccepted-accepted (readPacket limits p) _ e in
+    let k = packet-exact limits p (i .0) h .0 (i .1) in
     let own : form (i .0) ≡ f = cc in
-    onAccepted-passed (readForm largest longest f) _
-    (form-complete largest longest f (i .0) l
+    onAccepted-passed (readForm limits f) _
+    (form-complete limits f (i .0) l
     (record { packet = record { rules = k .rules; frame = k .frame; whole = refl }; form = sym own }))
     ∙ ap accepted (sym (k .whole))
 
 -- form to packet to form: the same form
-pub form-again : (largest longest : ℕ) (f p : List ℕ) → Bytes f
-    → packetOfForm largest longest f ≡ accepted p → formOfPacket largest longest p ≡ accepted f
+pub form-again : (limits : Limits) (f p : List ℕ) → Bytes f
+    → packetOfForm limits f ≡ accepted p → formOfPacket limits p ≡ accepted f
 unfolding formOfPacket packetOfForm
-form-again largest longest f p h e =
-    let i = onAccepted-accepted (readForm largest longest f) _ e in
-    let k = form-sound largest longest f (i .0) h (i .1) in
+form-again limits f p h e =
+    let i = onAccepted-accepted (readForm limits f) _ e in
+    let k = form-sound limits f (i .0) h (i .1) in
     let own : packetBytes (i .0) ≡ p = cc in
-    onAccepted-passed (readPacket largest longest p) _
-    (ap (readPacket largest longest) (sym own) ∙ packet-complete largest longest (packetBytes (i .0)) (i .0) (k .packet))
+    onAccepted-passed (readPacket limits p) _
+    (ap (readPacket limits) (sym own) ∙ packet-complete limits (packetBytes (i .0)) (i .0) (k .packet))
     ∙ ap accepted (sym (k .form))

@@ -1,7 +1,7 @@
 -- What the answer of the data field's walk tells of the judge.
 use Prim.Native.Nat.{ℕ, _<_}
 use native.Mathlib.Omega.{arith}
-use mathlib.Core.Path.{_≡_, refl, ap, ap₂, subst}
+use mathlib.Core.Path.{_≡_, refl, ap, subst}
 use lib.ListN.{length}
 use Rattle.wire.specs.declared.Refusal.{Refusal}
 use Rattle.wire.specs.Answers.{Answer, accepted, refused}
@@ -23,15 +23,13 @@ pub record TakenOf (want : ℕ) (r : Answer AvlData) (codec count : ℕ) (span :
 pub taken : (want : ℕ) (r : Answer AvlData) {codec count : ℕ} {span : Span} → dataWalk want r ≡ Taken codec count span → TakenOf want r codec count span
 unfolding dataWalk
 taken want (accepted a) e = record { content = a; accepts = refl; codecIs = cc; countIs = cc; spanIs = cc }
-taken want (refused n i) e = absurd (let z : _≡_ {A = ℕ} 0 1 = cc in omega arith)
+taken want (refused x) e = absurd (let z : _≡_ {A = ℕ} 0 1 = cc in omega arith)
 
 -- codec and count fit a byte
 pub taken-fits : {longest want codec count : ℕ} {span : Span} {r : Answer AvlData} (k : TakenOf want r codec count span) → DataRules longest (k .content) → (codec < 256) × (count < 256)
 taken-fits k rules = (subst (λ (n : ℕ). n < 256) (k .codecIs) (codec-fits _ (rules .codecKnown)), omega (arith, rules .countFits, k .countIs))
 
-pub not-taken : (want : ℕ) (r : Answer AvlData) {x : Refusal} → dataWalk want r ≡ Refused x → r ≡ refused (x .number) (x .index)
+pub not-taken : (want : ℕ) (r : Answer AvlData) {x : Refusal} → dataWalk want r ≡ Refused x → r ≡ refused x
 unfolding dataWalk
 not-taken want (accepted a) e = absurd (let z : _≡_ {A = ℕ} 0 1 = cc in omega arith)
-not-taken want (refused n i) {x} e =
-    let same : _≡_ {A = Refusal} (record { number = n; index = i }) x = cc in
-    ap₂ refused (ap (λ (y : Refusal). y .number) same) (ap (λ (y : Refusal). y .index) same)
+not-taken want (refused y) e = ap refused (cc)

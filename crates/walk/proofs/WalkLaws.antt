@@ -37,7 +37,7 @@ use Rattle.avl.specs.RecordReader.{valueSize, element, group, groups, fixedFiel
 use Rattle.avl.specs.DataField.{AvlData, readData}
 use Rattle.walk.specs.Walks.{Narrow, counted, elementsOf, tallied, spanOf, spanned, dataWalk}
 use Rattle.walk.proofs.KindLaws.{kind-known, next-kind}
-use Rattle.avl.proofs.RecordLaws.{element-exact, group-exact, record-exact, all-sound}
+use Rattle.avl.proofs.RecordLaws.{element-exact, group-exact, groups-exact, fixed-exact, record-exact, all-sound}
 
 -- what was read lies inside
 pub walked-inside : {A : Type 0} {m : Reader A} {write : A → List ℕ} {Ok : A → Type 0} → Exact m write Ok → (s : List ℕ) (at : ℕ) {to : ℕ} → Bytes s → at ≤ length s
@@ -425,14 +425,22 @@ module _ (longest : ℕ) (w : Widths) (s : List ℕ) (at : ℕ) where
       pub record-uneven : (sum ≡ t → ⊥) → counted elementsOf (avlRecord longest w s at) ≡ Counted.Stopped (record { number = 9; index = 0; place = at })
       record-uneven ne = counted-bad elementsOf _ (record-rules .1 ∙ require-bad _ 9 at _ s end (ne-eqb sum t ne))
 
-      pub record-long : sum ≡ t → at + longest < end → counted elementsOf (avlRecord longest w s at) ≡ Counted.Stopped (record { number = 12; index = 0; place = at })
-      record-long e k =
-          counted-bad elementsOf _ (record-rules .1 ∙ require-got _ 9 at _ s end (eq-eqb sum t e) ∙ require-bad _ 12 at _ s end (lt-leb end (at + longest) k))
+      pub record-forward : Bytes s → at ≤ length s → at ≤ end
+      record-forward b k =
+          let first = fixed-exact w .sound s at b k .if-got _ _ (walked-on _ fixed .1) .0 .size in
+          let then = groups-exact w (kinds w) .sound s (a₁ + w .count) b h .if-got _ _ (tallied-sums _ sums .1) .0 .size in
+          omega arith
 
-      pub record-on : sum ≡ t → end ≤ at + longest → counted elementsOf (avlRecord longest w s at) ≡ Of n end
+      pub record-long : sum ≡ t → longest < end - at → counted elementsOf (avlRecord longest w s at) ≡ Counted.Stopped (record { number = 12; index = 0; place = at })
+      record-long e k =
+          counted-bad elementsOf _
+          (record-rules .1 ∙ require-got _ 9 at _ s end (eq-eqb sum t e) ∙ require-bad _ 12 at _ s end (lt-leb end (at + longest) (omega arith)))
+
+      pub record-on : sum ≡ t → end - at ≤ longest → counted elementsOf (avlRecord longest w s at) ≡ Of n end
       unfolding pure counted
       record-on e k =
-          ap (counted elementsOf) (record-rules .1 ∙ require-got _ 9 at _ s end (eq-eqb sum t e) ∙ require-got _ 12 at _ s end (le-leb end (at + longest) k))
+          ap (counted elementsOf)
+          (record-rules .1 ∙ require-got _ 9 at _ s end (eq-eqb sum t e) ∙ require-got _ 12 at _ s end (le-leb end (at + longest) (omega arith)))
           ∙ ap (λ (m : ℕ). Of m end) (record-rules .2)
 
 -- ---- records

@@ -52,4 +52,4 @@ spanned w want (bad x) = Broken x
 -- the data field's codec and count, and where the wanted record lies in the space between the counts
 unfoldable pub dataWalk : ℕ → Answer AvlData → DataWalk
 dataWalk want (accepted a) = Taken (a .codec) (length (a .records)) (spanOf (widthsOf (a .codec)) want 0 (a .records))
-dataWalk want (refused number index) = Refused (record { number = number; index = index })
+dataWalk want (refused r) = Refused r

@@ -403,7 +403,6 @@ fn groups_at(w: Widths, s: &[u8], at: usize) -> Tally
 // A record: its fixed fields, its total, its groups; then the total's rule and the record's length.
 fn record_at(longest: usize, w: Widths, s: &[u8], at: usize) -> Counted
     requires { ⌜ Narrow w ⌝ }
-    requires { ⌜ longest ≤ 65535 ⌝ }
     requires { ⌜ at ≤ length (now s) ⌝ }
     ensures { λ r. ⌜ r ≡ counted elementsOf (avlRecord longest w (now (s .entry)) at) ⌝ }
 {
@@ -431,7 +430,7 @@ fn record_at(longest: usize, w: Widths, s: &[u8], at: usize) -> Counted
                     place: at,
                 });
             }
-            if at + longest < end {
+            if longest < end - at {
                 return Counted::Stopped(Fault {
                     number: 12,
                     index: 0,
@@ -446,7 +445,6 @@ fn record_at(longest: usize, w: Widths, s: &[u8], at: usize) -> Counted
 // The records that fill `s`, and where the one with number `want` lies.
 fn all_records(longest: usize, w: Widths, s: &[u8], count: usize, want: usize) -> Records
     requires { ⌜ Narrow w ⌝ }
-    requires { ⌜ longest ≤ 65535 ⌝ }
     ensures { λ r. ⌜ r ≡ spanned w want (allRecords longest w count (now (s .entry)) 0) ⌝ }
 {
     let mut next: usize = 0;
@@ -490,7 +488,6 @@ fn all_records(longest: usize, w: Widths, s: &[u8], count: usize, want: usize) -
 
 // The data field `d`: codec, count, records, count again.
 pub fn read_data(longest: usize, d: &[u8], want: usize) -> DataWalk
-    requires { ⌜ longest ≤ 65535 ⌝ }
     requires { ⌜ 3 ≤ length (now d) ⌝ }
     ensures { λ r. ⌜ r ≡ dataWalk want (readData longest (now (d .entry))) ⌝ }
 {

@@ -6,9 +6,10 @@ use mathlib.Core.Bool.{Bool, true, false}
 use lib.Dec.{leb}
 use borrow.Author.Tests.{leb-true, leb-false}
 use Rattle.wire.specs.declared.Fault.{Fault}
+use Rattle.wire.specs.declared.Refusal.{Refusal}
 use Rattle.wire.specs.Numbers.{pick}
 use Rattle.wire.specs.Reading.{Read, got, bad}
-use Rattle.wire.specs.Answers.{Answer, accepted, refused, onAccepted, told, check}
+use Rattle.wire.specs.Answers.{Answer, accepted, refused, refusal, refusalOf, onAccepted, told, check}
 
 pub pick-true : {A : Type 0} (test : Bool) (a b : A) → test ≡ true → pick test a b ≡ a
 pick-true test a b e = simp e
@@ -33,18 +34,18 @@ pub check-passed : {A : Type 0} (test : Bool) (number : ℕ) (rest : Answer A) �
 unfolding check
 check-passed test number rest e = simp e
 
-pub check-failed : {A : Type 0} (test : Bool) (number : ℕ) (rest : Answer A) → test ≡ false → check test number rest ≡ refused number 0
+pub check-failed : {A : Type 0} (test : Bool) (number : ℕ) (rest : Answer A) → test ≡ false → check test number rest ≡ refused (refusal number)
 unfolding check
 check-failed test number rest e = simp e
 
-pub onAccepted-refused : {A B : Type 0} (r : Answer A) (f : A → Answer B) {n i : ℕ} → r ≡ refused n i → onAccepted r f ≡ refused n i
+pub onAccepted-refused : {A B : Type 0} (r : Answer A) (f : A → Answer B) {x : Refusal} → r ≡ refused x → onAccepted r f ≡ refused x
 unfolding onAccepted
 onAccepted-refused r f e = ap (λ x. onAccepted x f) e
 
 pub onAccepted-accepted : {A B : Type 0} (r : Answer A) (f : A → Answer B) {b : B} → onAccepted r f ≡ accepted b → (a : A) × (r ≡ accepted a) × (f a ≡ accepted b)
 unfolding onAccepted
 onAccepted-accepted (accepted a) f e = (a, refl, e)
-onAccepted-accepted (refused n i) f e = absurd (let z : _≡_ {A = ℕ} 0 1 = cc in omega arith)
+onAccepted-accepted (refused x) f e = absurd (let z : _≡_ {A = ℕ} 0 1 = cc in omega arith)
 
 pub onAccepted-passed : {A B : Type 0} (r : Answer A) (f : A → Answer B) {a : A} → r ≡ accepted a → onAccepted r f ≡ f a
 unfolding onAccepted
@@ -55,12 +56,12 @@ unfolding told
 told-accepted (got b n) e = (n, ap (λ x. got x n) (cc))
 told-accepted (bad x) e = absurd (let z : _≡_ {A = ℕ} 0 1 = cc in omega arith)
 
-pub told-refused : {A : Type 0} (r : Read A) {n i : ℕ} → told r ≡ refused n i → (x : Fault) × (r ≡ bad x) × (x .number ≡ n) × (x .index ≡ i)
+pub told-refused : {A : Type 0} (r : Read A) {y : Refusal} → told r ≡ refused y → (x : Fault) × (r ≡ bad x) × (refusalOf x ≡ y)
 unfolding told
 told-refused (got b n) e = absurd (let z : _≡_ {A = ℕ} 0 1 = cc in omega arith)
-told-refused (bad x) e = (x, refl, cc, cc)
+told-refused (bad x) e = (x, refl, cc)
 
-pub told-bad : {A : Type 0} (r : Read A) {x : Fault} → r ≡ bad x → told r ≡ refused (x .number) (x .index)
+pub told-bad : {A : Type 0} (r : Read A) {x : Fault} → r ≡ bad x → told r ≡ refused (refusalOf x)
 unfolding told
 told-bad r e = ap told e
 

@@ -7,7 +7,7 @@ use mathlib.Core.List.{List, _++_}
 use lib.ListN.{length, drop}
 use lib.Seq.{sets, sets-eq}
 use borrow.Author.Tests.{le-leb, lt-leb}
-use Rattle.wire.specs.Answers.{accepted, refused, onAccepted, check}
+use Rattle.wire.specs.Answers.{accepted, refused, refusal, onAccepted, check}
 use Rattle.wire.specs.Buffers.{writing, leaving}
 
 module _ (b out : List ℕ) where
@@ -15,7 +15,7 @@ module _ (b out : List ℕ) where
   unfolding writing onAccepted check
   writing-done h = simp (le-leb _ _ h)
 
-  pub writing-short : length out < length b → writing (accepted b) out ≡ refused 18 0
+  pub writing-short : length out < length b → writing (accepted b) out ≡ refused (refusal 18)
   unfolding writing onAccepted check
   writing-short h = simp (lt-leb _ _ h)
 

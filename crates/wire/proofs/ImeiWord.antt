@@ -1,5 +1,5 @@
 -- An IMEI in one word, and the digits of its text by their distance from 48.
-use Prim.Native.Nat.{ℕ, suc, _+_, _%_, _^_, _≤_, _<_}
+use Prim.Native.Nat.{ℕ, suc, _+_, _-_, _%_, _^_, _≤_, _<_}
 use native.Mathlib.Omega.{arith}
 use mathlib.Core.Path.{_≡_, refl, ap, _∙_}
 use mathlib.Core.Bool.{Bool, true, false}
@@ -9,18 +9,18 @@ use lib.Dec.{leb}
 use borrow.Author.Tests.{le-leb, lt-leb, leb-true}
 use Rattle.wire.specs.Numbers.{pick}
 use Rattle.wire.specs.Reading.{got, bad}
-use Rattle.wire.specs.Answers.{accepted, refused}
 use Rattle.wire.specs.Imei.{imeiOf, textDigit}
-use Rattle.wire.proofs.Accepting.{both-true, check-passed, check-failed}
+use Rattle.wire.proofs.Accepting.{both-true, pick-true, pick-false}
 use Rattle.wire.proofs.DigitLaws.{numbered-of, numbered-unread, digit-right, digit-wrong}
 
-pub word-imei : (n : ℕ) → n < 10 ^ 15 → imeiOf n ≡ accepted n
-unfolding imeiOf
-word-imei n h = check-passed (leb (suc n) (10 ^ 15)) 15 _ (le-leb (suc n) (10 ^ 15) h)
+module _ (at next n : ℕ) where
+  pub word-imei : n < 10 ^ 15 → imeiOf at next n ≡ got n next
+  unfolding imeiOf
+  word-imei h = pick-true (leb (suc n) (10 ^ 15)) _ _ (le-leb (suc n) (10 ^ 15) h)
 
-pub word-none : (n : ℕ) → 10 ^ 15 ≤ n → imeiOf n ≡ refused 15 0
-unfolding imeiOf
-word-none n h = check-failed (leb (suc n) (10 ^ 15)) 15 _ (lt-leb (suc n) (10 ^ 15) (omega arith))
+  pub word-none : 10 ^ 15 ≤ n → imeiOf at next n ≡ bad (record { number = 15; index = 0; place = at + (n - 10 ^ 15) })
+  unfolding imeiOf
+  word-none h = pick-false (leb (suc n) (10 ^ 15)) _ _ (lt-leb (suc n) (10 ^ 15) (omega arith))
 
 -- one byte of the text, by its distance from 48
 module _ (s : List ℕ) (at : ℕ) (h : at + 1 ≤ length s) (b : getD s at 0 < 256) where

@@ -1,22 +1,32 @@
--- An answer: its result, or the refusal's number with the record's index.
+-- An answer: its result, or the refusal.
 use Prim.Native.Nat.{ℕ}
 use mathlib.Core.Bool.{Bool}
+use Rattle.wire.specs.declared.Fault.{Fault}
+use Rattle.wire.specs.declared.Refusal.{Refusal}
 use Rattle.wire.specs.Numbers.{pick}
 use Rattle.wire.specs.Reading.{Read, got, bad}
 
 pub data Answer (A : Type 0) : Type 0 where
   accepted : A → Answer A
-  refused : ℕ → ℕ → Answer A
+  refused : Refusal → Answer A
 
 unfoldable pub onAccepted : {A B : Type 0} → Answer A → (A → Answer B) → Answer B
 onAccepted (accepted a) f = f a
-onAccepted (refused number index) f = refused number index
+onAccepted (refused r) f = refused r
 
--- a walk's answer; its offset is not told yet
+-- the refusal with this number, which no record has
+abbrev pub refusal : ℕ → Refusal
+refusal number = record { number = number; index = 0 }
+
+-- the refusal of a fault; its place is not told yet
+abbrev pub refusalOf : Fault → Refusal
+refusalOf x = record { number = x .number; index = x .index }
+
+-- a walk's answer
 unfoldable pub told : {A : Type 0} → Read A → Answer A
 told (got a next) = accepted a
-told (bad x) = refused (x .number) (x .index)
+told (bad x) = refused (refusalOf x)
 
--- the rest where the test holds, else the refusal, which no record has
+-- the rest where the test holds, else the refusal
 unfoldable pub check : {A : Type 0} → Bool → ℕ → Answer A → Answer A
-check test number rest = pick test rest (refused number 0)
+check test number rest = pick test rest (refused (refusal number))

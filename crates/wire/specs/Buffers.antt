@@ -15,9 +15,9 @@ writing result out = onAccepted result (λ b. check (leb (length b) (length out)
 -- the result at the start and nothing changed after it; a refusal changes nothing
 unfoldable pub leaving : Answer (List ℕ) → List ℕ → List ℕ
 leaving (accepted b) out = pick (leb (length b) (length out)) (b ++ drop (length b) out) out
-leaving (refused number index) out = out
+leaving (refused r) out = out
 
 -- what the code's answer says
 unfoldable pub writtenAs : Written → Answer ℕ
 writtenAs (Bytes n) = accepted n
-writtenAs (Refused r) = refused (r .number) (r .index)
+writtenAs (Refused r) = refused r

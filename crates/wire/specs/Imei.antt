@@ -5,8 +5,7 @@ use mathlib.Core.List.{List, [], _∷_}
 use lib.Dec.{eqb, leb}
 use Rattle.wire.specs.Numbers.{be, digits, valueFrom, pick}
 use Rattle.wire.specs.Sequences.{fields, joined}
-use Rattle.wire.specs.Answers.{Answer, accepted, check}
-use Rattle.wire.specs.Reading.{Reader, _>>=_, _>>_, pure, here, require, number, repeat}
+use Rattle.wire.specs.Reading.{Read, got, bad, Reader, _>>=_, _>>_, pure, here, require, number, repeat}
 
 -- ---- as text: the length 15 in two bytes, then 15 ASCII digits
 
@@ -32,9 +31,9 @@ readImei = do
   ds ← repeat 15 textDigit
   pure (valueFrom 10 0 ds)
 
--- what the code's word says: the IMEI, or 15 where no IMEI is as large
-unfoldable pub imeiOf : ℕ → Answer ℕ
-imeiOf word = check (leb (suc word) (10 ^ 15)) 15 (accepted word)
+-- what the code's word says of the text from `at` to `next`: the IMEI; or 15, and from 10^15 on how far behind `at` it broke
+unfoldable pub imeiOf : ℕ → ℕ → ℕ → Read ℕ
+imeiOf at next word = pick (leb (suc word) (10 ^ 15)) (got word next) (bad (record { number = 15; index = 0; place = at + (word - 10 ^ 15) }))
 
 -- ---- packed: two digits a byte, the higher first, and the first digit of all is 0
 

@@ -1,4 +1,5 @@
 pub mod Numbers
+pub mod Limits
 pub mod Sequences
 pub mod Envelope
 pub mod Reading

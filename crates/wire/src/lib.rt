@@ -5,11 +5,26 @@ ghost use lib.ListN.{length};
 ghost use lib.Seq.{sets};
 ghost use Rattle.wire.specs.Numbers.{numberAt, signed, valueFrom, be, le};
 ghost use Rattle.wire.specs.Reading.{numbered, _>>=_ as bind, pure, repeat};
-ghost use Rattle.wire.specs.Answers.{told};
 ghost use Rattle.wire.specs.Imei.{imeiOf, textDigit, readImei, pairUpTo, readPacked};
 
-// In a word that holds an IMEI: there is none. An IMEI is below it.
+// In a word that holds an IMEI: there is none. An IMEI is below it; what is above it is the place of the fault.
 pub const NO_IMEI: u64 = 1_000_000_000_000_000;
+
+// The most bytes of a packet or a datagram, and of a record.
+pub struct Limits {
+    pub largest: usize,
+    pub longest: usize,
+}
+
+// Document 01's limits.
+pub const LARGEST: usize = 1280;
+
+pub const LONGEST: usize = 255;
+
+pub const BASE: Limits = Limits {
+    largest: LARGEST,
+    longest: LONGEST,
+};
 
 // Why a walk stopped: the refusal's number, the record's index, and the offset at which the offending field starts.
 pub struct Fault {
@@ -120,19 +135,19 @@ fn unread(number: usize, place: usize) -> Decimal
     })
 }
 
-// The value of `n` ASCII digits, which are there. A byte less 48 is a digit where that is below 10: one test for both ends.
-pub fn text_number(n: usize, s: &[u8], at: usize) -> u64
-    requires { ⌜ (n ≤ 15) × (at + n ≤ length (now s)) ⌝ }
-    ensures { λ r. ⌜ imeiOf r ≡ told (bind (repeat n textDigit) (λ ds. pure (valueFrom 10 0 ds)) (now (s .entry)) at) ⌝ }
+// The value of `n` ASCII digits, which are there, `skip` bytes behind `at`. A byte less 48 is a digit where that is below 10: one test for both ends.
+pub fn text_number(n: usize, s: &[u8], at: usize, skip: usize) -> u64
+    requires { ⌜ (n ≤ 15) × (skip ≤ 2) × (at + skip + n ≤ length (now s)) ⌝ }
+    ensures { λ r. ⌜ imeiOf at (at + skip + n) r ≡ bind (repeat n textDigit) (λ ds. pure (valueFrom 10 0 ds)) (now (s .entry)) (at + skip) ⌝ }
 {
     let mut value: u64 = 0;
-    let mut next = at;
+    let mut next = at + skip;
     let mut left = n;
     while 0 < left {
         let c = s[next];
         let d = ((c as u64) + 208) % 256;
         if 9 < d {
-            return NO_IMEI;
+            return NO_IMEI + ((next - at) as u64);
         }
         value = value * 10 + d;
         next += 1;
@@ -144,13 +159,13 @@ pub fn text_number(n: usize, s: &[u8], at: usize) -> u64
 // An IMEI as text: its length, 15, and its digits. Its 17 bytes are there.
 pub fn read_imei(s: &[u8], at: usize) -> u64
     requires { ⌜ at + 17 ≤ length (now s) ⌝ }
-    ensures { λ r. ⌜ imeiOf r ≡ told (readImei (now (s .entry)) at) ⌝ }
+    ensures { λ r. ⌜ imeiOf at (at + 2 + 15) r ≡ readImei (now (s .entry)) at ⌝ }
 {
     let size = be16(s, at);
     if size != 15 {
         return NO_IMEI;
     }
-    text_number(15, s, at + 2)
+    text_number(15, s, at, 2)
 }
 
 // Two digits in a byte, the first at most `most`.

@@ -3,7 +3,7 @@ use Rattle.command.proofs.WriterLaws.{told-value}
 use Rattle.command.specs.Walks.{givenAs}
 use Rattle.command.specs.Writing.{givenImei}
 use Rattle.wire.proofs.ImeiWord.{word-imei, word-none}
-use Rattle.wire.proofs.Accepting.{check-passed}
+use Rattle.wire.proofs.Accepting.{check-passed, told-got, told-bad}
 use Rattle.wire.specs.Answers.{check}
 use Rattle.wire.specs.Imei.{textDigit}
 use borrow.Author.Tests.{eq-eqb, ne-eqb}
@@ -27,14 +27,14 @@ text-number-requires c κs = search needs
 
 returns-2 : tie.Need-returns-2
 unfolding givenAs givenImei
-returns-2 c = sym (check-passed _ 15 _ (eq-eqb _ _ (c .before .before .if1 .left ∙ c .before .before .before .digit-count .ensures)) ∙ sym (told-value 10 _ textDigit (c .before .before .before .before .before .args .s .now) 0) ∙ sym (c .before .text-number .ensures) ∙ word-imei _ (c .if2 .taken))
+returns-2 c = sym (check-passed _ 15 _ (eq-eqb _ _ (c .before .before .if1 .left ∙ c .before .before .before .digit-count .ensures)) ∙ sym (told-value 10 _ textDigit (c .before .before .before .before .before .args .s .now) 0) ∙ told-got _ (sym (c .before .text-number .ensures) ∙ word-imei _ _ _ (c .if2 .taken)))
 
 not-given-requires-2 : tie.Need-not-given-requires-2
 not-given-requires-2 c κs = search needs
 
 returns-3 : tie.Need-returns-3
 unfolding givenAs givenImei
-returns-3 c = ap givenAs (c .not-given2 .ensures) ∙ sym (check-passed _ 15 _ (eq-eqb _ _ (c .before .before .before .if1 .left ∙ c .before .before .before .before .digit-count .ensures)) ∙ sym (told-value 10 _ textDigit (c .before .before .before .before .before .before .args .s .now) 0) ∙ sym (c .before .before .text-number .ensures) ∙ word-none _ (c .before .if2 .left))
+returns-3 c = ap givenAs (c .not-given2 .ensures) ∙ sym (check-passed _ 15 _ (eq-eqb _ _ (c .before .before .before .if1 .left ∙ c .before .before .before .before .digit-count .ensures)) ∙ sym (told-value 10 _ textDigit (c .before .before .before .before .before .before .args .s .now) 0) ∙ told-bad _ (sym (c .before .before .text-number .ensures) ∙ word-none _ _ _ (c .before .if2 .left)))
 
 pub given-imei-spec : {M : Type 1} → statement M
 given-imei-spec =

@@ -15,7 +15,7 @@ use Rattle.command.proofs.judge_command.Tie as tie
 
 -- the part that is lent is the data field
 field : (c : tie.After-known-told2) → let p = c .before .before .before .before .before .args .p .now in let n = c .before .n .given .0 .0 in
-    (unframe (c .before .before .before .before .before .args .largest) p ≡ accepted (take (8 + n - 8) (drop 8 p))) × (length p ≡ n + 12) × (3 ≤ n)
+    (unframe (c .before .before .before .before .before .args .limits .largest) p ≡ accepted (take (8 + n - 8) (drop 8 p))) × (length p ≡ n + 12) × (3 ≤ n)
 field c =
     let p = c .before .before .before .before .before .args .p .now in
     let n = c .before .n .given .0 .0 in
@@ -26,11 +26,8 @@ field c =
 unframed-requires : tie.Need-unframed-requires
 unframed-requires c κs = search needs
 
-enum-known-number : tie.Need-enum-known-number
-enum-known-number c = search needs
-
-refused-requires : tie.Need-refused-requires
-refused-requires c κs = search needs
+enum-known-r : tie.Need-enum-known-r
+enum-known-r c = search needs
 
 enum-known-n : tie.Need-enum-known-n
 enum-known-n c = search needs
@@ -56,7 +53,7 @@ read-field-requires c κs =
 
 returns : tie.Need-returns
 unfolding commandAs answerCommand answered readCommand onAccepted
-returns c = simp (c .refused .ensures, framing-unframed _ _ _ (sym (c .before .before .before .before .unframed .ensures) ∙ c .before .before .number .given .1))
+returns c = simp (framing-unframed _ _ _ (sym (c .before .before .before .unframed .ensures) ∙ c .before .r .given .1))
 
 returns-2 : tie.Need-returns-2
 unfolding answerCommand readCommand answered onAccepted
@@ -67,8 +64,7 @@ judge-command-spec =
     tie.close
     (tie.spec
     unframed-requires
-    enum-known-number
-    refused-requires
+    enum-known-r
     enum-known-n
     add-end
     sub-read-field

@@ -48,14 +48,14 @@ not-given-requires-3 c κs = search needs
 
 returns-3 : tie.Need-returns-3
 unfolding planned givenAs onAccepted commandBytes check packetOf
-returns-3 c = simp (c .not-given3 .ensures, c .before .before .before .before .before .before .before .before .before .before .before .before .before .pre, sym (c .before .before .before .before .before .before .before .before .before .before .allows .ensures) ∙ not-false _ (c .before .before .before .before .before .before .before .before .before .if1 .left), sym (c .before .before .before .before .before .before .before .before .given-imei .ensures) ∙ ap givenAs (c .before .before .before .before .before .before .n .given .1), sym (c .before .before .before .before .allows-text .ensures) ∙ not-false _ (c .before .before .before .if2 .left), length-field, ← c .before .before .field-size .ensures, lt-leb _ _ (c .before .if3 .taken))
+returns-3 c = simp (c .not-given3 .ensures, c .before .before .before .before .before .before .before .before .before .before .before .before .before .before .pre, sym (c .before .before .before .before .before .before .before .before .before .before .before .allows .ensures) ∙ not-false _ (c .before .before .before .before .before .before .before .before .before .before .if1 .left), sym (c .before .before .before .before .before .before .before .before .before .given-imei .ensures) ∙ ap givenAs (c .before .before .before .before .before .before .before .n .given .1), sym (c .before .before .before .before .before .allows-text .ensures) ∙ not-false _ (c .before .before .before .before .if2 .left), length-field, ← c .before .before .before .field-size .ensures, lt-leb _ _ (c .before .if3 .taken))
 
 enum-known-r : tie.Need-enum-known-r
 enum-known-r c = search needs
 
 returns-4 : tie.Need-returns-4
 unfolding planned givenAs onAccepted commandBytes check packetOf
-returns-4 c = simp (c .before .before .before .before .before .before .before .before .before .before .before .before .pre, sym (c .before .before .before .before .before .before .before .before .before .allows .ensures) ∙ not-false _ (c .before .before .before .before .before .before .before .before .if1 .left), sym (c .before .before .before .before .before .before .before .given-imei .ensures) ∙ ap givenAs (c .before .before .before .before .before .n .given .1), sym (c .before .before .before .allows-text .ensures) ∙ not-false _ (c .before .before .if2 .left), length-field, ← c .before .field-size .ensures, le-leb _ _ (c .if3 .left))
+returns-4 c = simp (c .before .before .before .before .before .before .before .before .before .before .before .before .before .pre, sym (c .before .before .before .before .before .before .before .before .before .before .allows .ensures) ∙ not-false _ (c .before .before .before .before .before .before .before .before .before .if1 .left), sym (c .before .before .before .before .before .before .before .before .given-imei .ensures) ∙ ap givenAs (c .before .before .before .before .before .before .n .given .1), sym (c .before .before .before .before .allows-text .ensures) ∙ not-false _ (c .before .before .before .if2 .left), length-field, ← c .before .before .field-size .ensures, le-leb _ _ (c .if3 .left))
 
 returns-5 : tie.Need-returns-5
 unfolding planned givenAs onAccepted commandBytes check

@@ -2,6 +2,7 @@
 use Prim.Native.Nat.{ℕ}
 use mathlib.Core.Path.{_≡_, sym, ap, _∙_}
 use borrow.Author.Needs.{needs}
+use Rattle.wire.specs.Limits.{baseLimits}
 use Rattle.wire.specs.Buffers.{writing, leaving, writtenAs}
 use Rattle.wire.specs.Answers.{accepted, onAccepted}
 use Rattle.command.specs.Writing.{commandBytes}
@@ -20,10 +21,10 @@ own : (c : tie.After-known-told) → layoutOf (c .before .l .given .0 .0 .codec)
 own c = ap layoutOf (layout-codec _ (found c)) ∙ found c
 
 bytes : (c : tie.After-plan) → let a = c .before .before .before .before .before .before .before .before .args in
-    planned (c .before .before .l .given .0 .0) (a .kind) (a .text .now) (c .plan .result) ≡ commandBytes 1280 (a .codec) (a .kind) (a .imei .now) (a .text .now)
+    planned (c .before .before .l .given .0 .0) (a .kind) (a .text .now) (c .plan .result) ≡ commandBytes baseLimits (a .codec) (a .kind) (a .imei .now) (a .text .now)
 bytes c =
     let a = c .before .before .before .before .before .before .before .before .args in
-    c .plan .ensures ∙ ap (λ (k : ℕ). commandBytes 1280 k (a .kind) (a .imei .now) (a .text .now)) (layout-codec _ (found (c .before)))
+    c .plan .ensures ∙ ap (λ (k : ℕ). commandBytes baseLimits k (a .kind) (a .imei .now) (a .text .now)) (layout-codec _ (found (c .before)))
 
 layout-of-requires : tie.Need-layout-of-requires
 layout-of-requires c κs = search needs

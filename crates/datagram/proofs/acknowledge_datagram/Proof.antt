@@ -2,6 +2,7 @@ use native.Mathlib.Omega.{arith}
 use mathlib.Core.Path.{refl, sym, _∙_}
 use borrow.Author.Needs.{needs}
 use Rattle.datagram.specs.Datagrams.{answerBytes}
+use Rattle.wire.specs.Limits.{baseLimits}
 use Rattle.wire.proofs.BufferLaws.{writing-done, writing-short, leaving-done, leaving-short}
 use Rattle.wire.proofs.Widths.{getD-bytes}
 use Rattle.wire.specs.Answers.{onAccepted}
@@ -28,7 +29,7 @@ returns c = let p = c .before .before .before .before .before .before .before .a
     (sym (writing-short b out (omega arith)), sym (leaving-short b out (omega arith)))
 
 cast-put-acknowledgement : tie.Need-cast-put-acknowledgement
-cast-put-acknowledgement c = omega (arith, carried-fits 1280 255 0 (c .before .before .before .before .before .before .before .args .p .now) (getD-bytes (c .before .before .before .before .before .before .before .args .p .now) (λ k. c .before .before .before .before .before .before .shared-slice-known .given k .fits)) (sym (c .before .before .before .before .judge-datagram .ensures) ∙ c .before .before .count .given .1))
+cast-put-acknowledgement c = omega (arith, carried-fits baseLimits 0 (c .before .before .before .before .before .before .before .args .p .now) (getD-bytes (c .before .before .before .before .before .before .before .args .p .now) (λ k. c .before .before .before .before .before .before .shared-slice-known .given k .fits)) (sym (c .before .before .before .before .judge-datagram .ensures) ∙ c .before .before .count .given .1))
 
 put-acknowledgement-requires : tie.Need-put-acknowledgement-requires
 put-acknowledgement-requires c κs = let p = c .before .before .before .before .before .before .before .before .args .p .now in

@@ -42,14 +42,14 @@ read-imei-requires c κs = search needs
 
 returns-4 : tie.Need-returns-4
 unfolding headerAs
-returns-4 c = sym (header-is (c .before .before .before .before .before .before .before .args .largest) (c .before .before .before .before .before .before .before .args .p .now) (c .before .before .before .before .before .if1 .left) (c .before .before .before .before .if2 .left) (c .before .before .if3 .left ∙ ap (λ (n : ℕ). n + 2) (c .before .before .before .be16 .ensures)) (sym (c .before .read-imei .ensures) ∙ word-imei _ (c .if4 .taken)))
+returns-4 c = sym (header-is (c .before .before .before .before .before .before .before .args .largest) (c .before .before .before .before .before .before .before .args .p .now) (c .before .before .before .before .before .if1 .left) (c .before .before .before .before .if2 .left) (c .before .before .if3 .left ∙ ap (λ (n : ℕ). n + 2) (c .before .before .before .be16 .ensures)) (sym (c .before .read-imei .ensures) ∙ word-imei _ _ _ (c .if4 .taken)))
 
 refused-requires-4 : tie.Need-refused-requires-4
 refused-requires-4 c κs = search needs
 
 returns-5 : tie.Need-returns-5
 unfolding headerAs
-returns-5 c = ap (headerAs (c .before .before .before .before .before .before .before .before .args .p .now)) (c .refused4 .ensures) ∙ sym (header-imei (c .before .before .before .before .before .before .before .before .args .largest) (c .before .before .before .before .before .before .before .before .args .p .now) (c .before .before .before .before .before .before .if1 .left) (c .before .before .before .before .before .if2 .left) (c .before .before .before .if3 .left ∙ ap (λ (n : ℕ). n + 2) (c .before .before .before .before .be16 .ensures)) (sym (c .before .before .read-imei .ensures) ∙ word-none _ (c .before .if4 .left)))
+returns-5 c = ap (headerAs (c .before .before .before .before .before .before .before .before .args .p .now)) (c .refused4 .ensures) ∙ sym (header-imei (c .before .before .before .before .before .before .before .before .args .largest) (c .before .before .before .before .before .before .before .before .args .p .now) (c .before .before .before .before .before .before .if1 .left) (c .before .before .before .before .before .if2 .left) (c .before .before .before .if3 .left ∙ ap (λ (n : ℕ). n + 2) (c .before .before .before .before .be16 .ensures)) (sym (c .before .before .read-imei .ensures) ∙ word-none _ _ _ (c .before .if4 .left)))
 
 pub read-header-spec : {M : Type 1} → statement M
 read-header-spec =

@@ -24,7 +24,7 @@ bytes c = getD-bytes (c .before .args .part .now) (λ k. c .shared-slice-known .
 
 -- the record as it was read
 read : (c : lts.Start (short-number-reads.Asked, short-number-reads.Learnt, be64-reads.Asked, be64-reads.Learnt, be32-reads.Asked, be32-reads.Learnt, signed32-reads.Asked, signed32-reads.Learnt, be16-reads.Asked, be16-reads.Learnt, signed16-reads.Asked, signed16-reads.Learnt) reads.Pre reads.Post) → RecordRead (c .args .w) (c .args .part .now) (c .pre .1 .0 .content) (c .pre .1 .0 .next)
-read c = record-read 255 (c .args .w) (c .args .part .now) .if-got _ _ (c .pre .1 .0 .reads)
+read c = record-read (c .args .w) (c .args .part .now) .if-got _ _ (c .pre .1 .0 .reads)
 
 add-behind : tie.Need-add-behind
 add-behind c = search needs
@@ -82,7 +82,7 @@ returns : tie.Need-returns
 returns c x n h =
     let start = c .before .before .before .before .before .before .before .before .before .before .before .before .before .before in
     let s = start .args .part .now in
-    record-fields (record-read 255 (start .args .w) s .if-got x n h)
+    record-fields (record-read (start .args .w) s .if-got x n h)
     (c .before .before .before .before .before .before .before .before .before .before .be64 .ensures)
     (sym (number-one s 8))
     (toZ-ofZ w32 (c .before .before .before .before .before .before .before .signed32 .result) (record { sfits = c .before .before .before .before .before .before .before .signed32 .ok }) ∙ c .before .before .before .before .before .before .before .signed32 .ensures ∙ ap (signed 4) (c .before .before .before .before .before .before .before .before .be32 .ensures))

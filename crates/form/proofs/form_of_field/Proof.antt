@@ -16,16 +16,16 @@ enum-told : tie.Need-enum-told
 enum-told c = search needs
 
 write-field-requires : tie.Need-write-field-requires
-write-field-requires c κs = field-of (field-taken (c .before .before .before .before .before .before .args .d .now) (c .before .before .before .before .before .before .pre .0) (c .before .before .before .before .before .before .pre .1) (taken 0 (readData 255 (c .before .before .before .before .before .before .args .d .now)) (sym (c .before .before .before .read-data .ensures) ∙ c .before .enum-told .given .1) .accepts))
+write-field-requires c κs = field-of (field-taken (c .before .before .before .before .before .before .args .longest) (c .before .before .before .before .before .before .args .d .now) (c .before .before .before .before .before .before .pre .0) (c .before .before .before .before .before .before .pre .1) (taken 0 (readData (c .before .before .before .before .before .before .args .longest) (c .before .before .before .before .before .before .args .d .now)) (sym (c .before .before .before .read-data .ensures) ∙ c .before .enum-told .given .1) .accepts))
 
 returns : tie.Need-returns
-returns c = field-refused (c .before .before .before .before .before .before .args .d .now) (not-taken 0 (readData 255 (c .before .before .before .before .before .before .args .d .now)) (sym (c .before .before .before .read-data .ensures) ∙ c .before .r .given .1))
+returns c = field-refused (c .before .before .before .before .before .before .args .longest) (c .before .before .before .before .before .before .args .d .now) (not-taken 0 (readData (c .before .before .before .before .before .before .args .longest) (c .before .before .before .before .before .before .args .d .now)) (sym (c .before .before .before .read-data .ensures) ∙ c .before .r .given .1))
 
 same-length : tie.Need-same-length
 same-length c = search needs
 
 returns-2 : tie.Need-returns-2
-returns-2 c = field-written (c .before .before .before .before .before .before .before .before .before .args .d .now) (c .before .before .before .before .before .before .before .before .before .pre .0) (c .before .before .before .before .before .before .before .before .before .pre .1) (taken 0 (readData 255 (c .before .before .before .before .before .before .before .before .before .args .d .now)) (sym (c .before .before .before .before .before .before .read-data .ensures) ∙ c .before .before .before .before .enum-told .given .1) .accepts) (c .before .before .write-field .ensures)
+returns-2 c = field-written (c .before .before .before .before .before .before .before .before .before .args .longest) (c .before .before .before .before .before .before .before .before .before .args .d .now) (c .before .before .before .before .before .before .before .before .before .pre .0) (c .before .before .before .before .before .before .before .before .before .pre .1) (taken 0 (readData (c .before .before .before .before .before .before .before .before .before .args .longest) (c .before .before .before .before .before .before .before .before .before .args .d .now)) (sym (c .before .before .before .before .before .before .read-data .ensures) ∙ c .before .before .before .before .enum-told .given .1) .accepts) (c .before .before .write-field .ensures)
 
 pub form-of-field-spec : {M : Type 1} → statement M
 form-of-field-spec =

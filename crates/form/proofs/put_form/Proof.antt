@@ -1,5 +1,6 @@
 use mathlib.Core.Path.{sym, subst}
-use Rattle.avl.specs.RecordReader.{avlRecords}
+use Rattle.avl.specs.RecordReader.{plainRecord}
+use Rattle.wire.specs.Reading.{repeat}
 use Rattle.avl.specs.declared.Widths.{Widths}
 use Rattle.walk.proofs.WalkLaws.{narrow}
 use Rattle.walk.specs.Walks.{Narrow}
@@ -19,7 +20,7 @@ widths-of-requires : tie.Need-widths-of-requires
 widths-of-requires c κs = search needs
 
 put-records-requires : tie.Need-put-records-requires
-put-records-requires c κs = subst (λ (w : Widths). Narrow w × Ready (avlRecords 255 w 0 (c .before .before .before .before .before .before .before .before .before .args .count)) (c .before .before .before .before .before .before .before .before .before .args .s .now) 0 5) (sym (c .before .widths-of .ensures)) (narrow (c .before .before .before .before .before .before .before .before .before .args .codec), c .before .before .before .before .before .before .before .before .before .pre)
+put-records-requires c κs = subst (λ (w : Widths). Narrow w × Ready (repeat (c .before .before .before .before .before .before .before .before .before .args .count) (plainRecord w)) (c .before .before .before .before .before .before .before .before .before .args .s .now) 0 5) (sym (c .before .widths-of .ensures)) (narrow (c .before .before .before .before .before .before .before .before .before .args .codec), c .before .before .before .before .before .before .before .before .before .pre)
 
 same-length : tie.Need-same-length
 same-length c = search needs

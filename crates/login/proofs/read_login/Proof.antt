@@ -2,7 +2,7 @@
 use Rattle.login.specs.Login.{readLogin, loginAs}
 use Rattle.wire.specs.Answers.{check}
 use Rattle.wire.proofs.ImeiWord.{word-imei, word-none}
-use Rattle.wire.proofs.Accepting.{check-passed}
+use Rattle.wire.proofs.Accepting.{check-passed, told-got, told-bad}
 use borrow.Author.Tests.{le-leb, lt-leb}
 use mathlib.Core.Path.{sym, _∙_}
 use borrow.Author.Needs.{needs}
@@ -22,11 +22,11 @@ read-imei-requires c κs = search needs
 
 returns-3 : tie.Need-returns-3
 unfolding readLogin loginAs
-returns-3 c = sym (check-passed _ 1 _ (le-leb _ _ (c .before .before .before .if1 .left)) ∙ check-passed _ 4 _ (le-leb _ _ (c .before .before .if2 .left)) ∙ sym (c .before .read-imei .ensures) ∙ word-imei _ (c .if3 .taken))
+returns-3 c = sym (check-passed _ 1 _ (le-leb _ _ (c .before .before .before .if1 .left)) ∙ check-passed _ 4 _ (le-leb _ _ (c .before .before .if2 .left)) ∙ told-got _ (sym (c .before .read-imei .ensures) ∙ word-imei _ _ _ (c .if3 .taken)))
 
 returns-4 : tie.Need-returns-4
 unfolding readLogin loginAs
-returns-4 c = sym (check-passed _ 1 _ (le-leb _ _ (c .before .before .before .if1 .left)) ∙ check-passed _ 4 _ (le-leb _ _ (c .before .before .if2 .left)) ∙ sym (c .before .read-imei .ensures) ∙ word-none _ (c .if3 .left))
+returns-4 c = sym (check-passed _ 1 _ (le-leb _ _ (c .before .before .before .if1 .left)) ∙ check-passed _ 4 _ (le-leb _ _ (c .before .before .if2 .left)) ∙ told-bad _ (sym (c .before .read-imei .ensures) ∙ word-none _ _ _ (c .if3 .left)))
 
 pub read-login-spec : {M : Type 1} → statement M
 read-login-spec = tie.close (tie.spec returns returns-2 read-imei-requires returns-3 returns-4)

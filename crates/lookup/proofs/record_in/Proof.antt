@@ -3,7 +3,7 @@ use Rattle.lookup.specs.Answers.{PartIn, RecordIn}
 use Rattle.lookup.specs.declared.RecordAnswer.{RecordAnswer}
 use Rattle.lookup.specs.declared.Part.{Part}
 use Rattle.element.specs.Places.{part}
-use Rattle.avl.specs.RecordReader.{avlRecord}
+use Rattle.avl.specs.RecordReader.{plainRecord}
 use Rattle.avl.specs.declared.Widths.{Widths}
 use mathlib.Core.Path.{refl, sym, ap, _∙_, subst}
 use native.Mathlib.Omega.{arith}
@@ -40,7 +40,7 @@ returns c = subst (λ (q : Part). RecordIn (c .before .before .before .before .a
 returns-2 : tie.Need-returns-2
 unfolding part
 returns-2 c = subst (λ (q : Part). RecordIn (c .before .before .before .before .before .before .before .args .p .now) q (RecordAnswer.Fields (c .fields-of .result))) (sym (c .before .before .before .before .part2 .given .1))
-    (λ x n h. ap RecordAnswer.Fields (c .fields-of .ensures x n (ap (λ (w : Widths). avlRecord 255 w (part (c .before .before .before .before .before .before .before .args .p .now) (c .before .before .before .before .part2 .given .0 .1 .0) (c .before .before .before .before .part2 .given .0 .1 .1 .0 - c .before .before .before .before .part2 .given .0 .1 .0)) 0) (c .before .before .widths-of .ensures) ∙ h)))
+    (λ x n h. ap RecordAnswer.Fields (c .fields-of .ensures x n (ap (λ (w : Widths). plainRecord w (part (c .before .before .before .before .before .before .before .args .p .now) (c .before .before .before .before .part2 .given .0 .1 .0) (c .before .before .before .before .part2 .given .0 .1 .1 .0 - c .before .before .before .before .part2 .given .0 .1 .0)) 0) (c .before .before .widths-of .ensures) ∙ h)))
 
 pub record-in-spec : {M : Type 1} → statement M
 record-in-spec =

@@ -1,4 +1,5 @@
 use Rattle.packet.proofs.WalkLaws.{acknowledgement-bytes}
+use Rattle.wire.specs.Limits.{baseLimits}
 use Rattle.wire.proofs.BufferLaws.{writing-done, writing-short, leaving-done, leaving-short, sets-front}
 use Rattle.wire.specs.Buffers.{writtenAs}
 use lib.ListN.{length-set}
@@ -14,7 +15,7 @@ record-count-requires c κs = search needs
 
 returns : tie.Need-returns
 unfolding writtenAs
-returns c = rw (← (acknowledgement-bytes 1280 255 (c .before .before .before .before .args .p .now) (c .before .record-count .ensures) (c .before .record-count .ok)))
+returns c = rw (← (acknowledgement-bytes baseLimits (c .before .before .before .before .args .p .now) (c .before .record-count .ensures) (c .before .record-count .ok)))
     (sym (writing-short (0 ∷ 0 ∷ 0 ∷ c .before .record-count .result ∷ []) (c .before .before .before .before .args .out .now) (c .if1 .taken)), sym (leaving-short (0 ∷ 0 ∷ 0 ∷ c .before .record-count .result ∷ []) (c .before .before .before .before .args .out .now) (c .if1 .taken)))
 
 slice-write-out : tie.Need-slice-write-out
@@ -34,7 +35,7 @@ same-length c = simp length-set
 
 returns-2 : tie.Need-returns-2
 unfolding writtenAs
-returns-2 c = rw (← (acknowledgement-bytes 1280 255 (c .before .before .before .before .args .p .now) (c .before .record-count .ensures) (c .before .record-count .ok)))
+returns-2 c = rw (← (acknowledgement-bytes baseLimits (c .before .before .before .before .args .p .now) (c .before .record-count .ensures) (c .before .record-count .ok)))
     (sym (writing-done (0 ∷ 0 ∷ 0 ∷ c .before .record-count .result ∷ []) (c .before .before .before .before .args .out .now) (c .if1 .left)), sets-front (0 ∷ 0 ∷ 0 ∷ c .before .record-count .result ∷ []) (c .before .before .before .before .args .out .now) (c .if1 .left) ∙ sym (leaving-done (0 ∷ 0 ∷ 0 ∷ c .before .record-count .result ∷ []) (c .before .before .before .before .args .out .now) (c .if1 .left)))
 
 pub acknowledge-packet-spec : {M : Type 1} → statement M

@@ -83,7 +83,7 @@ cast-all-records : tie.Need-cast-all-records
 cast-all-records c = omega (arith, c .before .before .before .before .before .before .before .before .before .shared-slice-known .given 1)
 
 all-records-requires : tie.Need-all-records-requires
-all-records-requires c κs = (subst Narrow (sym (c .before .widths-of .ensures)) (narrow _), c .before .before .before .before .before .before .before .before .before .before .pre .0)
+all-records-requires c κs = subst Narrow (sym (c .before .widths-of .ensures)) (narrow _)
 
 enum-known-span : tie.Need-enum-known-span
 enum-known-span c = search needs

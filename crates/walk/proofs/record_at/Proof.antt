@@ -1,5 +1,5 @@
 use Rattle.avl.proofs.RecordLaws.{fixed-exact}
-use Rattle.walk.proofs.WalkLaws.{walked-inside, record-unfixed, record-missing, record-unsummed, record-uneven, record-long, record-on}
+use Rattle.walk.proofs.WalkLaws.{walked-inside, record-unfixed, record-missing, record-unsummed, record-uneven, record-forward, record-long, record-on}
 use Rattle.wire.proofs.Widths.{getD-bytes}
 use mathlib.Core.Path.{sym, _∙_}
 use borrow.Author.Needs.{needs}
@@ -21,7 +21,7 @@ returns c = sym (record-unfixed (c .before .before .before .before .before .args
 add-a2 : tie.Need-add-a2
 add-a2 c =
     let s = c .before .before .before .before .before .args .s .now in
-    let inside = walked-inside (fixed-exact (c .before .before .before .before .before .args .w)) s (c .before .before .before .before .before .args .at) (getD-bytes s (λ k. c .before .before .before .before .shared-slice-known .given k .fits)) (c .before .before .before .before .before .pre .1 .1) (sym (c .before .before .before .fixed-fields .ensures) ∙ c .before .to .given .1) in
+    let inside = walked-inside (fixed-exact (c .before .before .before .before .before .args .w)) s (c .before .before .before .before .before .args .at) (getD-bytes s (λ k. c .before .before .before .before .shared-slice-known .given k .fits)) (c .before .before .before .before .before .pre .1) (sym (c .before .before .before .fixed-fields .ensures) ∙ c .before .to .given .1) in
     search needs
 
 returns-2 : tie.Need-returns-2
@@ -42,8 +42,10 @@ enum-known-total c = search needs
 returns-3 : tie.Need-returns-3
 returns-3 c = sym (record-uneven (c .before .before .before .before .before .before .before .before .before .before .before .before .args .longest) (c .before .before .before .before .before .before .before .before .before .before .before .before .args .w) (c .before .before .before .before .before .before .before .before .before .before .before .before .args .s .now) (c .before .before .before .before .before .before .before .before .before .before .before .before .args .at) (sym (c .before .before .before .before .before .before .before .before .before .before .fixed-fields .ensures) ∙ c .before .before .before .before .before .before .before .before .to .given .1) (c .before .before .before .before .before .before .if1 .left) (c .before .before .before .before .before .short-number .ensures) (sym (c .before .before .before .before .groups-at .ensures) ∙ c .before .before .total .given .1) (c .if2 .taken))
 
-add-if3 : tie.Need-add-if3
-add-if3 c = search needs
+sub-if3 : tie.Need-sub-if3
+sub-if3 c =
+    let s = c .before .before .before .before .before .before .before .before .before .before .before .before .args .s .now in
+    record-forward (c .before .before .before .before .before .before .before .before .before .before .before .before .args .longest) (c .before .before .before .before .before .before .before .before .before .before .before .before .args .w) (c .before .before .before .before .before .before .before .before .before .before .before .before .args .s .now) (c .before .before .before .before .before .before .before .before .before .before .before .before .args .at) (sym (c .before .before .before .before .before .before .before .before .before .before .fixed-fields .ensures) ∙ c .before .before .before .before .before .before .before .before .to .given .1) (c .before .before .before .before .before .before .if1 .left) (c .before .before .before .before .before .short-number .ensures) (sym (c .before .before .before .before .groups-at .ensures) ∙ c .before .before .total .given .1) (getD-bytes s (λ k. c .before .before .before .before .before .before .before .before .before .before .before .shared-slice-known .given k .fits)) (c .before .before .before .before .before .before .before .before .before .before .before .before .pre .1)
 
 returns-4 : tie.Need-returns-4
 returns-4 c = sym (record-long (c .before .before .before .before .before .before .before .before .before .before .before .before .before .args .longest) (c .before .before .before .before .before .before .before .before .before .before .before .before .before .args .w) (c .before .before .before .before .before .before .before .before .before .before .before .before .before .args .s .now) (c .before .before .before .before .before .before .before .before .before .before .before .before .before .args .at) (sym (c .before .before .before .before .before .before .before .before .before .before .before .fixed-fields .ensures) ∙ c .before .before .before .before .before .before .before .before .before .to .given .1) (c .before .before .before .before .before .before .before .if1 .left) (c .before .before .before .before .before .before .short-number .ensures) (sym (c .before .before .before .before .before .groups-at .ensures) ∙ c .before .before .before .total .given .1) (c .before .if2 .left) (c .if3 .taken))
@@ -69,7 +71,7 @@ record-at-spec =
     enum-known-x-2
     enum-known-total
     returns-3
-    add-if3
+    sub-if3
     returns-4
     returns-5
     returns-6)
