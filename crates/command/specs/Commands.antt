@@ -97,6 +97,11 @@ unfoldable pub textView : Answer Command → List ℕ
 textView (accepted c) = c .text
 textView (refused r) = []
 
+-- where it begins, counted from the input's start: with its text; an empty one with the input
+unfoldable pub textOffset : Answer CommandFields → ℕ
+textOffset (accepted f) = f .offset
+textOffset (refused r) = 0
+
 -- ---- what the code's answer says
 
 unfoldable pub commandAs : CommandAnswer → Answer CommandFields

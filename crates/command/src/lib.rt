@@ -14,9 +14,10 @@ ghost use Rattle.wire.specs.Buffers.{writing, leaving, writtenAs};
 ghost use Rattle.wire.specs.Imei.{packed};
 ghost use Rattle.frame.specs.Frame.{framed};
 ghost use Rattle.command.specs.Layouts.{layoutOf, rowAs, types, member};
-ghost use Rattle.command.specs.Commands.{bodyBytes, commandField, mismatch, commandBody, readField, readCommand, answerCommand, textView, commandAs, answered};
+ghost use Rattle.command.specs.Commands.{bodyBytes, commandField, mismatch, commandBody, readField, readCommand, answerCommand, textView, textOffset, commandAs, answered};
 ghost use Rattle.command.specs.Writing.{givenImei, commandBytes};
 ghost use Rattle.wire.specs.Limits.{baseLimits};
+ghost use Rattle.wire.specs.Places.{behind};
 ghost use Rattle.command.specs.Walks.{bodyAs, givenAs, planned};
 
 // A row of the table of command layouts: the codec, whether it has type 11 besides 05 and 06, and how many bytes of IMEI stand before the text.
@@ -200,7 +201,8 @@ pub fn read_command(p: &[u8]) -> CommandAnswer
 
 // The text where it stands in the input, empty for a refused packet.
 pub fn command_text(p: &[u8]) -> &[u8]
-    ensures { λ r. ⌜ now r ≡ textView (readCommand baseLimits (now (p .entry))) ⌝ }
+    ensures bytes { λ r. ⌜ now r ≡ textView (readCommand baseLimits (now (p .entry))) ⌝ }
+    ensures place { λ r. ⌜ r .ptr ≡ behind (p .entry .ptr) (textOffset (answerCommand baseLimits (now (p .entry)))) ⌝ }
 {
     match read_command(p) {
         CommandAnswer::Accepted(f) => {

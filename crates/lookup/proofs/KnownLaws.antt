@@ -8,6 +8,7 @@ use lib.ListN.{length, getD}
 use Rattle.wire.specs.declared.Limits.{Limits}
 use Rattle.wire.specs.declared.Refusal.{Refusal}
 use Rattle.wire.specs.Numbers.{Bytes, digits, pick}
+use Rattle.wire.specs.Places.{behind}
 use Rattle.wire.specs.Answers.{Answer, accepted, refused, onAccepted}
 use Rattle.wire.proofs.Accepting.{pick-true, pick-false, onAccepted-accepted, onAccepted-refused}
 use Rattle.wire.specs.Envelope.{enclosed}
@@ -21,7 +22,7 @@ use Rattle.element.specs.Elements.{firstWith}
 use Rattle.lookup.specs.declared.Part.{Part}
 use Rattle.lookup.specs.declared.ValueAnswer.{ValueAnswer}
 use Rattle.lookup.specs.declared.KnownAnswer.{KnownAnswer}
-use Rattle.lookup.specs.Lookups.{Source, tcpSource, Found, view, LastKnown, valueInLast, inOlder, orElse, lastKnown}
+use Rattle.lookup.specs.Lookups.{Source, tcpSource, Found, view, LastKnown, valueInLast, inOlder, orElse, lastKnown, knownPlace}
 use Rattle.lookup.specs.Answers.{PartResult, partOf, lastPart, partAs, PartIn, ValueIn, Within, viewOf, valueResult, answerValue, valueAs, KnownResult, answerKnown, knownAs, knownView}
 use Rattle.lookup.proofs.PlaceLaws.{Stored, tcp-stored, first-member}
 use Rattle.lookup.proofs.PartLaws.{part-there, part-in, first-sixteen, value-answer, value-view}
@@ -177,3 +178,17 @@ pub known-nowhere : (known : Answer LastKnown) {x : Refusal} → refused x ≡ a
 unfolding answerKnown onAccepted knownView
 known-nowhere (accepted k) e = absurd (let z : _≡_ {A = ℕ} 0 1 = cc in omega arith)
 known-nowhere (refused x) e = refl
+
+-- the place of the view
+pub known-place : (known : Answer LastKnown) (newer older : ℕ × ℕ) (past : Bool) (v : Value) → knownAs (KnownAnswer.Found past v) ≡ answerKnown known
+    → behind (pick past older newer) (v .offset) ≡ knownPlace known newer older
+unfolding knownAs answerKnown onAccepted knownPlace valueResult
+known-place (accepted k) newer older past v e =
+    let same : _≡_ {A = KnownResult} (record { older = past; value = v }) (record { older = k .older; value = valueResult (k .found) }) = cc in
+    ap (λ (x : KnownResult). behind (pick (x .older) older newer) (x .value .offset)) same
+known-place (refused x) newer older past v e = absurd (let z : _≡_ {A = ℕ} 0 1 = cc in omega arith)
+
+pub known-empty : (known : Answer LastKnown) (newer older : ℕ × ℕ) {x : Refusal} → refused x ≡ answerKnown known → behind newer 0 ≡ knownPlace known newer older
+unfolding answerKnown onAccepted knownPlace
+known-empty (accepted k) newer older e = absurd (let z : _≡_ {A = ℕ} 0 1 = cc in omega arith)
+known-empty (refused x) newer older e = refl

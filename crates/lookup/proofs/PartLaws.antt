@@ -41,8 +41,8 @@ use Rattle.lookup.specs.declared.Part.{Part}
 use Rattle.lookup.specs.declared.RecordAnswer.{RecordAnswer}
 use Rattle.lookup.specs.declared.ValueAnswer.{ValueAnswer}
 use Rattle.lookup.specs.Places.{Placed, placeRecords}
-use Rattle.lookup.specs.Lookups.{Source, tcpSource, udpSource, placedRecord, Found, foundIn, valueIn, view}
-use Rattle.lookup.specs.Answers.{recordAs, PartResult, partOf, partAs, PartIn, RecordIn, ValueIn, Reaches, shifted, Within, viewOf, valueResult, answerValue, valueAs}
+use Rattle.lookup.specs.Lookups.{Source, tcpSource, udpSource, placedRecord, Found, foundIn, valueIn, view, viewOffset}
+use Rattle.lookup.specs.Answers.{recordAs, PartResult, partOf, partAs, PartIn, RecordIn, ValueIn, Reaches, shifted, Within, viewOf, startOf, valueResult, answerValue, valueAs}
 use Rattle.lookup.proofs.PlaceLaws.{Stored, kept, own-part, value-in-place}
 
 -- ---- the span of a record is its place
@@ -159,6 +159,16 @@ refused-view : (found : Answer Found) {x : Refusal} → answerValue found ≡ re
 unfolding answerValue onAccepted view
 refused-view (accepted f) e = absurd (let z : _≡_ {A = ℕ} 0 1 = cc in omega arith)
 refused-view (refused x) e = refl
+
+-- a view begins where its value stands
+pub view-start : (answer : ValueAnswer) (found : Answer Found) → valueAs answer ≡ answerValue found → startOf answer ≡ viewOffset found
+unfolding valueAs answerValue onAccepted startOf viewOffset valueResult
+view-start (ValueAnswer.Found v) (accepted f) e =
+    let same : v ≡ valueResult f = cc in
+    ap (λ (x : Value). x .offset) same
+view-start (ValueAnswer.Found v) (refused x) e = absurd (let z : _≡_ {A = ℕ} 0 1 = cc in omega arith)
+view-start (ValueAnswer.Refused r) (accepted f) e = absurd (let z : _≡_ {A = ℕ} 0 1 = cc in omega arith)
+view-start (ValueAnswer.Refused r) (refused x) e = refl
 
 module _ {longest : ℕ} {p : List ℕ} {source : Answer Source} (stored : (x : Source) → source ≡ accepted x → Stored longest p x) (number : Source → ℕ) where
   lies : {codec start end count : ℕ} → accepted (record { codec = codec; start = start; end = end; elements = count }) ≡ partAt number source

@@ -95,6 +95,11 @@ unfoldable pub viewOf : List ℕ → ValueAnswer → List ℕ
 viewOf p (ValueAnswer.Found v) = part p (v .offset) (v .size)
 viewOf p (ValueAnswer.Refused r) = []
 
+-- where they begin; the input's start for a refusal
+unfoldable pub startOf : ValueAnswer → ℕ
+startOf (ValueAnswer.Found v) = v .offset
+startOf (ValueAnswer.Refused r) = 0
+
 unfoldable pub valueResult : Found → Value
 valueResult f = record { id = f .id; kind = f .kind; offset = f .offset; size = length (f .value) }
 

@@ -4,6 +4,8 @@ use mathlib.Core.Bool.{Bool, true, false}
 use mathlib.Core.List.{List, []}
 use lib.ListN.{length}
 use Rattle.wire.specs.declared.Limits.{Limits}
+use Rattle.wire.specs.Numbers.{pick}
+use Rattle.wire.specs.Places.{behind}
 use Rattle.wire.specs.Answers.{Answer, accepted, refused, onAccepted}
 use Rattle.avl.specs.Codecs.{widthsOf}
 use Rattle.avl.specs.DataField.{AvlData}
@@ -60,6 +62,11 @@ unfoldable pub view : Answer Found → List ℕ
 view (accepted f) = f .value
 view (refused r) = []
 
+-- where the view begins, counted from the input's start: with its value; an empty one with the input
+unfoldable pub viewOffset : Answer Found → ℕ
+viewOffset (accepted f) = f .offset
+viewOffset (refused r) = 0
+
 -- ---- the last known value
 
 pub record LastKnown : Type 0 where
@@ -80,3 +87,8 @@ orElse (refused r) b = b
 unfoldable pub lastKnown : ℕ → Answer Source → Answer Source → Answer LastKnown
 lastKnown id newer older =
     onAccepted newer (λ x. orElse (onAccepted (valueInLast id x) (λ f. accepted (record { older = false; found = f }))) (inOlder id older))
+
+-- the place of its view: in the packet that has the value; an empty one begins with the newer
+unfoldable pub knownPlace : Answer LastKnown → ℕ × ℕ → ℕ × ℕ → ℕ × ℕ
+knownPlace (accepted k) newer older = behind (pick (k .older) older newer) (k .found .offset)
+knownPlace (refused r) newer older = behind newer 0

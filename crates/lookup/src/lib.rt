@@ -7,10 +7,11 @@ use walk::DataWalk;
 use wire::Limits;
 use wire::Refusal;
 ghost use mathlib.Core.Path.{_≡_};
-ghost use Rattle.lookup.specs.Lookups.{tcpSource, udpSource, recordByNumber, valueByNumber, valueById, view, lastKnown};
+ghost use Rattle.lookup.specs.Lookups.{tcpSource, udpSource, recordByNumber, valueByNumber, valueById, view, viewOffset, lastKnown, knownPlace};
 ghost use Rattle.element.specs.Elements.{nth, firstWith};
 ghost use Rattle.wire.specs.Limits.{baseLimits};
-ghost use Rattle.lookup.specs.Answers.{recordAs, partAs, partOf, lastPart, PartIn, RecordIn, ValueIn, Reaches, shifted, Within, viewOf, answerValue, valueAs, answerKnown, knownAs, knownView};
+ghost use Rattle.wire.specs.Places.{behind};
+ghost use Rattle.lookup.specs.Answers.{recordAs, partAs, partOf, lastPart, PartIn, RecordIn, ValueIn, Reaches, shifted, Within, viewOf, startOf, answerValue, valueAs, answerKnown, knownAs, knownView};
 
 pub enum RecordAnswer {
     Fields(RecordFields),
@@ -219,7 +220,8 @@ pub fn id_in_datagram(p: &[u8], n: usize, id: u16) -> ValueAnswer
 
 fn view_of(p: &[u8], answer: ValueAnswer) -> &[u8]
     requires { ⌜ Within (now p) answer ⌝ }
-    ensures { λ r. ⌜ now r ≡ viewOf (now (p .entry)) answer ⌝ }
+    ensures bytes { λ r. ⌜ now r ≡ viewOf (now (p .entry)) answer ⌝ }
+    ensures place { λ r. ⌜ r .ptr ≡ behind (p .entry .ptr) (startOf answer) ⌝ }
 {
     match answer {
         ValueAnswer::Refused(_) => &p[0..0],
@@ -232,25 +234,29 @@ fn view_of(p: &[u8], answer: ValueAnswer) -> &[u8]
 }
 
 pub fn view_in_packet(p: &[u8], n: usize, k: usize) -> &[u8]
-    ensures { λ r. ⌜ now r ≡ view (valueByNumber (tcpSource baseLimits (now (p .entry))) n k) ⌝ }
+    ensures bytes { λ r. ⌜ now r ≡ view (valueByNumber (tcpSource baseLimits (now (p .entry))) n k) ⌝ }
+    ensures place { λ r. ⌜ r .ptr ≡ behind (p .entry .ptr) (viewOffset (valueByNumber (tcpSource baseLimits (now (p .entry))) n k)) ⌝ }
 {
     view_of(p, value_in_packet(p, n, k))
 }
 
 pub fn view_in_datagram(p: &[u8], n: usize, k: usize) -> &[u8]
-    ensures { λ r. ⌜ now r ≡ view (valueByNumber (udpSource baseLimits (now (p .entry))) n k) ⌝ }
+    ensures bytes { λ r. ⌜ now r ≡ view (valueByNumber (udpSource baseLimits (now (p .entry))) n k) ⌝ }
+    ensures place { λ r. ⌜ r .ptr ≡ behind (p .entry .ptr) (viewOffset (valueByNumber (udpSource baseLimits (now (p .entry))) n k)) ⌝ }
 {
     view_of(p, value_in_datagram(p, n, k))
 }
 
 pub fn id_view_in_packet(p: &[u8], n: usize, id: u16) -> &[u8]
-    ensures { λ r. ⌜ now r ≡ view (valueById (tcpSource baseLimits (now (p .entry))) n id) ⌝ }
+    ensures bytes { λ r. ⌜ now r ≡ view (valueById (tcpSource baseLimits (now (p .entry))) n id) ⌝ }
+    ensures place { λ r. ⌜ r .ptr ≡ behind (p .entry .ptr) (viewOffset (valueById (tcpSource baseLimits (now (p .entry))) n id)) ⌝ }
 {
     view_of(p, id_in_packet(p, n, id))
 }
 
 pub fn id_view_in_datagram(p: &[u8], n: usize, id: u16) -> &[u8]
-    ensures { λ r. ⌜ now r ≡ view (valueById (udpSource baseLimits (now (p .entry))) n id) ⌝ }
+    ensures bytes { λ r. ⌜ now r ≡ view (valueById (udpSource baseLimits (now (p .entry))) n id) ⌝ }
+    ensures place { λ r. ⌜ r .ptr ≡ behind (p .entry .ptr) (viewOffset (valueById (udpSource baseLimits (now (p .entry))) n id)) ⌝ }
 {
     view_of(p, id_in_datagram(p, n, id))
 }
@@ -277,7 +283,8 @@ pub fn last_known(newer: &[u8], older: &[u8], id: u16) -> KnownAnswer
 }
 
 pub fn last_known_view<'a>(newer: &'a [u8], older: &'a [u8], id: u16) -> &'a [u8]
-    ensures { λ r. ⌜ now r ≡ knownView (lastKnown id (tcpSource baseLimits (now (newer .entry))) (tcpSource baseLimits (now (older .entry)))) ⌝ }
+    ensures bytes { λ r. ⌜ now r ≡ knownView (lastKnown id (tcpSource baseLimits (now (newer .entry))) (tcpSource baseLimits (now (older .entry)))) ⌝ }
+    ensures place { λ r. ⌜ r .ptr ≡ knownPlace (lastKnown id (tcpSource baseLimits (now (newer .entry))) (tcpSource baseLimits (now (older .entry)))) (newer .entry .ptr) (older .entry .ptr) ⌝ }
 {
     match last_known(newer, older, id) {
         KnownAnswer::Refused(_) => &newer[0..0],

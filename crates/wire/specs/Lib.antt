@@ -1,5 +1,6 @@
 pub mod Numbers
 pub mod Limits
+pub mod Places
 pub mod Sequences
 pub mod Envelope
 pub mod Reading

@@ -5,9 +5,10 @@ use mathlib.Core.Path.{_≡_, sym, ap, _∙_}
 use lib.ListN.{length, take, drop}
 use borrow.Author.Needs.{needs}
 use Rattle.wire.specs.Limits.{baseLimits}
+use Rattle.wire.specs.Places.{behind}
 use Rattle.wire.specs.Answers.{accepted}
 use Rattle.wire.proofs.Widths.{getD-bytes}
-use Rattle.command.specs.Commands.{Command, readCommand, textView, commandAs}
+use Rattle.command.specs.Commands.{Command, readCommand, textView, textOffset, commandAs}
 use Rattle.command.proofs.TextLaws.{text-stands, text-refused}
 use Rattle.command.proofs.command_text.Statement.{statement}
 use Rattle.command.proofs.command_text.Tie as tie
@@ -50,16 +51,21 @@ part-result-end-2 : tie.Need-part-result-end-2
 part-result-end-2 c = search needs
 
 returns : tie.Need-returns
-unfolding textView
+unfolding textView textOffset commandAs
 returns c =
     let f = c .before .before .before .f .given .0 .0 in
     let t = text (c .before) in
     let size : f .offset + f .size - f .offset ≡ f .size = omega arith in
-    ap (λ (n : ℕ). take n (drop (f .offset) (c .before .before .before .before .before .before .before .args .p .now))) size ∙ t .2 ∙ sym (ap textView (t .1))
+    let args = c .before .before .before .before .before .before .before .args in
+    let fields = sym (c .before .before .before .before .before .read-command .ensures) ∙ ap commandAs (c .before .before .before .f .given .1) in
+    (ap (λ (n : ℕ). take n (drop (f .offset) (args .p .now))) size ∙ t .2 ∙ sym (ap textView (t .1)), ap (behind (args .p .ptr)) (sym (ap textOffset fields)))
 
 returns-2 : tie.Need-returns-2
-unfolding commandAs
-returns-2 c = sym (text-refused _ (c .before .before .before .before .before .args .p .now) (getD-bytes (c .before .before .before .before .before .args .p .now) (λ i. c .before .before .before .before .shared-slice-known .given i .fits)) (sym (c .before .before .before .read-command .ensures) ∙ ap commandAs (c .before .enum-told .given .1)))
+unfolding textOffset commandAs
+returns-2 c =
+    let p = c .before .before .before .before .before .args .p in
+    let refusal = sym (c .before .before .before .read-command .ensures) ∙ ap commandAs (c .before .enum-told .given .1) in
+    (sym (text-refused _ (p .now) (getD-bytes (p .now) (λ i. c .before .before .before .before .shared-slice-known .given i .fits)) refusal), ap (behind (p .ptr)) (sym (ap textOffset refusal)))
 
 pub command-text-spec : {M : Type 1} → statement M
 command-text-spec =

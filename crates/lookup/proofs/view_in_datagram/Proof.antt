@@ -1,10 +1,11 @@
-use mathlib.Core.Path.{_∙_}
+use mathlib.Core.Path.{ap, _∙_}
+use Rattle.wire.specs.Places.{behind}
 use Rattle.wire.specs.Limits.{baseLimits}
 use Rattle.wire.proofs.Widths.{getD-bytes}
 use Rattle.element.specs.Elements.{nth}
 use Rattle.lookup.specs.Lookups.{valueByNumber}
 use Rattle.lookup.proofs.PlaceLaws.{udp-stored, nth-member}
-use Rattle.lookup.proofs.PartLaws.{value-view}
+use Rattle.lookup.proofs.PartLaws.{value-view, view-start}
 use borrow.Author.Needs.{needs}
 use Rattle.lookup.proofs.view_in_datagram.Statement.{statement}
 use Rattle.lookup.proofs.view_in_datagram.Tie as tie
@@ -18,7 +19,7 @@ view-of-requires c κs = value-view (λ x. udp-stored baseLimits (c .before .bef
 
 returns : tie.Need-returns
 unfolding valueByNumber
-returns c = c .view-of .ensures ∙ value-view (λ x. udp-stored baseLimits (c .before .before .before .args .p .now) x (getD-bytes (c .before .before .before .args .p .now) (λ k. c .before .before .shared-slice-known .given k .fits))) (λ x. c .before .before .before .args .n) (nth (c .before .before .before .args .k)) (nth-member (c .before .before .before .args .k)) _ (c .before .value-in-datagram .ensures) .1
+returns c = (c .view-of .ensures .0 ∙ value-view (λ x. udp-stored baseLimits (c .before .before .before .args .p .now) x (getD-bytes (c .before .before .before .args .p .now) (λ k. c .before .before .shared-slice-known .given k .fits))) (λ x. c .before .before .before .args .n) (nth (c .before .before .before .args .k)) (nth-member (c .before .before .before .args .k)) _ (c .before .value-in-datagram .ensures) .1, c .view-of .ensures .1 ∙ ap (behind (c .before .before .before .args .p .ptr)) (view-start _ _ (c .before .value-in-datagram .ensures)))
 
 pub view-in-datagram-spec : {M : Type 1} → statement M
 view-in-datagram-spec = tie.close (tie.spec value-in-datagram-requires view-of-requires returns)
