@@ -1,3 +1,4 @@
 pub mod Demand3Proof
 pub mod BenchSheetProof
 pub mod ExamplesProof
+pub mod Demand2Proof

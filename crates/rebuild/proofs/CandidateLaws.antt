@@ -17,7 +17,7 @@ use Rattle.wire.specs.Sequences.{joined}
 use Rattle.wire.specs.Answers.{Answer, accepted, refused, onAccepted, refusal}
 use Rattle.wire.specs.Buffers.{writing, leaving, writtenAs}
 use Rattle.wire.specs.declared.Written.{Written}
-use Rattle.wire.proofs.BufferLaws.{sets-front, writing-done, writing-short, leaving-done, leaving-short}
+use Rattle.wire.proofs.BufferLaws.{written-fits, sets-front, writing-done, writing-short, leaving-done, leaving-short}
 use Rattle.wire.proofs.Storing.{drop-sets, drop-at-sets}
 use Rattle.wire.proofs.Enclosed.{length-enclosed}
 use Rattle.wire.proofs.Accepting.{pick-true, pick-false, pick-either, check-accepted, check-passed, check-failed, onAccepted-accepted, onAccepted-passed}
@@ -201,20 +201,11 @@ form-refused longest d g f {x} b l room e = go (formOfField longest d) refl
         absurd (let z : _≡_ {A = ℕ} 0 1 = cc in omega arith)
     go (refused y) is = sym (ap (λ r. hasForm r f) is)
 
-pub form-fits : (result : Answer (List ℕ)) (before : List ℕ) {n : ℕ} → accepted n ≡ writing result before → (g : List ℕ) × (result ≡ accepted g) × (length g ≡ n) × (n ≤ length before)
-unfolding writing onAccepted
-form-fits (accepted g) before {n} e =
-    let c = check-accepted (leb (length g) (length before)) 18 (accepted (length g)) (sym e) in
-    let fits = leb-true (length g) (length before) (c .0) in
-    let size : length g ≡ n = cc in
-    (g, refl, size, omega arith)
-form-fits (refused y) before {n} e = absurd (let z : _≡_ {A = ℕ} 0 1 = cc in omega arith)
-
 pub form-written : (result : Answer (List ℕ)) (before after f : List ℕ) {n : ℕ} → accepted n ≡ writing result before → after ≡ leaving result before
     → same (take (n - 0) (drop 0 after)) f ≡ hasForm result f
 unfolding hasForm
 form-written result before after f {n} e k =
-    let g = form-fits result before e in
+    let g = written-fits result before e in
     let left = k ∙ ap (λ r. leaving r before) (g .1) ∙ leaving-done (g .0) before (omega (arith, g .2, g .3)) in
     ap (λ (x : List ℕ). same (take (n - 0) x) f) left ∙ ap (λ (x : List ℕ). same x f) (take-at (g .0) _ (n - 0) (omega (arith, g .2))) ∙ sym (ap (λ r. hasForm r f) (g .1))
 

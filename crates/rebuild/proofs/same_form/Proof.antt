@@ -1,7 +1,8 @@
-use Rattle.rebuild.proofs.CandidateLaws.{form-over, form-within, form-refused, form-fits, form-written}
+use Rattle.rebuild.proofs.CandidateLaws.{form-over, form-within, form-refused, form-written}
 use Rattle.rebuild.specs.Candidates.{hasForm}
 use Rattle.form.specs.Moves.{formOfField}
 use Rattle.wire.proofs.Widths.{getD-bytes}
+use Rattle.wire.proofs.BufferLaws.{written-fits}
 use Rattle.wire.specs.Buffers.{writtenAs}
 use mathlib.Core.Path.{sym, ap, _∙_}
 use native.Mathlib.Omega.{arith}
@@ -34,7 +35,7 @@ part-equal-end : tie.Need-part-equal-end
 unfolding writtenAs
 part-equal-end c =
     let args = c .before .before .before .before .before .before .before .before .before .before .before .before .before .args in
-    let h = form-fits (formOfField (args .limits .longest) (args .d .now)) _ (sym (ap writtenAs (c .before .before .n .given .1)) ∙ c .before .before .before .before .before .before .form-of-field .ensures .0) in
+    let h = written-fits (formOfField (args .limits .longest) (args .d .now)) _ (sym (ap writtenAs (c .before .before .n .given .1)) ∙ c .before .before .before .before .before .before .form-of-field .ensures .0) in
     omega (arith, h .3)
 
 equal-requires : tie.Need-equal-requires
