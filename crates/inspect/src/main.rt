@@ -96,6 +96,13 @@ fn run_on(task: Task, p: &[u8]) {
     }
 }
 
+// Hex text with an odd number of digits.
+fn odd(digits: usize) {
+    fail(b"inspect: hex text has an odd number of digits: ");
+    io::print_decimal(STDERR_FILENO, digits as u64);
+    fail(b"\n");
+}
+
 // Hex text is what has hex digits and white space alone, so nothing that is accepted is taken for it:
 // a TCP packet and a login start with 00, a TLV form with 01, a datagram with 00 to 04.
 fn run_on_text(task: Task, s: &[u8]) {
@@ -103,7 +110,7 @@ fn run_on_text(task: Task, s: &[u8]) {
         Kind::Raw => run_on(task, s),
         Kind::Hex(digits) => {
             if digits % 2 == 1 {
-                return input::odd(digits);
+                return odd(digits);
             }
             let mut bytes = [0u8; 32768];
             let n = text::decode(s, &mut bytes);

@@ -1,0 +1,3 @@
+pub mod FirstBytes
+pub mod Words
+pub mod Reading
