@@ -1,6 +1,10 @@
 // The words and the input: a word among those known, a file read to its end, and the kind of what it holds.
+ghost use mathlib.Core.Path.{_≡_};
+ghost use Prim.Native.Nat.{_≤_};
+ghost use Rattle.inspect.specs.FirstBytes.{shows, isTcp, isLogin, isCommand, isForm, kindOf};
+ghost use Rattle.inspect.specs.Words.{wordsOf, placeOf, PlaceOfSome};
+ghost use Rattle.inspect.specs.Reading.{ReadInto};
 use crate::Task;
-use libc::STDERR_FILENO;
 use libc::STDIN_FILENO;
 
 // What was read: a number of bytes, more than there is room for, or nothing, for a reason that
@@ -12,7 +16,9 @@ pub enum Input {
 }
 
 // Reads to the end. A buffer that is filled was too short.
-fn read_all(fd: i32, name: &[u8], buf: &mut [u8]) -> Input {
+fn read_all(fd: i32, name: &[u8], buf: &mut [u8]) -> Input
+    ensures { λ r. ⌜ ReadInto (now (buf .entry)) (now (buf .exit)) r ⌝ }
+{
     let mut n: usize = 0;
     while n < buf.len() {
         let got = libc::read(fd, &mut buf[n..]);
@@ -30,7 +36,9 @@ fn read_all(fd: i32, name: &[u8], buf: &mut [u8]) -> Input {
 }
 
 // The place of a word among words that each end in a space; their number if it is none of them.
-fn place_of(w: &[u8], words: &[u8]) -> usize {
+fn place_of(w: &[u8], words: &[u8]) -> usize
+    ensures { λ r. ⌜ r ≡ placeOf (now (w .entry)) (wordsOf (now (words .entry))) ⌝ }
+{
     let mut n: usize = 0;
     let mut start: usize = 0;
     let mut i: usize = 0;
@@ -48,14 +56,19 @@ fn place_of(w: &[u8], words: &[u8]) -> usize {
     n
 }
 
-pub fn place_of_word(i: usize, words: &[u8]) -> usize {
+// The place of argument `i`; one that is missing or has over 16 bytes counts as an empty word.
+pub fn place_of_word(i: usize, words: &[u8]) -> usize
+    ensures { λ r. ⌜ PlaceOfSome 16 (now (words .entry)) r ⌝ }
+{
     let mut w = [0u8; 16];
     let n = os::arg(i, &mut w);
     place_of(&w[..n], words)
 }
 
 // Reads the file that word `i` names; "-" and no word are standard input.
-pub fn read_word(i: usize, buf: &mut [u8]) -> Input {
+pub fn read_word(i: usize, buf: &mut [u8]) -> Input
+    ensures { λ r. ⌜ ReadInto (now (buf .entry)) (now (buf .exit)) r ⌝ }
+{
     let mut path = io::buffer();
     let n = os::arg(i, &mut path);
     let named = os::errno();
@@ -69,7 +82,9 @@ pub fn read_word(i: usize, buf: &mut [u8]) -> Input {
     Input::Failed
 }
 
-fn read_path(path: &[u8], buf: &mut [u8]) -> Input {
+fn read_path(path: &[u8], buf: &mut [u8]) -> Input
+    ensures { λ r. ⌜ ReadInto (now (buf .entry)) (now (buf .exit)) r ⌝ }
+{
     if check::same(path, b"-") {
         return read_all(STDIN_FILENO, b"standard input", buf);
     }
@@ -83,53 +98,68 @@ fn read_path(path: &[u8], buf: &mut [u8]) -> Input {
     input
 }
 
-// Hex text with an odd number of digits.
-pub fn odd(digits: usize) {
-    io::write_all(
-        STDERR_FILENO,
-        b"inspect: hex text has an odd number of digits: ",
-    );
-    io::print_decimal(STDERR_FILENO, digits as u64);
-    io::write_all(STDERR_FILENO, b"\n");
+// ---- the kind of an input, by its first bytes
+
+fn shows(p: &[u8], at: usize, w: usize, n: u64) -> bool
+    requires { ⌜ (at ≤ 8) × (w ≤ 8) ⌝ }
+    ensures { λ r. ⌜ r ≡ shows (now (p .entry)) at w n ⌝ }
+{
+    if at + w <= p.len() {
+        return wire::number(p, at, w) == n;
+    }
+    false
 }
 
-// The `w` bytes at `at` as a number; a number that no bytes give where they are not there.
-fn number_at(p: &[u8], at: usize, w: usize) -> u64 {
-    if 8 < at {
-        return u64::MAX;
-    }
-    if 4 < w {
-        return u64::MAX;
-    }
-    if p.len() < at + w {
-        return u64::MAX;
-    }
-    wire::number(p, at, w)
+pub fn is_tcp(p: &[u8]) -> bool
+    ensures { λ r. ⌜ r ≡ isTcp (now (p .entry)) ⌝ }
+{
+    shows(p, 0, 4, 0)
 }
 
-pub fn is_tcp(p: &[u8]) -> bool {
-    number_at(p, 0, 4) == 0
+fn is_login(p: &[u8]) -> bool
+    ensures { λ r. ⌜ r ≡ isLogin (now (p .entry)) ⌝ }
+{
+    if p.len() == 17 {
+        return shows(p, 0, 2, 0x000F);
+    }
+    false
 }
 
-// 17 bytes that start 00 0F: a login. Four zero bytes: a TCP packet, and the codec, at 8, tells a
-// command from data. 01 00 64 00: a TLV form, unless an IMEI's length stands at 6, as in a
-// datagram of 258 bytes with packet ID 6400. Anything else: a datagram.
-pub fn found(p: &[u8]) -> Task {
-    if p.len() == 17 && number_at(p, 0, 2) == 0x000F {
+fn is_command(p: &[u8]) -> bool
+    ensures { λ r. ⌜ r ≡ isCommand (now (p .entry)) ⌝ }
+{
+    if shows(p, 8, 1, 0x0C) {
+        return true;
+    }
+    shows(p, 8, 1, 0x0E)
+}
+
+fn is_form(p: &[u8]) -> bool
+    ensures { λ r. ⌜ r ≡ isForm (now (p .entry)) ⌝ }
+{
+    if shows(p, 0, 4, 0x0100_6400) {
+        if shows(p, 6, 2, 0x000F) {
+            return false;
+        }
+        return true;
+    }
+    false
+}
+
+pub fn found(p: &[u8]) -> Task
+    ensures { λ r. ⌜ r ≡ kindOf (now (p .entry)) ⌝ }
+{
+    if is_login(p) {
         return Task::Login;
     }
     if is_tcp(p) {
-        return tcp_task(number_at(p, 8, 1));
+        if is_command(p) {
+            return Task::Command;
+        }
+        return Task::Packet;
     }
-    if number_at(p, 0, 4) == 0x0100_6400 && number_at(p, 6, 2) != 0x000F {
+    if is_form(p) {
         return Task::Form;
     }
     Task::Datagram
-}
-
-fn tcp_task(codec: u64) -> Task {
-    match codec {
-        0x0C | 0x0E => Task::Command,
-        _ => Task::Packet,
-    }
 }

@@ -2,6 +2,9 @@
 // into TLV forms and back; writes commands. `usage` says with which words.
 mod input;
 
+ghost use mathlib.Core.Path.{_≡_};
+ghost use Rattle.inspect.specs.declared.Task.{Task};
+ghost use Rattle.inspect.specs.Runs.{refusalBy};
 use input::Input;
 use libc::STDERR_FILENO;
 use libc::STDOUT_FILENO;
@@ -64,7 +67,10 @@ fn task_of(i: usize) -> Task {
     }
 }
 
-fn run(task: Task, p: &[u8]) {
+// Does a task on an input; the number of the refusal that it says, 0 if none.
+fn run(task: Task, p: &[u8]) -> usize
+    ensures { λ r. ⌜ r ≡ refusalBy task (now (p .entry)) ⌝ }
+{
     match task {
         Task::Packet => report::show_packet(p),
         Task::Datagram => report::show_datagram(p),
@@ -73,11 +79,16 @@ fn run(task: Task, p: &[u8]) {
         Task::Form => report::show_form(p),
         Task::FormOf => run_form_of(p),
         Task::PacketOf => report::say_packet_of(p),
-        _ => {}
+        Task::Auto => 0,
+        Task::Write => 0,
+        Task::Help => 0,
+        Task::Unknown => 0,
     }
 }
 
-fn run_form_of(p: &[u8]) {
+fn run_form_of(p: &[u8]) -> usize
+    ensures { λ r. ⌜ r ≡ refusalBy Task.FormOf (now (p .entry)) ⌝ }
+{
     if input::is_tcp(p) {
         return report::say_form_of_packet(p);
     }
@@ -90,10 +101,19 @@ fn run_on(task: Task, p: &[u8]) {
             if p.len() == 0 {
                 return fail(b"inspect: the input is empty\n");
             }
-            run(input::found(p), p)
+            run(input::found(p), p);
         }
-        _ => run(task, p),
+        _ => {
+            run(task, p);
+        }
     }
+}
+
+// Hex text with an odd number of digits.
+fn odd(digits: usize) {
+    fail(b"inspect: hex text has an odd number of digits: ");
+    io::print_decimal(STDERR_FILENO, digits as u64);
+    fail(b"\n");
 }
 
 // Hex text is what has hex digits and white space alone, so nothing that is accepted is taken for it:
@@ -103,7 +123,7 @@ fn run_on_text(task: Task, s: &[u8]) {
         Kind::Raw => run_on(task, s),
         Kind::Hex(digits) => {
             if digits % 2 == 1 {
-                return input::odd(digits);
+                return odd(digits);
             }
             let mut bytes = [0u8; 32768];
             let n = text::decode(s, &mut bytes);

@@ -1,6 +1,10 @@
 // What is in an input, in words on standard output, one function for each kind; and what it turns into.
+// Each answers the number of the refusal that it says, 0 if none.
 mod records;
 
+ghost use mathlib.Core.Path.{_≡_};
+ghost use Rattle.wire.specs.Buffers.{writtenAs};
+ghost use Rattle.report.specs.Shown.{refusalOf, packetRefusal, datagramRefusal, loginRefusal, commandRefusal, packetOfFormRefusal, formOfPacketRefusal, formOfDatagramRefusal, writeRefusal};
 use command::CommandAnswer;
 use command::CommandFields;
 use datagram::DatagramAnswer;
@@ -41,13 +45,18 @@ lent buffer too short for the result\n",
     );
 }
 
-fn refuse(r: Refusal) {
+fn refuse(r: Refusal) -> usize
+    ensures { λ n. ⌜ n ≡ r .number ⌝ }
+{
     say(b"refused: %1: ", &[r.number as u64]);
     say_meaning(r.number);
+    r.number
 }
 
 // The refusal of data: the record's index goes with 8 to 12.
-fn refuse_data(r: Refusal) {
+fn refuse_data(r: Refusal) -> usize
+    ensures { λ n. ⌜ n ≡ r .number ⌝ }
+{
     if r.number < 8 || 12 < r.number {
         return refuse(r);
     }
@@ -56,6 +65,7 @@ fn refuse_data(r: Refusal) {
         &[r.number as u64, r.index as u64],
     );
     say_meaning(r.number);
+    r.number
 }
 
 fn say_hex_line(s: &[u8]) {
@@ -65,9 +75,10 @@ fn say_hex_line(s: &[u8]) {
 
 fn say_codec(codec: u8) {
     if codec == 0x8E {
-        return say(b", codec 8 Extended", &[]);
+        say(b", codec 8 Extended", &[]);
+    } else {
+        say(b", codec %1", &[codec as u64]);
     }
-    say(b", codec %1", &[codec as u64]);
 }
 
 // 1 where a word has its plural.
@@ -83,7 +94,9 @@ fn say_counts(codec: u8, count: u8, size: usize, answer: &[u8]) {
     say_hex_line(answer);
 }
 
-pub fn show_packet(p: &[u8]) {
+pub fn show_packet(p: &[u8]) -> usize
+    ensures { λ r. ⌜ r ≡ packetRefusal (now (p .entry)) ⌝ }
+{
     match packet::read_packet(p) {
         PacketAnswer::Refused(r) => refuse_data(r),
         PacketAnswer::Accepted { codec, count } => {
@@ -92,11 +105,14 @@ pub fn show_packet(p: &[u8]) {
             say(b"TCP data packet", &[]);
             say_counts(codec, count, p.len(), &answer);
             say_records(false, p, codec, count);
+            0
         }
     }
 }
 
-pub fn show_datagram(p: &[u8]) {
+pub fn show_datagram(p: &[u8]) -> usize
+    ensures { λ r. ⌜ r ≡ datagramRefusal (now (p .entry)) ⌝ }
+{
     match datagram::read_datagram(p) {
         DatagramAnswer::Refused(r) => refuse_data(r),
         DatagramAnswer::Accepted {
@@ -110,6 +126,7 @@ pub fn show_datagram(p: &[u8]) {
             say_counts(codec, count, p.len(), &answer);
             say_header(header);
             say_records(true, p, codec, count);
+            0
         }
     }
 }
@@ -122,19 +139,24 @@ fn say_header(h: Header) {
     );
 }
 
-pub fn show_login(p: &[u8]) {
+pub fn show_login(p: &[u8]) -> usize
+    ensures { λ r. ⌜ r ≡ loginRefusal (now (p .entry)) ⌝ }
+{
     match login::read_login(p) {
         LoginAnswer::Refused(r) => refuse(r),
         LoginAnswer::Imei(imei) => {
             say(
                 b"TCP login, IMEI %F\nanswer 01 if the unit is known, else 00\n",
                 &[imei],
-            )
+            );
+            0
         }
     }
 }
 
-pub fn show_command(p: &[u8]) {
+pub fn show_command(p: &[u8]) -> usize
+    ensures { λ r. ⌜ r ≡ commandRefusal (now (p .entry)) ⌝ }
+{
     match command::read_command(p) {
         CommandAnswer::Refused(r) => refuse(r),
         CommandAnswer::Accepted(f) => {
@@ -143,6 +165,7 @@ pub fn show_command(p: &[u8]) {
             say(b"text ", &[]);
             say_quoted(command::command_text(p));
             say(b"\n", &[]);
+            0
         }
     }
 }
@@ -169,7 +192,9 @@ fn say_message(f: CommandFields) {
 }
 
 // The packet that a TLV form stands for.
-pub fn show_form(f: &[u8]) {
+pub fn show_form(f: &[u8]) -> usize
+    ensures { λ r. ⌜ r ≡ packetOfFormRefusal (now (f .entry)) ⌝ }
+{
     let mut p = [0u8; 1280];
     match rebuild::packet_of_form(f, &mut p) {
         Written::Refused(r) => refuse(r),
@@ -178,45 +203,57 @@ pub fn show_form(f: &[u8]) {
                 say(b"TLV form, %1 bytes, of this packet:\n", &[f.len() as u64]);
                 show_packet(&p[0..n]);
             }
+            0
         }
     }
 }
 
 // A writer's result.
-fn say_written(answer: Written, out: &[u8]) {
+fn say_written(answer: Written, out: &[u8]) -> usize
+    ensures { λ r. ⌜ r ≡ refusalOf (writtenAs answer) ⌝ }
+{
     match answer {
         Written::Refused(r) => refuse_data(r),
         Written::Bytes(n) => {
             if n <= out.len() {
                 say_hex_line(&out[0..n]);
             }
+            0
         }
     }
 }
 
 // The TLV form of a TCP data packet, and of a datagram.
-pub fn say_form_of_packet(p: &[u8]) {
+pub fn say_form_of_packet(p: &[u8]) -> usize
+    ensures { λ r. ⌜ r ≡ formOfPacketRefusal (now (p .entry)) ⌝ }
+{
     let mut out = [0u8; 12288];
     let answer = form::form_of_packet(p, &mut out);
-    say_written(answer, &out);
+    say_written(answer, &out)
 }
 
-pub fn say_form_of_datagram(p: &[u8]) {
+pub fn say_form_of_datagram(p: &[u8]) -> usize
+    ensures { λ r. ⌜ r ≡ formOfDatagramRefusal (now (p .entry)) ⌝ }
+{
     let mut out = [0u8; 12288];
     let answer = form::form_of_datagram(p, &mut out);
-    say_written(answer, &out);
+    say_written(answer, &out)
 }
 
 // The TCP data packet of a TLV form.
-pub fn say_packet_of(f: &[u8]) {
+pub fn say_packet_of(f: &[u8]) -> usize
+    ensures { λ r. ⌜ r ≡ packetOfFormRefusal (now (f .entry)) ⌝ }
+{
     let mut out = [0u8; 1280];
     let answer = rebuild::packet_of_form(f, &mut out);
-    say_written(answer, &out);
+    say_written(answer, &out)
 }
 
 // A command packet.
-pub fn say_command(codec: u8, kind: u8, imei: &[u8], text: &[u8]) {
+pub fn say_command(codec: u8, kind: u8, imei: &[u8], text: &[u8]) -> usize
+    ensures { λ r. ⌜ r ≡ writeRefusal codec kind (now (imei .entry)) (now (text .entry)) ⌝ }
+{
     let mut out = [0u8; 1280];
     let answer = command::write_command(codec, kind, imei, text, &mut out);
-    say_written(answer, &out);
+    say_written(answer, &out)
 }

@@ -1,4 +1,7 @@
 // The records of a TCP data packet or a datagram.
+ghost use mathlib.Core.Path.{_≡_};
+ghost use Rattle.lookup.specs.Answers.{recordAs};
+ghost use Rattle.report.specs.Shown.{recordOf, oneIf, recordsSaid};
 use element::RecordFields;
 use element::Value;
 use lookup::RecordAnswer;
@@ -7,25 +10,38 @@ use say::say;
 use say::say_hex;
 use say::say_quoted;
 
-pub fn say_records(udp: bool, p: &[u8], codec: u8, count: u8) {
+// The records 0 to `count` - 1; how many of them there are.
+pub fn say_records(udp: bool, p: &[u8], codec: u8, count: u8) -> usize
+    ensures { λ r. ⌜ r ≡ recordsSaid udp (now (p .entry)) count ⌝ }
+{
+    let mut said: usize = 0;
     let mut n: u8 = 0;
     while n < count {
-        say_record(udp, p, codec, n as usize);
+        said += say_record(udp, p, codec, n as usize);
         n += 1;
     }
+    said
 }
 
-fn say_record(udp: bool, p: &[u8], codec: u8, n: usize) {
-    if let RecordAnswer::Fields(f) = record_at(udp, p, n) {
-        say_time(n as u64, f.timestamp);
-        say_origin(codec, f);
-        say_position(f);
-        say_motion(f);
-        say_values(udp, p, n, f.elements);
+fn say_record(udp: bool, p: &[u8], codec: u8, n: usize) -> usize
+    ensures { λ r. ⌜ r ≡ oneIf (recordOf udp (now (p .entry)) n) ⌝ }
+{
+    match record_at(udp, p, n) {
+        RecordAnswer::Refused(_) => 0,
+        RecordAnswer::Fields(f) => {
+            say_time(n as u64, f.timestamp);
+            say_origin(codec, f);
+            say_position(f);
+            say_motion(f);
+            say_values(udp, p, n, f.elements);
+            1
+        }
     }
 }
 
-fn record_at(udp: bool, p: &[u8], n: usize) -> RecordAnswer {
+fn record_at(udp: bool, p: &[u8], n: usize) -> RecordAnswer
+    ensures { λ r. ⌜ recordAs r ≡ recordOf udp (now (p .entry)) n ⌝ }
+{
     if udp {
         return lookup::record_in_datagram(p, n);
     }
@@ -35,7 +51,8 @@ fn record_at(udp: bool, p: &[u8], n: usize) -> RecordAnswer {
 // The record's number and its time: milliseconds since 1970, and their date before the year 10000.
 fn say_time(n: u64, ms: u64) {
     if 253_402_300_799_999 < ms {
-        return say(b"record %1  time %1", &[n, ms]);
+        say(b"record %1  time %1", &[n, ms]);
+        return;
     }
     let d = text::date_of(ms / 86_400_000);
     say(b"record %1  %4-%2-%2", &[n, d.year, d.month, d.day]);

@@ -1,29 +1,30 @@
-// Text on standard output: with numbers in it, as hex text, between quotes.
+// Text on standard output: with numbers in it, as hex text, between quotes. What is said is put on a
+// page or found in a text by functions whose promises say it byte by byte. No contract can speak of
+// what goes to a descriptor: the functions that write answer how many of those bytes they hand over.
+ghost use mathlib.Core.Path.{_≡_};
+ghost use mathlib.Core.List.{[], _∷_};
+ghost use Prim.Native.Nat.{_-_, _*_, min};
+ghost use lib.ListN.{length, getD, replicate};
+ghost use Rattle.say.specs.Page.{OnPage};
+ghost use Rattle.say.specs.Rendering.{padded, widthOf, shown, isMark, rendered, isPlain, quotable, quoted};
+ghost use Rattle.say.specs.Lines.{lineLength, lineOf};
 use libc::STDOUT_FILENO;
 
-pub fn write(s: &[u8]) {
-    let done = io::write_all(STDOUT_FILENO, s);
-    if !done {
-        os::fail(b"standard output");
-    }
-}
+// ---- a page; each function answers where it goes on
 
-// ---- a page, which is written whenever it is full; each function answers where it goes on
-
-fn put(page: &mut [u8], at: usize, b: u8) -> usize {
+fn put(page: &mut [u8], at: usize, b: u8) -> usize
+    ensures { λ r. ⌜ OnPage (b ∷ []) (now (page .entry)) at (now (page .exit)) r ⌝ }
+{
     if at < page.len() {
         page[at] = b;
         return at + 1;
     }
-    write(page);
-    if 0 < page.len() {
-        page[0] = b;
-        return 1;
-    }
-    0
+    at
 }
 
-fn put_text(page: &mut [u8], at: usize, s: &[u8]) -> usize {
+fn put_text(page: &mut [u8], at: usize, s: &[u8]) -> usize
+    ensures { λ r. ⌜ OnPage (now (s .entry)) (now (page .entry)) at (now (page .exit)) r ⌝ }
+{
     let mut to = at;
     let mut i: usize = 0;
     while i < s.len() {
@@ -33,7 +34,9 @@ fn put_text(page: &mut [u8], at: usize, s: &[u8]) -> usize {
     to
 }
 
-fn put_times(page: &mut [u8], at: usize, b: u8, times: usize) -> usize {
+fn put_times(page: &mut [u8], at: usize, b: u8, times: usize) -> usize
+    ensures { λ r. ⌜ OnPage (replicate times b) (now (page .entry)) at (now (page .exit)) r ⌝ }
+{
     let mut to = at;
     let mut left = times;
     while 0 < left {
@@ -43,12 +46,16 @@ fn put_times(page: &mut [u8], at: usize, b: u8, times: usize) -> usize {
     to
 }
 
-fn less(a: usize, b: usize) -> usize {
+fn less(a: usize, b: usize) -> usize
+    ensures { λ r. ⌜ r ≡ a - b ⌝ }
+{
     if b < a { a - b } else { 0 }
 }
 
 // A number, with `pad` in front up to `width`.
-fn put_padded(page: &mut [u8], at: usize, n: u64, width: usize, pad: u8) -> usize {
+fn put_padded(page: &mut [u8], at: usize, n: u64, width: usize, pad: u8) -> usize
+    ensures { λ r. ⌜ OnPage (padded width pad n) (now (page .entry)) at (now (page .exit)) r ⌝ }
+{
     let mut digits = [0u8; 20];
     let k = io::decimal(n, &mut digits);
     let to = put_times(page, at, pad, less(width, k));
@@ -56,31 +63,51 @@ fn put_padded(page: &mut [u8], at: usize, n: u64, width: usize, pad: u8) -> usiz
 }
 
 // The width that a character means: 1 to 9, A for 10 to F for 15.
-fn width_of(c: u8) -> usize {
+fn width_of(c: u8) -> usize
+    ensures { λ r. ⌜ r ≡ widthOf c ⌝ }
+{
     if c < 65 {
         return less(c as usize, 48);
     }
     less(c as usize, 55)
 }
 
-fn put_number(page: &mut [u8], at: usize, mark: u8, c: u8, n: u64) -> usize {
-    match mark {
-        b'%' => put_padded(page, at, n, width_of(c), b'0'),
-        b'~' => put_padded(page, at, n, width_of(c), b' '),
-        _ => put_times(page, at, c, n as usize),
+fn put_number(page: &mut [u8], at: usize, mark: u8, c: u8, n: u64) -> usize
+    ensures { λ r. ⌜ OnPage (shown mark c n) (now (page .entry)) at (now (page .exit)) r ⌝ }
+{
+    if mark == b'%' {
+        return put_padded(page, at, n, width_of(c), b'0');
     }
+    if mark == b'~' {
+        return put_padded(page, at, n, width_of(c), b' ');
+    }
+    put_times(page, at, c, n as usize)
 }
 
 // The number k, or 0.
-fn number_at(numbers: &[u64], k: usize) -> u64 {
+fn number_at(numbers: &[u64], k: usize) -> u64
+    ensures { λ r. ⌜ r ≡ getD (now (numbers .entry)) k 0 ⌝ }
+{
     if k < numbers.len() { numbers[k] } else { 0 }
 }
 
-fn is_mark(c: u8) -> bool {
-    c == b'%' || c == b'~' || c == b'^'
+fn is_mark(c: u8) -> bool
+    ensures { λ r. ⌜ r ≡ isMark c ⌝ }
+{
+    if c == b'%' {
+        return true;
+    }
+    if c == b'~' {
+        return true;
+    }
+    c == b'^'
 }
 
-fn put_with(page: &mut [u8], s: &[u8], numbers: &[u64]) -> usize {
+// Text with numbers in it, each for two characters: %w is the number with zeros in front up to w
+// digits, ~w the same with spaces, and ^c the character c as often as the number says.
+pub fn render(page: &mut [u8], s: &[u8], numbers: &[u64]) -> usize
+    ensures { λ r. ⌜ OnPage (rendered (now (s .entry)) (now (numbers .entry))) (now (page .entry)) 0 (now (page .exit)) r ⌝ }
+{
     let mut to: usize = 0;
     let mut k: usize = 0;
     let mut i: usize = 0;
@@ -100,9 +127,23 @@ fn put_with(page: &mut [u8], s: &[u8], numbers: &[u64]) -> usize {
     to
 }
 
+fn is_plain(b: u8) -> bool
+    ensures { λ r. ⌜ r ≡ isPlain b ⌝ }
+{
+    if b == b'"' {
+        return false;
+    }
+    if b == b'\\' {
+        return false;
+    }
+    text::is_printable(b)
+}
+
 // A printable byte as it is, but quote and backslash; every other one as \xNN.
-fn put_quotable(page: &mut [u8], at: usize, b: u8) -> usize {
-    if text::is_printable(b) && b != b'"' && b != b'\\' {
+fn put_quotable(page: &mut [u8], at: usize, b: u8) -> usize
+    ensures { λ r. ⌜ OnPage (quotable b) (now (page .entry)) at (now (page .exit)) r ⌝ }
+{
+    if is_plain(b) {
         return put(page, at, b);
     }
     let mut digits = [0u8; 2];
@@ -111,7 +152,10 @@ fn put_quotable(page: &mut [u8], at: usize, b: u8) -> usize {
     put_text(page, to, &digits)
 }
 
-fn put_quoted(page: &mut [u8], s: &[u8]) -> usize {
+// Text between quotes.
+pub fn quote(page: &mut [u8], s: &[u8]) -> usize
+    ensures { λ r. ⌜ OnPage (quoted (now (s .entry))) (now (page .entry)) 0 (now (page .exit)) r ⌝ }
+{
     let mut to = put(page, 0, b'"');
     let mut i: usize = 0;
     while i < s.len() {
@@ -121,50 +165,87 @@ fn put_quoted(page: &mut [u8], s: &[u8]) -> usize {
     put(page, to, b'"')
 }
 
-// ---- what the program says
+// ---- lines
 
-// Text with numbers in it, each for two characters: %w is the number with zeros in front up to w
-// digits, ~w the same with spaces, and ^c the character c as often as the number says.
-pub fn say(s: &[u8], numbers: &[u64]) {
-    let mut page = io::buffer();
-    let n = put_with(&mut page, s, numbers);
-    if n <= page.len() {
-        write(&page[0..n]);
-    }
-}
-
-// Text between quotes.
-pub fn say_quoted(s: &[u8]) {
-    let mut page = io::buffer();
-    let n = put_quoted(&mut page, s);
-    if n <= page.len() {
-        write(&page[0..n]);
-    }
-}
-
-// Bytes as hex text: at most 12,288, as many as a TLV form has.
-pub fn say_hex(s: &[u8]) {
-    let mut digits = [0u8; 24576];
-    let n = text::encode(s, &mut digits);
-    if n <= digits.len() {
-        write(&digits[0..n]);
-    }
-}
-
-// Line `n` of a text, counted from 0, with its end.
-pub fn say_line(s: &[u8], n: usize) {
-    let mut left = n;
-    let mut start: usize = 0;
+// How long the first line is, with its end.
+fn line_length(s: &[u8]) -> usize
+    ensures { λ r. ⌜ r ≡ lineLength (now (s .entry)) ⌝ }
+{
     let mut i: usize = 0;
     while i < s.len() {
         let c = s[i];
         i += 1;
         if c == b'\n' {
-            if left == 0 {
-                return write(&s[start..i]);
-            }
-            left -= 1;
-            start = i;
+            return i;
         }
     }
+    i
+}
+
+// Line `n` of a text, counted from 0, with its end.
+pub fn line_of(s: &[u8], n: usize) -> &[u8]
+    ensures { λ r. ⌜ now r ≡ lineOf n (now (s .entry)) ⌝ }
+{
+    let mut at: usize = 0;
+    let mut left = n;
+    while 0 < left {
+        at += line_length(&s[at..]);
+        left -= 1;
+    }
+    let end = at + line_length(&s[at..]);
+    &s[at..end]
+}
+
+// ---- what the program says
+
+fn least(a: usize, b: usize) -> usize
+    ensures { λ r. ⌜ r ≡ min a b ⌝ }
+{
+    if a < b { a } else { b }
+}
+
+// Hands the first `n` bytes, or all, to standard output.
+fn write(page: &[u8], n: usize) -> usize
+    ensures { λ r. ⌜ r ≡ min n (length (now (page .entry))) ⌝ }
+{
+    let most = least(n, page.len());
+    let done = io::write_all(STDOUT_FILENO, &page[0..most]);
+    if !done {
+        os::fail(b"standard output");
+    }
+    most
+}
+
+// Text with numbers in it: at most 4,096 bytes.
+pub fn say(s: &[u8], numbers: &[u64]) -> usize
+    ensures { λ r. ⌜ r ≡ min (length (rendered (now (s .entry)) (now (numbers .entry)))) 4096 ⌝ }
+{
+    let mut page = io::buffer();
+    let n = render(&mut page, s, numbers);
+    write(&page, n)
+}
+
+// Text between quotes: at most 8,192 bytes, more than any text of a packet takes.
+pub fn say_quoted(s: &[u8]) -> usize
+    ensures { λ r. ⌜ r ≡ min (length (quoted (now (s .entry)))) 8192 ⌝ }
+{
+    let mut page = [0u8; 8192];
+    let n = quote(&mut page, s);
+    write(&page, n)
+}
+
+// Bytes as hex text: at most 12,288, as many as a TLV form has.
+pub fn say_hex(s: &[u8]) -> usize
+    ensures { λ r. ⌜ r ≡ min (2 * length (now (s .entry))) 24576 ⌝ }
+{
+    let mut digits = [0u8; 24576];
+    let n = text::encode(s, &mut digits);
+    write(&digits, n)
+}
+
+pub fn say_line(s: &[u8], n: usize) -> usize
+    ensures { λ r. ⌜ r ≡ length (lineOf n (now (s .entry))) ⌝ }
+{
+    let line = line_of(s, n);
+    write(line, line.len())
 }

@@ -1,18 +1,18 @@
--- Safe and ending. Invariant: the page keeps its length.
-use lib.ListN.{length}
-use mathlib.Core.Path.{_≡_}
+-- Invariant: what is left of the run, put here, gives the whole.
+use lib.ListN.{replicate}
+use Rattle.say.proofs.PageLaws.{Left, left-first, left-as, left-put, left-done, page-size, run-next, run-done}
 use borrow.Author.Needs.{needs}
 use Rattle.say.proofs.put_times.Statement.{statement}
 use Rattle.say.proofs.put_times.Tie as tie
 
 abbrev Inv-loop : tie.InvT-loop
-Inv-loop page₀ at b times to₀ left₀ page to left = length page ≡ length page₀
+Inv-loop page₀ at b times to₀ left₀ page to left = Left (replicate times b) page₀ at (replicate left b) page to
 
 abbrev μ-loop : tie.MeasureT-loop
 μ-loop page₀ at b times to₀ left₀ page to left = left
 
 loop-holds : tie.Need-loop-holds Inv-loop μ-loop
-loop-holds c = search needs
+loop-holds c = left-first _ _ _
 
 put-requires : tie.Need-put-requires Inv-loop μ-loop
 put-requires c κs = search needs
@@ -24,13 +24,13 @@ loop-less : tie.Need-loop-less Inv-loop μ-loop
 loop-less c = search needs
 
 loop-again : tie.Need-loop-again Inv-loop μ-loop
-loop-again c = search needs
+loop-again c = left-put (left-as (run-next _ _ (c .before .before .before .before .loop-test .taken)) (c .before .before .before .before .before .loop .inv)) (c .before .before .put .ensures)
 
 same-length : tie.Need-same-length Inv-loop μ-loop
-same-length c = search needs
+same-length c = page-size (c .before .loop .inv .put)
 
 returns : tie.Need-returns Inv-loop μ-loop
-returns c = search needs
+returns c = left-done (left-as (run-done _ _ (c .loop-test .left)) (c .before .loop .inv))
 
 pub put-times-spec : {M : Type 1} → statement M
 put-times-spec =

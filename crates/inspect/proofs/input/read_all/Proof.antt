@@ -1,4 +1,4 @@
--- Safe and ending. Invariant: the bytes read are within the buffer, which keeps its length.
+-- Invariant: the bytes read are within the buffer, which keeps its length.
 use lib.ListN.{length}
 use mathlib.Core.Path.{_≡_}
 use Prim.Native.Nat.{_≤_, _-_}

@@ -1,19 +1,21 @@
--- Safe and ending. Invariant: the place in the text is within it, and the page keeps its length.
+-- Invariant: what is left of the text, rendered here, gives the whole.
+use Rattle.say.proofs.RenderingLaws.{RenderLeft, render-first, render-plain, render-mark, render-last, render-done}
+use Rattle.say.proofs.PageLaws.{page-size}
+use Prim.Native.Nat.{_-_}
+use mathlib.Core.Path.{sym, _∙_}
 use lib.ListN.{length}
-use mathlib.Core.Path.{_≡_}
-use Prim.Native.Nat.{_≤_, _-_}
 use borrow.Author.Needs.{needs}
-use Rattle.say.proofs.put_with.Statement.{statement}
-use Rattle.say.proofs.put_with.Tie as tie
+use Rattle.say.proofs.render.Statement.{statement}
+use Rattle.say.proofs.render.Tie as tie
 
 abbrev Inv-loop : tie.InvT-loop
-Inv-loop page₀ s numbers to₀ k₀ i₀ page to k i = (i ≤ length s) × (k ≤ i) × (length page ≡ length page₀)
+Inv-loop page₀ s numbers to₀ k₀ i₀ page to k i = RenderLeft s numbers page₀ page to k i
 
 abbrev μ-loop : tie.MeasureT-loop
 μ-loop page₀ s numbers to₀ k₀ i₀ page to k i = length s - i
 
 loop-holds : tie.Need-loop-holds Inv-loop μ-loop
-loop-holds c = search needs
+loop-holds c = render-first _ _ _
 
 shared-slice-read-c : tie.Need-shared-slice-read-c Inv-loop μ-loop
 shared-slice-read-c c = search needs
@@ -43,13 +45,13 @@ loop-less : tie.Need-loop-less Inv-loop μ-loop
 loop-less c = search needs
 
 loop-again : tie.Need-loop-again Inv-loop μ-loop
-loop-again c = search needs
+loop-again c = render-mark (c .before .before .before .before .before .before .before .before .before .before .before .loop .inv) (c .before .before .before .before .before .before .before .before .before .before .loop-test .taken) (sym (c .before .before .before .before .before .before .before .before .is-mark .ensures) ∙ c .before .before .before .before .before .before .before .if1 .taken) (c .before .before .before .before .before .before .if2 .taken) (c .before .before .before .number-at .ensures) (c .before .before .put-number .ensures)
 
 loop-less-2 : tie.Need-loop-less-2 Inv-loop μ-loop
 loop-less-2 c = search needs
 
 loop-again-2 : tie.Need-loop-again-2 Inv-loop μ-loop
-loop-again-2 c = search needs
+loop-again-2 c = render-last (c .before .before .before .before .before .loop .inv) (c .before .before .before .before .loop-test .taken) (sym (c .before .before .is-mark .ensures) ∙ c .before .if1 .taken) (c .if2 .left)
 
 put-requires : tie.Need-put-requires Inv-loop μ-loop
 put-requires c κs = search needs
@@ -58,16 +60,16 @@ loop-less-3 : tie.Need-loop-less-3 Inv-loop μ-loop
 loop-less-3 c = search needs
 
 loop-again-3 : tie.Need-loop-again-3 Inv-loop μ-loop
-loop-again-3 c = search needs
+loop-again-3 c = render-plain (c .before .before .before .before .before .before .before .before .loop .inv) (c .before .before .before .before .before .before .before .loop-test .taken) (sym (c .before .before .before .before .before .is-mark .ensures) ∙ c .before .before .before .before .if1 .left) (c .before .before .put .ensures)
 
 same-length : tie.Need-same-length Inv-loop μ-loop
-same-length c = search needs
+same-length c = page-size (c .before .loop .inv .left .put)
 
 returns : tie.Need-returns Inv-loop μ-loop
-returns c = search needs
+returns c = render-done (c .before .loop .inv) (c .loop-test .left)
 
-pub put-with-spec : {M : Type 1} → statement M
-put-with-spec =
+pub render-spec : {M : Type 1} → statement M
+render-spec =
     tie.close
     (tie.spec
     Inv-loop

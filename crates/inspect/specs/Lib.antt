@@ -1,0 +1,4 @@
+pub mod FirstBytes
+pub mod Words
+pub mod Reading
+pub mod Runs
