@@ -1,5 +1,5 @@
 -- The form of a packet and of a datagram is that of its data field.
-use Prim.Native.Nat.{ℕ, _-_, _^_, _≤_, _<_}
+use Prim.Native.Nat.{ℕ, _-_, _*_, _^_, _≤_, _<_}
 use native.Mathlib.Omega.{arith}
 use mathlib.Core.Path.{_≡_, sym, ap, _∙_, subst}
 use mathlib.Core.List.{List}
@@ -10,6 +10,8 @@ use Rattle.wire.specs.declared.Limits.{Limits}
 use Rattle.wire.specs.declared.Written.{Written}
 use Rattle.wire.specs.declared.Refusal.{Refusal}
 use Rattle.wire.specs.Numbers.{Bytes}
+use Rattle.wire.proofs.Widths.{bytes-take, bytes-drop}
+use Rattle.form.proofs.FormSize.{form-size}
 use Rattle.wire.specs.Answers.{Answer, accepted, refused, onAccepted}
 use Rattle.wire.specs.Buffers.{writing, leaving, writtenAs}
 use Rattle.wire.proofs.Accepting.{check-accepted, onAccepted-accepted, onAccepted-passed, onAccepted-refused}
@@ -125,3 +127,23 @@ module _ (limits : Limits) (p : List ℕ) where
       → Answers (formOfDatagram limits p) before before (Written.Refused x)
   unfolding formOfDatagram
   datagram-refused e = refused-whole (onAccepted-refused (readDatagram limits p) _ e)
+
+-- ---- how long a form can be: four bytes for each of the packet or the datagram
+
+form-long : {longest n : ℕ} {d f : List ℕ} {a : AvlData} → Bytes d → FieldOf longest d a → length d ≤ n → accepted (form a) ≡ accepted f → length f ≤ 4 * n
+form-long {longest} {n} {d} {f} {a} b k h e =
+    let same : form a ≡ f = cc in
+    omega (arith, ap length same, form-size longest d a b (k .long) (k .accepts))
+
+module _ (limits : Limits) (p f : List ℕ) (b : Bytes p) where
+  pub packet-room : formOfPacket limits p ≡ accepted f → length f ≤ 4 * length p
+  unfolding formOfPacket
+  packet-room e =
+      let i = onAccepted-accepted (readPacket limits p) _ e in
+      form-long (bytes-take (length p - 4 - 8) (drop 8 p) (bytes-drop 8 p b)) (packet-field limits p (i .1) b) (simp (length-take, length-drop) (omega arith)) (i .2)
+
+  pub datagram-room : formOfDatagram limits p ≡ accepted f → length f ≤ 4 * length p
+  unfolding formOfDatagram
+  datagram-room e =
+      let i = onAccepted-accepted (readDatagram limits p) _ e in
+      form-long (bytes-take (length p - 23) (drop 23 p) (bytes-drop 23 p b)) (datagram-field limits p (i .1) b) (simp (length-take, length-drop) (omega arith)) (i .2)

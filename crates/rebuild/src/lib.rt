@@ -30,10 +30,8 @@ struct Run {
     count: usize,
 }
 
-// The most bytes of a data field, and of a form: four for each byte of the packet.
+// The most bytes of a data field.
 const FIELD: usize = wire::LARGEST - 12;
-
-const FORM: usize = 4 * wire::LARGEST;
 
 // Stores a byte; past the buffer's end it does nothing.
 fn put(out: &mut [u8], at: usize, b: u8)
@@ -416,7 +414,7 @@ fn long_packet(limits: Limits, f: &[u8], out: &mut [u8]) -> Written
     if FIELD < n {
         return refused(17);
     }
-    let mut g = [0u8; FORM];
+    let mut g = [0u8; wire::LARGEST_FORM];
     if same_form(limits, &d[0..n], f, &mut g) {
         return put_packet(&d[0..n], out);
     }
@@ -447,7 +445,7 @@ pub fn packet_of_form(f: &[u8], out: &mut [u8]) -> Written
     ensures answer { λ r. ⌜ writtenAs r ≡ writing (packetOfForm baseLimits (now (f .entry))) (now (out .entry)) ⌝ }
     ensures buffer { λ r. ⌜ now (out .exit) ≡ leaving (packetOfForm baseLimits (now (f .entry))) (now (out .entry)) ⌝ }
 {
-    if FORM < f.len() {
+    if wire::LARGEST_FORM < f.len() {
         return refused(17);
     }
     if f.len() <= 96 {

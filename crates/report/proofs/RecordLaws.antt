@@ -11,7 +11,7 @@ use Rattle.report.specs.Shown.{recordOf, oneIf, recordsSaid}
 one-at-most : {A : Type 0} (r : Answer A) → oneIf r ≤ 1
 unfolding oneIf
 one-at-most (accepted a) = omega arith
-one-at-most (refused number index) = omega arith
+one-at-most (refused x) = omega arith
 
 pub record SaidSo (udp : Bool) (p : List ℕ) (all said n : ℕ) : Type 0 where
   pub inside : n ≤ all

@@ -1,9 +1,10 @@
 -- What the functions that say something answer: the number of the refusal that is said, 0 where the input is accepted.
-use Prim.Native.Nat.{ℕ, zero, suc, _+_}
+use Prim.Native.Nat.{ℕ, zero, suc, _+_, _*_}
 use mathlib.Core.Bool.{Bool}
 use mathlib.Core.List.{List}
 use lib.ListN.{replicate}
 use Rattle.wire.specs.Numbers.{pick}
+use Rattle.wire.specs.Limits.{baseLimits}
 use Rattle.wire.specs.Answers.{Answer, accepted, refused}
 use Rattle.wire.specs.Buffers.{writing}
 use Rattle.packet.specs.DataPackets.{answerPacket}
@@ -15,49 +16,49 @@ use Rattle.tlv.specs.PacketOf.{formOfPacket, formOfDatagram, packetOfForm}
 use Rattle.element.specs.declared.RecordFields.{RecordFields}
 use Rattle.lookup.specs.Lookups.{tcpSource, udpSource, recordByNumber}
 
-unfoldable pub refusalOf : {A : Type 0} → Answer A → ℕ
-refusalOf (accepted a) = 0
-refusalOf (refused number index) = number
+unfoldable pub refusalNumber : {A : Type 0} → Answer A → ℕ
+refusalNumber (accepted a) = 0
+refusalNumber (refused r) = r .number
 
 -- ---- an input of each kind
 
 unfoldable pub packetRefusal : List ℕ → ℕ
-packetRefusal p = refusalOf (answerPacket 1280 255 p)
+packetRefusal p = refusalNumber (answerPacket baseLimits p)
 
 unfoldable pub datagramRefusal : List ℕ → ℕ
-datagramRefusal p = refusalOf (answerDatagram 1280 255 p)
+datagramRefusal p = refusalNumber (answerDatagram baseLimits p)
 
 unfoldable pub loginRefusal : List ℕ → ℕ
-loginRefusal p = refusalOf (readLogin p)
+loginRefusal p = refusalNumber (readLogin p)
 
 unfoldable pub commandRefusal : List ℕ → ℕ
-commandRefusal p = refusalOf (answerCommand 1280 p)
+commandRefusal p = refusalNumber (answerCommand baseLimits p)
 
 -- ---- what is written, into a buffer of `size` bytes
 
 unfoldable pub writtenRefusal : ℕ → Answer (List ℕ) → ℕ
-writtenRefusal size result = refusalOf (writing result (replicate size 0))
+writtenRefusal size result = refusalNumber (writing result (replicate size 0))
 
 unfoldable pub formOfPacketRefusal : List ℕ → ℕ
-formOfPacketRefusal p = writtenRefusal 12288 (formOfPacket 1280 255 p)
+formOfPacketRefusal p = writtenRefusal (4 * baseLimits .largest) (formOfPacket baseLimits p)
 
 unfoldable pub formOfDatagramRefusal : List ℕ → ℕ
-formOfDatagramRefusal p = writtenRefusal 12288 (formOfDatagram 1280 255 p)
+formOfDatagramRefusal p = writtenRefusal (4 * baseLimits .largest) (formOfDatagram baseLimits p)
 
 unfoldable pub packetOfFormRefusal : List ℕ → ℕ
-packetOfFormRefusal f = writtenRefusal 1280 (packetOfForm 1280 255 f)
+packetOfFormRefusal f = writtenRefusal (baseLimits .largest) (packetOfForm baseLimits f)
 
 unfoldable pub writeRefusal : ℕ → ℕ → List ℕ → List ℕ → ℕ
-writeRefusal codec kind imei text = writtenRefusal 1280 (commandBytes 1280 codec kind imei text)
+writeRefusal codec kind imei text = writtenRefusal (baseLimits .largest) (commandBytes baseLimits codec kind imei text)
 
 -- ---- the records of a datagram or a TCP data packet
 
 unfoldable pub recordOf : Bool → List ℕ → ℕ → Answer RecordFields
-recordOf udp p n = pick udp (recordByNumber (udpSource 1280 255 p) n) (recordByNumber (tcpSource 1280 255 p) n)
+recordOf udp p n = pick udp (recordByNumber (udpSource baseLimits p) n) (recordByNumber (tcpSource baseLimits p) n)
 
 unfoldable pub oneIf : {A : Type 0} → Answer A → ℕ
 oneIf (accepted a) = 1
-oneIf (refused number index) = 0
+oneIf (refused r) = 0
 
 -- how many of the first `n` records are there, and said
 unfoldable pub recordsSaid : Bool → List ℕ → ℕ → ℕ

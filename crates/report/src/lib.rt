@@ -4,7 +4,7 @@ mod records;
 
 ghost use mathlib.Core.Path.{_≡_};
 ghost use Rattle.wire.specs.Buffers.{writtenAs};
-ghost use Rattle.report.specs.Shown.{refusalOf, packetRefusal, datagramRefusal, loginRefusal, commandRefusal, packetOfFormRefusal, formOfPacketRefusal, formOfDatagramRefusal, writeRefusal};
+ghost use Rattle.report.specs.Shown.{refusalNumber, packetRefusal, datagramRefusal, loginRefusal, commandRefusal, packetOfFormRefusal, formOfPacketRefusal, formOfDatagramRefusal, writeRefusal};
 use command::CommandAnswer;
 use command::CommandFields;
 use datagram::DatagramAnswer;
@@ -195,7 +195,7 @@ fn say_message(f: CommandFields) {
 pub fn show_form(f: &[u8]) -> usize
     ensures { λ r. ⌜ r ≡ packetOfFormRefusal (now (f .entry)) ⌝ }
 {
-    let mut p = [0u8; 1280];
+    let mut p = [0u8; wire::LARGEST];
     match rebuild::packet_of_form(f, &mut p) {
         Written::Refused(r) => refuse(r),
         Written::Bytes(n) => {
@@ -210,7 +210,7 @@ pub fn show_form(f: &[u8]) -> usize
 
 // A writer's result.
 fn say_written(answer: Written, out: &[u8]) -> usize
-    ensures { λ r. ⌜ r ≡ refusalOf (writtenAs answer) ⌝ }
+    ensures { λ r. ⌜ r ≡ refusalNumber (writtenAs answer) ⌝ }
 {
     match answer {
         Written::Refused(r) => refuse_data(r),
@@ -227,7 +227,7 @@ fn say_written(answer: Written, out: &[u8]) -> usize
 pub fn say_form_of_packet(p: &[u8]) -> usize
     ensures { λ r. ⌜ r ≡ formOfPacketRefusal (now (p .entry)) ⌝ }
 {
-    let mut out = [0u8; 12288];
+    let mut out = [0u8; wire::LARGEST_FORM];
     let answer = form::form_of_packet(p, &mut out);
     say_written(answer, &out)
 }
@@ -235,7 +235,7 @@ pub fn say_form_of_packet(p: &[u8]) -> usize
 pub fn say_form_of_datagram(p: &[u8]) -> usize
     ensures { λ r. ⌜ r ≡ formOfDatagramRefusal (now (p .entry)) ⌝ }
 {
-    let mut out = [0u8; 12288];
+    let mut out = [0u8; wire::LARGEST_FORM];
     let answer = form::form_of_datagram(p, &mut out);
     say_written(answer, &out)
 }
@@ -244,7 +244,7 @@ pub fn say_form_of_datagram(p: &[u8]) -> usize
 pub fn say_packet_of(f: &[u8]) -> usize
     ensures { λ r. ⌜ r ≡ packetOfFormRefusal (now (f .entry)) ⌝ }
 {
-    let mut out = [0u8; 1280];
+    let mut out = [0u8; wire::LARGEST];
     let answer = rebuild::packet_of_form(f, &mut out);
     say_written(answer, &out)
 }
@@ -253,7 +253,7 @@ pub fn say_packet_of(f: &[u8]) -> usize
 pub fn say_command(codec: u8, kind: u8, imei: &[u8], text: &[u8]) -> usize
     ensures { λ r. ⌜ r ≡ writeRefusal codec kind (now (imei .entry)) (now (text .entry)) ⌝ }
 {
-    let mut out = [0u8; 1280];
+    let mut out = [0u8; wire::LARGEST];
     let answer = command::write_command(codec, kind, imei, text, &mut out);
     say_written(answer, &out)
 }

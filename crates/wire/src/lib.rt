@@ -21,6 +21,9 @@ pub const LARGEST: usize = 1280;
 
 pub const LONGEST: usize = 255;
 
+// A TLV form has at most four times the bytes of its packet.
+pub const LARGEST_FORM: usize = 4 * LARGEST;
+
 pub const BASE: Limits = Limits {
     largest: LARGEST,
     longest: LONGEST,

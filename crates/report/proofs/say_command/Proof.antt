@@ -1,6 +1,6 @@
 -- The writer's refusal is the one said.
 use mathlib.Core.Path.{ap, _∙_}
-use Rattle.report.specs.Shown.{refusalOf, writtenRefusal, writeRefusal}
+use Rattle.report.specs.Shown.{refusalNumber, writtenRefusal, writeRefusal}
 use borrow.Author.Needs.{needs}
 use Rattle.report.proofs.say_command.Statement.{statement}
 use Rattle.report.proofs.say_command.Tie as tie
@@ -19,7 +19,7 @@ say-written-requires c κs = search needs
 
 returns : tie.Need-returns
 unfolding writeRefusal writtenRefusal
-returns c = c .say-written .ensures ∙ ap refusalOf (c .before .before .before .write-command .ensures .0)
+returns c = c .say-written .ensures ∙ ap refusalNumber (c .before .before .before .write-command .ensures .0)
 
 pub say-command-spec : {M : Type 1} → statement M
 say-command-spec =

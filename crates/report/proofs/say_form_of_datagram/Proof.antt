@@ -1,6 +1,6 @@
 -- The writer's refusal is the one said.
 use mathlib.Core.Path.{ap, _∙_}
-use Rattle.report.specs.Shown.{refusalOf, writtenRefusal, formOfDatagramRefusal}
+use Rattle.report.specs.Shown.{refusalNumber, writtenRefusal, formOfDatagramRefusal}
 use borrow.Author.Needs.{needs}
 use Rattle.report.proofs.say_form_of_datagram.Statement.{statement}
 use Rattle.report.proofs.say_form_of_datagram.Tie as tie
@@ -19,7 +19,7 @@ say-written-requires c κs = search needs
 
 returns : tie.Need-returns
 unfolding formOfDatagramRefusal writtenRefusal
-returns c = c .say-written .ensures ∙ ap refusalOf (c .before .before .before .form-of-datagram .ensures .0)
+returns c = c .say-written .ensures ∙ ap refusalNumber (c .before .before .before .form-of-datagram .ensures .0)
 
 pub say-form-of-datagram-spec : {M : Type 1} → statement M
 say-form-of-datagram-spec =

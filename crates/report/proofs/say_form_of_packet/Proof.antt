@@ -1,6 +1,6 @@
 -- The writer's refusal is the one said.
 use mathlib.Core.Path.{ap, _∙_}
-use Rattle.report.specs.Shown.{refusalOf, writtenRefusal, formOfPacketRefusal}
+use Rattle.report.specs.Shown.{refusalNumber, writtenRefusal, formOfPacketRefusal}
 use borrow.Author.Needs.{needs}
 use Rattle.report.proofs.say_form_of_packet.Statement.{statement}
 use Rattle.report.proofs.say_form_of_packet.Tie as tie
@@ -19,7 +19,7 @@ say-written-requires c κs = search needs
 
 returns : tie.Need-returns
 unfolding formOfPacketRefusal writtenRefusal
-returns c = c .say-written .ensures ∙ ap refusalOf (c .before .before .before .form-of-packet .ensures .0)
+returns c = c .say-written .ensures ∙ ap refusalNumber (c .before .before .before .form-of-packet .ensures .0)
 
 pub say-form-of-packet-spec : {M : Type 1} → statement M
 say-form-of-packet-spec =

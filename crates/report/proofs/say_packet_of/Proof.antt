@@ -1,6 +1,6 @@
 -- The writer's refusal is the one said.
 use mathlib.Core.Path.{ap, _∙_}
-use Rattle.report.specs.Shown.{refusalOf, writtenRefusal, packetOfFormRefusal}
+use Rattle.report.specs.Shown.{refusalNumber, writtenRefusal, packetOfFormRefusal}
 use borrow.Author.Needs.{needs}
 use Rattle.report.proofs.say_packet_of.Statement.{statement}
 use Rattle.report.proofs.say_packet_of.Tie as tie
@@ -19,7 +19,7 @@ say-written-requires c κs = search needs
 
 returns : tie.Need-returns
 unfolding packetOfFormRefusal writtenRefusal
-returns c = c .say-written .ensures ∙ ap refusalOf (c .before .before .before .packet-of-form .ensures .0)
+returns c = c .say-written .ensures ∙ ap refusalNumber (c .before .before .before .packet-of-form .ensures .0)
 
 pub say-packet-of-spec : {M : Type 1} → statement M
 say-packet-of-spec =

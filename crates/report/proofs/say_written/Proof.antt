@@ -1,5 +1,5 @@
 -- Each way out is a case of the answer.
-use Rattle.report.specs.Shown.{refusalOf}
+use Rattle.report.specs.Shown.{refusalNumber}
 use Rattle.wire.specs.Buffers.{writtenAs}
 use borrow.Author.Needs.{needs}
 use Rattle.report.proofs.say_written.Statement.{statement}
@@ -27,15 +27,15 @@ say-hex-line-requires : tie.Need-say-hex-line-requires
 say-hex-line-requires c κs = search needs
 
 returns : tie.Need-returns
-unfolding refusalOf writtenAs
+unfolding refusalNumber writtenAs
 returns c = simp (c .before .before .answer .given .1) (c .refuse-data .ensures)
 
 returns-2 : tie.Need-returns-2
-unfolding refusalOf writtenAs
+unfolding refusalNumber writtenAs
 returns-2 c = simp (c .before .before .before .before .answer2 .given .1)
 
 returns-3 : tie.Need-returns-3
-unfolding refusalOf writtenAs
+unfolding refusalNumber writtenAs
 returns-3 c = simp (c .before .before .answer2 .given .1)
 
 pub say-written-spec : {M : Type 1} → statement M

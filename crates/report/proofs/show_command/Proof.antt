@@ -1,5 +1,5 @@
 -- The reader's refusal is the one said; an accepted input has none.
-use Rattle.report.specs.Shown.{refusalOf, commandRefusal}
+use Rattle.report.specs.Shown.{refusalNumber, commandRefusal}
 use Rattle.command.specs.Commands.{commandAs}
 use borrow.Author.Needs.{needs}
 use Rattle.report.proofs.show_command.Statement.{statement}
@@ -54,11 +54,11 @@ say-requires-3 : tie.Need-say-requires-3
 say-requires-3 c κs = search needs
 
 returns : tie.Need-returns
-unfolding commandRefusal refusalOf commandAs
+unfolding commandRefusal refusalNumber commandAs
 returns c = simp (← c .before .before .before .before .read-command .ensures, c .before .before .r .given .1) (c .refuse .ensures)
 
 returns-2 : tie.Need-returns-2
-unfolding commandRefusal refusalOf commandAs
+unfolding commandRefusal refusalNumber commandAs
 returns-2 c = simp (← c .before .before .before .before .before .before .before .before .before .before .before .before .before .before .before .read-command .ensures, c .before .before .before .before .before .before .before .before .before .before .before .before .before .f .given .1)
 
 pub show-command-spec : {M : Type 1} → statement M

@@ -1,5 +1,5 @@
 -- The reader's refusal is the one said; an accepted input has none.
-use Rattle.report.specs.Shown.{refusalOf, datagramRefusal}
+use Rattle.report.specs.Shown.{refusalNumber, datagramRefusal}
 use Rattle.datagram.specs.Datagrams.{datagramAs}
 use borrow.Author.Needs.{needs}
 use Rattle.report.proofs.show_datagram.Statement.{statement}
@@ -45,11 +45,11 @@ say-records-requires : tie.Need-say-records-requires
 say-records-requires c κs = search needs
 
 returns : tie.Need-returns
-unfolding datagramRefusal refusalOf datagramAs
+unfolding datagramRefusal refusalNumber datagramAs
 returns c = simp (← c .before .before .before .before .read-datagram .ensures, c .before .before .r .given .1) (c .refuse-data .ensures)
 
 returns-2 : tie.Need-returns-2
-unfolding datagramRefusal refusalOf datagramAs
+unfolding datagramRefusal refusalNumber datagramAs
 returns-2 c = simp (← c .before .before .before .before .before .before .before .before .before .before .before .before .before .read-datagram .ensures, c .before .before .before .before .before .before .before .before .before .before .before .codec .given .1)
 
 pub show-datagram-spec : {M : Type 1} → statement M

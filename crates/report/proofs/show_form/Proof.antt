@@ -1,5 +1,5 @@
 -- The reader's refusal is the one said; an accepted input has none.
-use Rattle.report.specs.Shown.{refusalOf, writtenRefusal, packetOfFormRefusal}
+use Rattle.report.specs.Shown.{refusalNumber, writtenRefusal, packetOfFormRefusal}
 use Rattle.wire.specs.Buffers.{writtenAs}
 use borrow.Author.Needs.{needs}
 use Rattle.report.proofs.show_form.Statement.{statement}
@@ -42,15 +42,15 @@ show-packet-requires : tie.Need-show-packet-requires
 show-packet-requires c κs = search needs
 
 returns : tie.Need-returns
-unfolding packetOfFormRefusal writtenRefusal refusalOf writtenAs
+unfolding packetOfFormRefusal writtenRefusal refusalNumber writtenAs
 returns c = simp (← c .before .before .before .before .before .packet-of-form .ensures .0, c .before .before .r .given .1) (c .refuse .ensures)
 
 returns-2 : tie.Need-returns-2
-unfolding packetOfFormRefusal writtenRefusal refusalOf writtenAs
+unfolding packetOfFormRefusal writtenRefusal refusalNumber writtenAs
 returns-2 c = simp (← c .before .before .before .before .before .before .before .before .before .before .before .packet-of-form .ensures .0, c .before .before .before .before .before .before .before .before .n .given .1)
 
 returns-3 : tie.Need-returns-3
-unfolding packetOfFormRefusal writtenRefusal refusalOf writtenAs
+unfolding packetOfFormRefusal writtenRefusal refusalNumber writtenAs
 returns-3 c = simp (← c .before .before .before .before .before .packet-of-form .ensures .0, c .before .before .n .given .1)
 
 pub show-form-spec : {M : Type 1} → statement M

@@ -1,5 +1,5 @@
 -- The reader's refusal is the one said; an accepted input has none.
-use Rattle.report.specs.Shown.{refusalOf, loginRefusal}
+use Rattle.report.specs.Shown.{refusalNumber, loginRefusal}
 use Rattle.login.specs.Login.{loginAs}
 use borrow.Author.Needs.{needs}
 use Rattle.report.proofs.show_login.Statement.{statement}
@@ -27,11 +27,11 @@ say-requires : tie.Need-say-requires
 say-requires c κs = search needs
 
 returns : tie.Need-returns
-unfolding loginRefusal refusalOf loginAs
+unfolding loginRefusal refusalNumber loginAs
 returns c = simp (← c .before .before .before .before .read-login .ensures, c .before .before .r .given .1) (c .refuse .ensures)
 
 returns-2 : tie.Need-returns-2
-unfolding loginRefusal refusalOf loginAs
+unfolding loginRefusal refusalNumber loginAs
 returns-2 c = simp (← c .before .before .before .before .before .before .read-login .ensures, c .before .before .before .before .imei .given .1)
 
 pub show-login-spec : {M : Type 1} → statement M

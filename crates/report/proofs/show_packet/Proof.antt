@@ -1,5 +1,5 @@
 -- The reader's refusal is the one said; an accepted input has none.
-use Rattle.report.specs.Shown.{refusalOf, packetRefusal}
+use Rattle.report.specs.Shown.{refusalNumber, packetRefusal}
 use Rattle.packet.specs.DataPackets.{packetAs}
 use borrow.Author.Needs.{needs}
 use Rattle.report.proofs.show_packet.Statement.{statement}
@@ -42,11 +42,11 @@ say-records-requires : tie.Need-say-records-requires
 say-records-requires c κs = search needs
 
 returns : tie.Need-returns
-unfolding packetRefusal refusalOf packetAs
+unfolding packetRefusal refusalNumber packetAs
 returns c = simp (← c .before .before .before .before .read-packet .ensures, c .before .before .r .given .1) (c .refuse-data .ensures)
 
 returns-2 : tie.Need-returns-2
-unfolding packetRefusal refusalOf packetAs
+unfolding packetRefusal refusalNumber packetAs
 returns-2 c = simp (← c .before .before .before .before .before .before .before .before .before .before .before .before .read-packet .ensures, c .before .before .before .before .before .before .before .before .before .before .codec .given .1)
 
 pub show-packet-spec : {M : Type 1} → statement M
