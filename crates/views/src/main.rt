@@ -97,14 +97,14 @@ fn say_digits(page: &mut [u8], n: usize, place: u64) {
         say::write(&page[0..n]);
         return say::write(b"\n");
     }
-    wrong(place, b": the view is longer than 65536 bytes\n");
+    wrong(place, b": the view is longer than 2048 bytes\n");
 }
 
 fn say_view(v: &[u8], place: u64) {
     if v.len() == 0 {
         return say::write(b"bytes -\n");
     }
-    let mut page = [0u8; 131072];
+    let mut page = [0u8; 4096];
     let n = text::encode(v, &mut page);
     say_digits(&mut page, n, place)
 }
@@ -196,7 +196,7 @@ fn answer_line(line: &[u8], place: u64) {
 // A line, or the last piece of one whose first pieces did not fit.
 fn answer(line: &[u8], place: u64, cut: bool) {
     if cut {
-        return wrong(place, b": longer than 524287 bytes\n");
+        return wrong(place, b": longer than 266239 bytes\n");
     }
     answer_line(line, place)
 }
@@ -283,16 +283,7 @@ fn turn(buf: &mut [u8], held: usize, place: u64, cut: bool) -> Progress {
     }
     let end = held + more;
     let done = answer_lines(&buf[0..end], place, cut);
-    let start = done.held;
-    if start == 0 {
-        return Progress {
-            held: end,
-            place: done.place,
-            cut: done.cut,
-            more: true,
-        };
-    }
-    let kept = keep(buf, start, end);
+    let kept = keep(buf, done.held, end);
     Progress {
         held: kept,
         place: done.place,
@@ -319,6 +310,6 @@ fn run(buf: &mut [u8]) {
 }
 
 fn main() {
-    let mut buf = [0u8; 524288];
+    let mut buf = [0u8; 266240];
     run(&mut buf)
 }
