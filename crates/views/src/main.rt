@@ -153,8 +153,8 @@ fn id_of(k: usize) -> u16 {
 }
 
 fn answer_with(call: Call, line: &[u8], n: usize, k: usize, place: u64) {
-    let mut first = [0u8; 65536];
-    let mut second = [0u8; 65536];
+    let mut first = [0u8; 69632];
+    let mut second = [0u8; 69632];
     let a = words::bytes_of(words::word(line, 1), &mut first);
     let b = older_bytes(call, line, &mut second);
     if let Read::Of(i) = a {
@@ -169,7 +169,7 @@ fn answer_with(call: Call, line: &[u8], n: usize, k: usize, place: u64) {
     }
     wrong(
         place,
-        b": neither '-' nor hex digits of at most 65536 bytes\n",
+        b": neither '-' nor hex digits of at most 69632 bytes\n",
     );
 }
 
@@ -196,7 +196,7 @@ fn answer_line(line: &[u8], place: u64) {
 // A line, or the last piece of one whose first pieces did not fit.
 fn answer(line: &[u8], place: u64, cut: bool) {
     if cut {
-        return wrong(place, b": longer than 266239 bytes\n");
+        return wrong(place, b": longer than 280575 bytes\n");
     }
     answer_line(line, place)
 }
@@ -310,6 +310,6 @@ fn run(buf: &mut [u8]) {
 }
 
 fn main() {
-    let mut buf = [0u8; 266240];
+    let mut buf = [0u8; 280576];
     run(&mut buf)
 }
