@@ -1,13 +1,13 @@
 #!/usr/bin/env python3
-"""Compares a program with the reference, line by line.
+"""Compares two programs with the reference, line by line.
 
-    python3 compare.py PROGRAM WORDS... [--count N] [--seed S]
+    python3 compare.py DRIVER VIEWS [--count N] [--seed S]
 
-First the published examples and the edges of the rules, with the answers the
-papers give, then N generated lines. The program is started anew for each batch,
-gets the lines on its standard input and must answer each with one line. Exit 1
-on a difference, and if a refusal that document 01 lets a call give was never
-reached.
+DRIVER answers the calls for C, VIEWS those that give views. First the published
+examples and the edges of the rules, with the answers the papers give, then N
+generated lines. Each program is started anew for each batch, gets its lines on
+its standard input and must answer each with one line. Exit 1 on a difference,
+and if a refusal that document 01 lets a call give was never reached.
 """
 
 import argparse
@@ -31,8 +31,8 @@ TOLD_LINES = 100_000            # lines between two notes on how far it is
 
 
 class Comparison:
-    def __init__(self, command):
-        self.command = command
+    def __init__(self, driver, views):
+        self.driver, self.views = driver, views
         self.compared = 0
         self.expected = 0
         self.differences = 0
@@ -62,23 +62,30 @@ class Comparison:
             self.expected += 1
             if own != expected:
                 self.difference(where, line, papers=expected, reference=own)
-        if other != own:
-            self.difference(where, line, reference=own, program=other)
+        whole = reference.flat(line, own)
+        if other != whole:
+            self.difference(where, line, reference=whole, program=other)
 
-    def batch(self, items):
-        """Items: (where, line, expected answer or None)."""
+    def answers(self, program, items):
+        """The lines that a program answers these items with."""
         text = "".join(line + "\n" for _, line, _ in items)
-        done = subprocess.run(self.command, input=text.encode("ascii"), stdout=subprocess.PIPE,
-                              timeout=BATCH_TIME)
+        done = subprocess.run([program], input=text.encode("ascii"), stdout=subprocess.PIPE, timeout=BATCH_TIME)
         given = done.stdout.decode("ascii", "replace").split("\n")
         if given[-1] == "":
             given.pop()
         if done.returncode != 0:
             self.difference(f"the program ended with {done.returncode}", items[0][1])
-        for place, (where, line, expected) in enumerate(items):
-            self.item(where, line, expected, given[place] if place < len(given) else None)
         if len(given) > len(items):
             self.difference("an answer too many", items[-1][1], program=given[len(items)])
+        return given
+
+    def batch(self, items):
+        """Items: (where, line, expected answer or None)."""
+        for program, wanted in ((self.driver, False), (self.views, True)):
+            chosen = [item for item in items if reference.is_view(item[1]) == wanted]
+            given = self.answers(program, chosen) if chosen else []
+            for place, (where, line, expected) in enumerate(chosen):
+                self.item(where, line, expected, given[place] if place < len(given) else None)
         if self.compared // TOLD_LINES != (self.compared - len(items)) // TOLD_LINES:
             seconds = time.monotonic() - self.begin
             print(f"{self.compared} lines, {self.differences} differences, {seconds:.0f} s", file=sys.stderr)
@@ -105,18 +112,19 @@ def calls(count, seed):
 
 
 def main():
-    parser = argparse.ArgumentParser(usage="compare.py PROGRAM WORDS... [--count N] [--seed S]", allow_abbrev=False)
-    parser.add_argument("program", nargs="+")
+    parser = argparse.ArgumentParser(usage="compare.py DRIVER VIEWS [--count N] [--seed S]", allow_abbrev=False)
+    parser.add_argument("driver")
+    parser.add_argument("views")
     parser.add_argument("--count", type=int, default=12000)
     parser.add_argument("--seed", type=int, default=1)
     options = parser.parse_args()
     if options.count < 0:
         parser.error("--count is below 0")
-    comparison = Comparison(options.program)
+    comparison = Comparison(options.driver, options.views)
     try:
         comparison.run(options.count, options.seed)
     except (OSError, subprocess.TimeoutExpired) as error:
-        print(f"the program could not be run to its end: {error}")
+        print(f"a program could not be run to its end: {error}")
         return 1
     complete = comparison.coverage.report()
     seconds = time.monotonic() - comparison.begin

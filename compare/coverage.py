@@ -18,7 +18,10 @@ INPUTS = {
                         14: ["size", "under 8", "text with 11"], 15: ["first digit", "digit"]},
     "login": {1: [""], 4: [""], 15: ["length", "digit"]},
     "text": {6: [""], 13: [""], 15: ["length", "digit"], 14: ["over", "text with 11"]},
-    "form": {17: [""]},
+    "form": {17: ["no entry", "entry's head", "entry's body", "first kind", "codec's length", "codec",
+                  "record's length", "priority", "event ID", "generation type", "generation type outside 16",
+                  "no record before it", "kind", "order", "element's length", "value's length", "ID", "no record",
+                  "record's size", "packet's size"]},
 }
 
 # The walk of a data packet or datagram, codec by codec: the fields that can be missing, and the other rules.

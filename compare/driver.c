@@ -1,4 +1,7 @@
-/* Answers calls from standard input, one a line, as compare/reference.py does: the library's side of the comparison. */
+/* Answers calls from standard input, one a line, as compare/reference.py does: the library's side of the comparison.
+ * An answer has every field of its struct, on refusals too. Every input and buffer stands between two guards, and the
+ * line says so if a call changed a byte of them or of an input. `driver bare` lends blocks of the exact size instead, so
+ * that a tool sees a read or a write past them. */
 #include <inttypes.h>
 #include <stdio.h>
 #include <stdlib.h>
@@ -6,12 +9,17 @@
 
 #include "brundilope.h"
 
-enum { MOST_WORDS = 8 };
+enum { MOST_WORDS = 8, GUARD = 64 };
 
+/* The bytes of a word, in a block of their own. */
 struct bytes {
+    const char *word;
+    uint8_t *block;
     uint8_t *at;
     size_t size;
 };
+
+static size_t guard = GUARD; /* bytes before and behind */
 
 static int digit(char c) {
     if ('0' <= c && c <= '9') return c - '0';
@@ -24,96 +32,123 @@ static _Noreturn void fail(const char *why, const char *word) {
     exit(2);
 }
 
-/* A word of hexadecimal, '-' for no bytes and a null pointer. Every byte string has a block of its own, so that a tool sees a read past it. */
+/* ---- blocks */
+
+static uint8_t byte_of(const char *word, size_t i) {
+    int high = digit(word[2 * i]), low = digit(word[2 * i + 1]);
+    if (high < 0 || low < 0) fail("not lower-case hexadecimal", word);
+    return (uint8_t)(high * 16 + low);
+}
+
+/* What a guard holds at a place; neighbours differ, and no place holds 0. */
+static uint8_t guard_byte(size_t i) { return (uint8_t)(0x5B + 37 * (i % 4)); }
+
+/* A word of hexadecimal, '-' for no bytes and a null pointer. */
 static struct bytes bytes_of(const char *word) {
-    struct bytes b = {NULL, 0};
+    struct bytes b = {word, NULL, NULL, 0};
     if (strcmp(word, "-") == 0) return b;
-    b.size = strlen(word) / 2;
-    b.at = malloc(b.size ? b.size : 1);
-    if (!b.at) fail("no memory", word);
     if (strlen(word) % 2) fail("an odd number of digits", word);
-    for (size_t i = 0; i < b.size; i++) {
-        int high = digit(word[2 * i]), low = digit(word[2 * i + 1]);
-        if (high < 0 || low < 0) fail("not lower-case hexadecimal", word);
-        b.at[i] = (uint8_t)(high * 16 + low);
-    }
+    b.size = strlen(word) / 2;
+    size_t room = guard + b.size + guard;
+    b.block = malloc(room ? room : 1);
+    if (!b.block) fail("no memory", word);
+    for (size_t i = 0; i < room; i++) b.block[i] = guard_byte(i);
+    b.at = b.block + guard;
+    for (size_t i = 0; i < b.size; i++) b.at[i] = byte_of(word, i);
     return b;
 }
+
+static void check_guards(struct bytes b) {
+    for (size_t i = 0; b.block && i < guard; i++) {
+        size_t behind = guard + b.size + i;
+        if (b.block[i] != guard_byte(i)) printf(" CHANGED: byte %zu before a block", guard - i);
+        if (b.block[behind] != guard_byte(behind)) printf(" CHANGED: byte %zu behind a block", i);
+    }
+}
+
+/* After the call: a lent buffer, of which only the guards have to be as they were. */
+static void done_buffer(struct bytes b) {
+    check_guards(b);
+    free(b.block);
+}
+
+/* After the call: an input, which has to be as it was. */
+static void done_input(struct bytes b) {
+    for (size_t i = 0; i < b.size; i++)
+        if (b.at[i] != byte_of(b.word, i)) printf(" CHANGED: byte %zu of an input", i);
+    done_buffer(b);
+}
+
+/* ---- answers, every field of them */
 
 static void print_bytes(const uint8_t *at, size_t size) {
     if (size == 0) putchar('-');
     for (size_t i = 0; i < size; i++) printf("%02x", at[i]);
 }
 
-static void refused(size_t number, size_t index) { printf("refused %zu %zu", number, index); }
-
-static void written(struct brundilope_written w, struct bytes out) {
-    if (w.number) refused(w.number, w.index);
-    else printf("written %zu", w.written);
-    putchar(' ');
-    print_bytes(out.at, out.size);
+static void head(const char *accepted, size_t number, size_t index) {
+    printf("%s %zu %zu ", number ? "refused" : accepted, number, index);
 }
 
-static void value(struct brundilope_value v) {
-    if (v.number) refused(v.number, v.index);
-    else printf("accepted %u %u %zu %zu", v.id, v.kind, v.offset, v.size);
+static void packet(struct brundilope_packet r) {
+    head("accepted", r.number, r.index);
+    printf("%u %u", r.codec, r.count);
 }
 
-/* A view, empty on a refusal. */
-static void view(struct bytes p, size_t number, size_t offset, size_t size) {
-    printf("bytes ");
-    if (number) putchar('-');
-    else print_bytes(p.at + offset, size);
+static void datagram(struct brundilope_datagram r) {
+    head("accepted", r.number, r.index);
+    printf("%u %u %" PRIu64 " %u %u %u", r.codec, r.count, r.imei, r.packet_id, r.unused, r.avl_packet_id);
+}
+
+static void login(struct brundilope_login r) {
+    head("accepted", r.number, r.index);
+    printf("%" PRIu64, r.imei);
+}
+
+static void command(struct brundilope_command r) {
+    head("accepted", r.number, r.index);
+    printf("%u %u %" PRIu64 " %zu %zu", r.codec, r.type, r.imei, r.offset, r.size);
 }
 
 static void record(struct brundilope_record r) {
-    if (r.number) refused(r.number, r.index);
-    else
-        printf("accepted %" PRIu64 " %u %" PRId32 " %" PRId32 " %d %u %u %u %u %u %zu", r.timestamp, r.priority, r.longitude, r.latitude,
-               r.altitude, r.angle, r.satellites, r.speed, r.event, r.generation, r.elements);
+    head("accepted", r.number, r.index);
+    printf("%" PRIu64 " %u %" PRId32 " %" PRId32 " %d %u %u %u %u %u %zu", r.timestamp, r.priority, r.longitude, r.latitude, r.altitude,
+           r.angle, r.satellites, r.speed, r.event, r.generation, r.elements);
 }
+
+static void value(struct brundilope_value v) {
+    head("accepted", v.number, v.index);
+    printf("%u %u %zu %zu", v.id, v.kind, v.offset, v.size);
+}
+
+static void known(struct brundilope_known k) {
+    head("accepted", k.number, k.index);
+    printf("%d %u %u %zu %zu", k.older, k.id, k.kind, k.offset, k.size);
+}
+
+static void written(struct brundilope_written w, struct bytes out) {
+    head("written", w.number, w.index);
+    printf("%zu ", w.written);
+    print_bytes(out.at, out.size);
+}
+
+/* ---- calls */
 
 static size_t number(const char *word) { return (size_t)strtoull(word, NULL, 10); }
 
 /* The calls on one packet or datagram. */
 static int on_input(const char *call, struct bytes p, char **w) {
-    if (!strcmp(call, "read_packet")) {
-        struct brundilope_packet r = brundilope_read_packet(p.at, p.size);
-        if (r.number) refused(r.number, r.index);
-        else printf("accepted %u %u", r.codec, r.count);
-    } else if (!strcmp(call, "read_datagram")) {
-        struct brundilope_datagram r = brundilope_read_datagram(p.at, p.size);
-        if (r.number) refused(r.number, r.index);
-        else printf("accepted %u %u %" PRIu64 " %u %u %u", r.codec, r.count, r.imei, r.packet_id, r.unused, r.avl_packet_id);
-    } else if (!strcmp(call, "read_login")) {
-        struct brundilope_login r = brundilope_read_login(p.at, p.size);
-        if (r.number) refused(r.number, r.index);
-        else printf("accepted %" PRIu64, r.imei);
-    } else if (!strcmp(call, "read_command")) {
-        struct brundilope_command r = brundilope_read_command(p.at, p.size);
-        if (r.number) refused(r.number, r.index);
-        else printf("accepted %u %u %" PRIu64 " %zu %zu", r.codec, r.type, r.imei, r.offset, r.size);
-    } else if (!strcmp(call, "command_text")) {
-        struct brundilope_command r = brundilope_read_command(p.at, p.size);
-        view(p, r.number, r.offset, r.size);
-    } else if (!strcmp(call, "record_in_packet")) record(brundilope_record_in_packet(p.at, p.size, number(w[2])));
+    if (!strcmp(call, "read_packet")) packet(brundilope_read_packet(p.at, p.size));
+    else if (!strcmp(call, "read_datagram")) datagram(brundilope_read_datagram(p.at, p.size));
+    else if (!strcmp(call, "read_login")) login(brundilope_read_login(p.at, p.size));
+    else if (!strcmp(call, "read_command")) command(brundilope_read_command(p.at, p.size));
+    else if (!strcmp(call, "record_in_packet")) record(brundilope_record_in_packet(p.at, p.size, number(w[2])));
     else if (!strcmp(call, "record_in_datagram")) record(brundilope_record_in_datagram(p.at, p.size, number(w[2])));
     else if (!strcmp(call, "value_in_packet")) value(brundilope_value_in_packet(p.at, p.size, number(w[2]), number(w[3])));
     else if (!strcmp(call, "value_in_datagram")) value(brundilope_value_in_datagram(p.at, p.size, number(w[2]), number(w[3])));
     else if (!strcmp(call, "id_in_packet")) value(brundilope_id_in_packet(p.at, p.size, number(w[2]), (uint16_t)number(w[3])));
     else if (!strcmp(call, "id_in_datagram")) value(brundilope_id_in_datagram(p.at, p.size, number(w[2]), (uint16_t)number(w[3])));
     else return 0;
-    return 1;
-}
-
-static int on_view(const char *call, struct bytes p, char **w) {
-    struct brundilope_value v;
-    if (!strcmp(call, "view_in_packet")) v = brundilope_value_in_packet(p.at, p.size, number(w[2]), number(w[3]));
-    else if (!strcmp(call, "view_in_datagram")) v = brundilope_value_in_datagram(p.at, p.size, number(w[2]), number(w[3]));
-    else if (!strcmp(call, "id_view_in_packet")) v = brundilope_id_in_packet(p.at, p.size, number(w[2]), (uint16_t)number(w[3]));
-    else if (!strcmp(call, "id_view_in_datagram")) v = brundilope_id_in_datagram(p.at, p.size, number(w[2]), (uint16_t)number(w[3]));
-    else return 0;
-    view(p, v.number, v.offset, v.size);
     return 1;
 }
 
@@ -126,25 +161,22 @@ static void on_buffer(const char *call, struct bytes p, char **w) {
     else if (!strcmp(call, "form_of_datagram")) written(brundilope_form_of_datagram(p.at, p.size, out.at, out.size), out);
     else if (!strcmp(call, "packet_of_form")) written(brundilope_packet_of_form(p.at, p.size, out.at, out.size), out);
     else written(brundilope_answer_login(p.at, p.size, number(w[2]) != 0, out.at, out.size), out);
-    free(out.at);
+    done_buffer(out);
 }
 
 static void write_command(char **w) {
     struct bytes imei = bytes_of(w[3]), text = bytes_of(w[4]), out = bytes_of(w[5]);
     written(brundilope_write_command((uint8_t)number(w[1]), (uint8_t)number(w[2]), imei.at, imei.size, text.at, text.size, out.at, out.size), out);
-    free(imei.at);
-    free(text.at);
-    free(out.at);
+    done_input(imei);
+    done_input(text);
+    done_buffer(out);
 }
 
-static void last_known(char **w, int as_view) {
+static void last_known(char **w) {
     struct bytes newer = bytes_of(w[1]), older = bytes_of(w[2]);
-    struct brundilope_known k = brundilope_last_known(newer.at, newer.size, older.at, older.size, (uint16_t)number(w[3]));
-    if (as_view) view(k.older ? older : newer, k.number, k.offset, k.size);
-    else if (k.number) refused(k.number, k.index);
-    else printf("accepted %d %u %u %zu %zu", k.older, k.id, k.kind, k.offset, k.size);
-    free(newer.at);
-    free(older.at);
+    known(brundilope_last_known(newer.at, newer.size, older.at, older.size, (uint16_t)number(w[3])));
+    done_input(newer);
+    done_input(older);
 }
 
 /* How many words follow the name of a call; -1 for an unknown one. */
@@ -153,12 +185,11 @@ static int words_after(const char *call) {
         const char *call;
         int words;
     } calls[] = {
-        {"read_packet", 1},           {"read_datagram", 1},         {"read_login", 1},         {"read_command", 1},
-        {"command_text", 1},          {"record_in_packet", 2},      {"record_in_datagram", 2}, {"value_in_packet", 3},
-        {"value_in_datagram", 3},     {"id_in_packet", 3},          {"id_in_datagram", 3},     {"view_in_packet", 3},
-        {"view_in_datagram", 3},      {"id_view_in_packet", 3},     {"last_known", 3},         {"last_known_view", 3},
-        {"id_view_in_datagram", 3},   {"acknowledge_packet", 2},    {"answer_login", 3},       {"write_command", 5},
-        {"acknowledge_datagram", 2},  {"form_of_packet", 2},        {"form_of_datagram", 2},   {"packet_of_form", 2},
+        {"read_packet", 1},        {"read_datagram", 1},        {"read_login", 1},         {"read_command", 1},
+        {"record_in_packet", 2},   {"record_in_datagram", 2},   {"value_in_packet", 3},    {"value_in_datagram", 3},
+        {"id_in_packet", 3},       {"id_in_datagram", 3},       {"last_known", 3},         {"answer_login", 3},
+        {"acknowledge_packet", 2}, {"acknowledge_datagram", 2}, {"form_of_packet", 2},     {"form_of_datagram", 2},
+        {"packet_of_form", 2},     {"write_command", 5},
     };
     for (size_t i = 0; i < sizeof calls / sizeof *calls; i++)
         if (!strcmp(call, calls[i].call)) return calls[i].words;
@@ -173,19 +204,20 @@ static void answer(char *line) {
     if (words < 0) printf("error unknown call");
     else if (words != n - 1) printf("error wrong number of words");
     else if (!strcmp(w[0], "write_command")) write_command(w);
-    else if (!strcmp(w[0], "last_known")) last_known(w, 0);
-    else if (!strcmp(w[0], "last_known_view")) last_known(w, 1);
+    else if (!strcmp(w[0], "last_known")) last_known(w);
     else {
         struct bytes p = bytes_of(w[1]);
-        if (!on_input(w[0], p, w) && !on_view(w[0], p, w)) on_buffer(w[0], p, w);
-        free(p.at);
+        if (!on_input(w[0], p, w)) on_buffer(w[0], p, w);
+        done_input(p);
     }
     putchar('\n');
 }
 
-int main(void) {
+int main(int argc, char **argv) {
     char *line = NULL;
     size_t room = 0;
+    if (argc == 2 && !strcmp(argv[1], "bare")) guard = 0;
+    else if (argc != 1) fail("not a word of the driver", argv[1]);
     while (getline(&line, &room, stdin) > 0) answer(line);
     free(line);
     return 0;

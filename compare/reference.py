@@ -3,7 +3,8 @@
 
     python3 reference.py     answers calls from standard input, one a line
 
-It is written from the papers alone and is meant to be read beside them.
+It is written from the papers alone and is meant to be read beside them; only how
+the calls for C lay an answer out (`flat`) is from include/brundilope.h.
 Byte strings in a call are lower-case hexadecimal, '-' stands for none.
 """
 
@@ -320,81 +321,137 @@ def tlv_form(data, packet):
     return b"".join(form)
 
 
-def split_form(form):
-    """The (kind, body) pairs of a form, None if an entry is not whole."""
+# ---------------------------------------------------------------- TLV forms, judged entry by entry
+
+# Refusal 17 is decided here by the rules themselves and not by reading back what
+# was written, as the library does: the two are not to share a slip.
+
+def form_entries(form):
+    """The (kind, body) pairs of a form: a length, a kind and so many bytes, until its end."""
     entries = []
     at = 0
     while at < len(form):
-        length = int.from_bytes(form[at:at + 2], "little")
-        kind = int.from_bytes(form[at + 2:at + 4], "little")
-        end = at + 4 + length
-        if end > len(form):
-            return None
-        entries.append((kind, form[at + 4:end]))
-        at = end
+        if len(form) - at < 4:
+            raise Refused(17, place="entry's head")
+        length, kind = struct.unpack_from("<HH", form, at)
+        at += 4
+        if len(form) - at < length:
+            raise Refused(17, place="entry's body")
+        entries.append((kind, form[at:at + length]))
+        at += length
     return entries
 
 
-def candidate_record(widths, body, elements):
-    """The record bytes that a 101 body and its (kind, body) elements speak of.
-    Numbers too large for their field raise OverflowError."""
-    def counted(number):
-        return number.to_bytes(widths.count, "big")
+def form_codec(entries):
+    """The codec of the first entry."""
+    if not entries:
+        raise Refused(17, place="no entry")
+    kind, body = entries[0]
+    if kind != CODEC_ENTRY:
+        raise Refused(17, place="first kind")
+    if len(body) != 1:
+        raise Refused(17, place="codec's length")
+    if body[0] not in WIDTHS:
+        raise Refused(17, place="codec")
+    return body[0]
 
-    *fields, event, generation = RECORD_BODY.unpack(body)
-    parts = [struct.pack(">QBiihHBH", *fields), event.to_bytes(widths.event, "big")]
+
+def form_fields(widths, body):
+    """The fields of a record's entry, which have to fit the packet's and keep their rules."""
+    if len(body) != RECORD_BODY.size:
+        raise Refused(17, place="record's length")
+    fields = RECORD_BODY.unpack(body)
+    priority, event, generation = fields[1], fields[-2], fields[-1]
+    if priority > 2:
+        raise Refused(17, place="priority")
+    if event >= 256 ** widths.event:
+        raise Refused(17, place="event ID")
+    if generation > 7:
+        raise Refused(17, place="generation type")
+    if generation > 0 and not widths.generation:
+        raise Refused(17, place="generation type outside 16")
+    return fields
+
+
+def form_element(widths, kind, body, before):
+    """An element's ID and value. Before is the kind of the record's element before it, or 0: a packet
+    has the groups in the order 1, 2, 4, 8, 9."""
+    if kind not in FIXED_KINDS and not (kind == VARIABLE_KIND and widths.variable):
+        raise Refused(17, place="kind")
+    if kind < before:
+        raise Refused(17, place="order")
+    if len(body) < 2:
+        raise Refused(17, place="element's length")
+    if kind != VARIABLE_KIND and len(body) != 2 + kind:
+        raise Refused(17, place="value's length")
+    ident = int.from_bytes(body[:2], "little")
+    if ident >= 256 ** widths.id:
+        raise Refused(17, place="ID")
+    return kind, ident, body[2:]
+
+
+def record_size(widths, elements):
+    """How many bytes a record with these elements has in a packet."""
+    groups = 5 if widths.variable else 4
+    size = 24 + widths.event + widths.generation + widths.count * (1 + groups)
+    for kind, _, value in elements:
+        size += widths.id + (2 if kind == VARIABLE_KIND else 0) + len(value)
+    return size
+
+
+def read_form(form):
+    """The codec of a form and its records, each (fields, elements); 17 unless every rule is kept."""
+    entries = form_entries(form)
+    codec = form_codec(entries)
+    widths = WIDTHS[codec]
+    records = []
+    for kind, body in entries[1:]:
+        if kind == RECORD_ENTRY:
+            records.append((form_fields(widths, body), []))
+            continue
+        if not records:
+            raise Refused(17, place="no record before it")
+        elements = records[-1][1]
+        elements.append(form_element(widths, kind, body, elements[-1][0] if elements else 0))
+    sizes = [record_size(widths, elements) for _, elements in records]
+    # A group or a total that its count cannot hold has 256 elements, and 256 records are over the packet's limit.
+    if not records:
+        raise Refused(17, place="no record")
+    if max(sizes) > RECORD_LIMIT:
+        raise Refused(17, place="record's size")
+    if 3 + sum(sizes) > LENGTH_LIMIT:
+        raise Refused(17, place="packet's size")
+    return codec, records
+
+
+def record_bytes(widths, fields, elements):
+    """A record as it stands in a packet."""
+    *fixed, event, generation = fields
+    parts = [struct.pack(">QBiihHBH", *fixed), event.to_bytes(widths.event, "big")]
     if widths.generation:
         parts.append(bytes([generation]))
     kinds = FIXED_KINDS + ((VARIABLE_KIND,) if widths.variable else ())
-    groups = [[item for kind, item in elements if kind == wanted] for wanted in kinds]
-    parts.append(counted(sum(len(group) for group in groups[:4])))
-    for kind, group in zip(kinds, groups):
-        parts.append(counted(len(group)))
-        for item in group:
-            parts.append(int.from_bytes(item[:2], "little").to_bytes(widths.id, "big"))
+    groups = [[item for item in elements if item[0] == kind] for kind in kinds]
+    parts.append(sum(len(group) for group in groups[:4]).to_bytes(widths.count, "big"))
+    for group in groups:
+        parts.append(len(group).to_bytes(widths.count, "big"))
+        for kind, ident, value in group:
+            parts.append(ident.to_bytes(widths.id, "big"))
             if kind == VARIABLE_KIND:
-                parts.append((len(item) - 2).to_bytes(2, "big"))
-            parts.append(item[2:])
+                parts.append(len(value).to_bytes(2, "big"))
+            parts.append(value)
     return b"".join(parts)
 
 
-def candidate_packet(form):
-    """The only packet whose TLV form this can be, or None."""
-    entries = split_form(form)
-    if not entries or entries[0][0] != CODEC_ENTRY or len(entries[0][1]) != 1:
-        return None
-    codec = entries[0][1][0]
-    if codec not in WIDTHS:
-        return None
-    records = []                # each a 101 body and its elements
-    for kind, body in entries[1:]:
-        if kind == RECORD_ENTRY and len(body) == RECORD_BODY.size:
-            records.append((body, []))
-        elif records and len(body) >= 2:
-            records[-1][1].append((kind, body))
-        else:
-            return None
-    if not 1 <= len(records) <= 255:
-        return None
-    count = bytes([len(records)])
-    field = b"".join(candidate_record(WIDTHS[codec], *record) for record in records)
-    return tcp_packet(bytes([codec]) + count + field + count)
-
-
 def packet_of_form(form):
-    """The packet with this TLV form. What it is taken for is read back and
-    written again: only an accepted packet with the very same form will do."""
-    try:
-        packet = candidate_packet(form)
-    except OverflowError:
-        packet = None
-    try:
-        if packet is not None and tlv_form(packet, read_packet(packet)) == form:
-            return packet
-    except Refused:
-        pass
-    raise Refused(17)
+    """The packet with this TLV form."""
+    codec, records = read_form(form)
+    count = bytes([len(records)])
+    body = b"".join(record_bytes(WIDTHS[codec], *record) for record in records)
+    return tcp_packet(bytes([codec]) + count + body + count)
 
+
+# ---------------------------------------------------------------- writing commands and answers
 
 def write_command(codec, kind, imei, text):
     if codec not in TYPES:
@@ -513,6 +570,14 @@ CALLS = {
     "packet_of_form": ("write", "PP", packet_of_form),
 }
 
+# How many fields an answer of C has besides the number and the index.
+FIELDS = {
+    "read_packet": 2, "read_datagram": 6, "read_login": 1, "read_command": 5, "record_in_packet": 11,
+    "record_in_datagram": 11, "value_in_packet": 4, "value_in_datagram": 4, "id_in_packet": 4, "id_in_datagram": 4,
+    "last_known": 5, "acknowledge_packet": 1, "acknowledge_datagram": 1, "answer_login": 1, "write_command": 1,
+    "form_of_packet": 1, "form_of_datagram": 1, "packet_of_form": 1,
+}
+
 # The sorts of words: P bytes; numbers below these bounds.
 BOUNDS = {"N": 1 << 64, "I": 1 << 16, "B": 1 << 8, "K": 2}
 DECIMAL = re.compile(r"[0-9]{1,20}")
@@ -564,8 +629,27 @@ def evaluate(line):
         return text, refusal
 
 
+def flat(line, answer):
+    """An answer as the calls for C give it, every field of it: the number and the index, 0 and 0 for
+    an accepted input, then the others, all 0 on a refusal. Views are not for C."""
+    name = line.split()[0] if line.strip() else ""
+    said, *words = answer.split()
+    if said == "error" or name not in FIELDS:
+        return answer
+    if said == "refused":
+        words[2:2] = ["0"] * FIELDS[name]
+    else:
+        words[:0] = ["0", "0"]
+    return " ".join((said, *words))
+
+
 def answer(line):
-    return evaluate(line)[0]
+    return flat(line, evaluate(line)[0])
+
+
+def is_view(line):
+    """Is it a call that gives a view?"""
+    return CALLS.get(line.split(" ", 1)[0].strip(), ("",))[0] == "view"
 
 
 # ---------------------------------------------------------------- running

@@ -35,6 +35,8 @@
 #![deny(missing_docs, unsafe_code)]
 #![warn(clippy::all, clippy::undocumented_unsafe_blocks)]
 
+#[cfg(test)]
+mod layouts;
 mod lookup;
 #[allow(unsafe_code)]
 mod raw;

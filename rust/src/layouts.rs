@@ -1,0 +1,44 @@
+//! Holds the structs of `raw` to the lines of tests/layouts, as tests/layouts.c holds the header's.
+use core::mem::{offset_of, size_of};
+
+use crate::raw::{Command, Datagram, Known, Login, Packet, Record, Value, Written};
+
+fn size_of_field<S, F>(_: fn(&S) -> &F) -> usize {
+    size_of::<F>()
+}
+
+/// The lines of structs with these names in C; a field's name is C's but for `type`, which Rust keeps for itself.
+macro_rules! lines {
+    ($($name:ident as $c:literal { $($field:ident),* })*) => {
+        [$(
+            format!("STRUCT({}, {})", $c, size_of::<$name>()),
+            $(format!(
+                "FIELD({}, {}, {}, {})",
+                $c,
+                stringify!($field).replace("message_type", "type"),
+                offset_of!($name, $field),
+                size_of_field(|s: &$name| &s.$field)
+            ),)*
+        )*]
+    };
+}
+
+#[test]
+fn layouts_are_those_of_the_header() {
+    let told = include_str!("../../tests/layouts");
+    let told: Vec<&str> = told.lines().filter(|line| line.ends_with(')')).collect();
+    let own = lines! {
+        Packet as "packet" { number, index, codec, count }
+        Datagram as "datagram" { number, index, codec, count, packet_id, unused, avl_packet_id, imei }
+        Login as "login" { number, index, imei }
+        Command as "command" { number, index, codec, message_type, imei, offset, size }
+        Record as "record" {
+            number, index, timestamp, priority, longitude, latitude, altitude, angle, satellites, speed, event,
+            generation, elements
+        }
+        Value as "value" { number, index, id, kind, offset, size }
+        Known as "known" { number, index, older, id, kind, offset, size }
+        Written as "written" { number, index, written }
+    };
+    assert_eq!(own.as_slice(), told.as_slice());
+}
