@@ -23,8 +23,8 @@ data-sound : (longest : ℕ) (d : List ℕ) (a : AvlData) → Bytes d → 3 ≤ 
 unfolding readData dataBytes
 data-sound longest d a h l e =
     let c₁ = check-accepted (isDataCodec (codecOf d)) 6 _ e in
-    let c₂ = check-accepted (leb 1 (firstCount d)) 7 _ (c₁ .1) in
-    let c₃ = check-accepted (eqb (firstCount d) (lastCount d)) 7 _ (c₂ .1) in
+    let c₂ = check-accepted _ 7 _ (c₁ .1) in
+    let c₃ = check-accepted _ 7 _ (c₂ .1) in
     let c₄ = onAccepted-accepted _ _ (c₃ .1) in
     let c₅ = told-accepted _ (c₄ .1) in
     let rs = c₄ .0 in

@@ -96,7 +96,7 @@ fixed-exact w =
     record {
       sound = λ s at h i.
           meets-then (number 8) _ s at (number-exact 8 .sound s at h i) (λ timestamp n₁ k₁.
-          meets-then (upTo 1 2 10) _ s n₁ (upTo-exact 1 2 10 .sound s n₁ h (k₁ .0 .inside)) (λ priority n₂ k₂.
+          meets-then (upTo 1 _ 10) _ s n₁ (upTo-exact 1 _ 10 .sound s n₁ h (k₁ .0 .inside)) (λ priority n₂ k₂.
           meets-then (number 4) _ s n₂ (number-exact 4 .sound s n₂ h (k₂ .0 .inside)) (λ longitude n₃ k₃.
           meets-then (number 4) _ s n₃ (number-exact 4 .sound s n₃ h (k₃ .0 .inside)) (λ latitude n₄ k₄.
           meets-then (number 2) _ s n₄ (number-exact 2 .sound s n₄ h (k₄ .0 .inside)) (λ altitude n₅ k₅.
@@ -104,7 +104,7 @@ fixed-exact w =
           meets-then (number 1) _ s n₆ (number-exact 1 .sound s n₆ h (k₆ .0 .inside)) (λ satellites n₇ k₇.
           meets-then (number 2) _ s n₇ (number-exact 2 .sound s n₇ h (k₇ .0 .inside)) (λ speed n₈ k₈.
           meets-then (number (w .event)) _ s n₈ (number-exact (w .event) .sound s n₈ h (k₈ .0 .inside)) (λ event n₉ k₉.
-          meets-then (upTo (w .generation) 7 11) _ s n₉ (upTo-exact (w .generation) 7 11 .sound s n₉ h (k₉ .0 .inside)) (λ generation n₁₀ k₁₀.
+          meets-then (upTo (w .generation) _ 11) _ s n₉ (upTo-exact (w .generation) _ 11 .sound s n₉ h (k₉ .0 .inside)) (λ generation n₁₀ k₁₀.
           meets-pure _ s n₁₀ (
             between-join (k₁ .0) (between-join (k₂ .0) (between-join (k₃ .0) (between-join (k₄ .0) (between-join (k₅ .0) (between-join (k₆ .0)
                 (between-join (k₇ .0) (between-join (k₈ .0) (between-join (k₉ .0) (k₁₀ .0))))))))),
@@ -133,7 +133,7 @@ fixed-exact w =
           let f₈ = between-split (be 2 (r .speed)) (f₇ .1) in
           let f₉ = between-split (be (w .event) (r .event)) (f₈ .1) in
           then-got (number 8) _ s at (number-exact 8 .complete s at _ _ (h .timestampFits) (f₁ .0))
-          ∙ then-got (upTo 1 2 10) _ s _ (upTo-exact 1 2 10 .complete s _ _ _ (omega (arith, h .priorityRange), h .priorityRange) (f₂ .0))
+          ∙ then-got (upTo 1 _ 10) _ s _ (upTo-exact 1 _ 10 .complete s _ _ _ (omega (arith, h .priorityRange), h .priorityRange) (f₂ .0))
           ∙ then-got (number 4) _ s _ (number-exact 4 .complete s _ _ _ (h .longitudeFits) (f₃ .0))
           ∙ then-got (number 4) _ s _ (number-exact 4 .complete s _ _ _ (h .latitudeFits) (f₄ .0))
           ∙ then-got (number 2) _ s _ (number-exact 2 .complete s _ _ _ (h .altitudeFits) (f₅ .0))
@@ -141,7 +141,7 @@ fixed-exact w =
           ∙ then-got (number 1) _ s _ (number-exact 1 .complete s _ _ _ (h .satellitesFit) (f₇ .0))
           ∙ then-got (number 2) _ s _ (number-exact 2 .complete s _ _ _ (h .speedFits) (f₈ .0))
           ∙ then-got (number (w .event)) _ s _ (number-exact (w .event) .complete s _ _ _ (h .eventFits) (f₉ .0))
-          ∙ then-got (upTo (w .generation) 7 11) _ s _ (upTo-exact (w .generation) 7 11 .complete s _ _ next (h .generationFits, h .generationRange) (f₉ .1));
+          ∙ then-got (upTo (w .generation) _ 11) _ s _ (upTo-exact (w .generation) _ 11 .complete s _ _ next (h .generationFits, h .generationRange) (f₉ .1));
     }
 
 within : {end mid start at n₀ size longest : ℕ} → mid ≡ n₀ + size → end ≤ start + longest → end ≡ mid → start ≡ at → n₀ ≡ at → size ≤ longest
@@ -157,8 +157,8 @@ record-exact longest w =
           meets-then (number (w .count)) _ s n₁ (number-exact (w .count) .sound s n₁ h (k₁ .0 .inside)) (λ sum n₂ k₂.
           meets-then (groups w (kinds w)) _ s n₂ (groups-exact w (kinds w) .sound s n₂ h (k₂ .0 .inside)) (λ gs n₃ k₃.
           meets-then here _ s n₃ (meets-here s n₃) (λ end n₄ k₄.
-          meets-next (require (eqb sum (total gs)) 9 start) _ s n₄ (meets-require _ _ _ s n₄) (λ u n₅ k₅.
-          meets-next (require (leb end (start + longest)) 12 start) _ s n₅ (meets-require _ _ _ s n₅) (λ v n₆ k₆.
+          meets-next (require _ 9 start) _ s n₄ (meets-require _ _ _ s n₄) (λ u n₅ k₅.
+          meets-next (require _ 12 start) _ s n₅ (meets-require _ _ _ s n₅) (λ v n₆ k₆.
           let same : sum ≡ total gs = eqb-true _ _ (k₅ .0) in
           let whole = between-join (k₁ .0) (between-join (between-bytes (ap (be (w .count)) same) (k₂ .0)) (k₃ .0)) in
           meets-pure _ s n₆ (
@@ -179,7 +179,7 @@ record-exact longest w =
           ∙ then-got (groups w (kinds w)) _ s _ (groups-exact w (kinds w) .complete s _ (r .groups) next (h .groupsKeep) (f₂ .1))
           ∙ here-got _ s next
           ∙ require-got (eqb (total (r .groups)) (total (r .groups))) 9 at _ s next (eq-eqb (total (r .groups)) (total (r .groups)) refl)
-          ∙ require-got (leb next (at + longest)) 12 at _ s next (le-leb next (at + longest) (omega (arith, h .size, f .size)));
+          ∙ require-got _ 12 at _ s next (le-leb next _ (omega (arith, h .size, f .size)));
     }
 
 -- ---- records
@@ -217,7 +217,7 @@ records-complete longest w index (r ∷ rs) s at next h f =
 
 meets-atEnd : (count : ℕ) (s : List ℕ) (at : ℕ) → Meets (atEnd count s at) (λ u next. (at ≡ length s) × (next ≡ length s))
 unfolding atEnd
-meets-atEnd count s at = meets-pick (eqb at (length s)) (got tt at) _ (λ e. meets-got tt at (eqb-true _ _ e, eqb-true _ _ e))
+meets-atEnd count s at = meets-pick _ (got tt at) _ (λ e. let end : at ≡ length s = eqb-true _ _ e in meets-got tt at (end, end))
 
 pub all-sound : (longest : ℕ) (w : Widths) (n : ℕ) (s : List ℕ) → Bytes s
     → Meets (allRecords longest w n s 0) (λ rs next. (s ≡ joined (recordBytes w) rs) × (length rs ≡ n) × All (RecordRules longest w) rs)

@@ -68,12 +68,12 @@ counted p h = number-lt p 4 4 h
 frame-sound : (largest : ℕ) (p d : List ℕ) → Bytes p → unframe largest p ≡ accepted d → FrameRules largest d × (p ≡ framed d)
 unfolding unframe
 frame-sound largest p d h e =
-    let c₁ = check-accepted (leb 8 (length p)) 1 _ e in
-    let c₂ = check-accepted (eqb (numberAt p 0 4) 0) 2 _ (c₁ .1) in
-    let c₃ = check-accepted (leb 3 (fieldLength p)) 3 _ (c₂ .1) in
-    let c₄ = check-accepted (leb (fieldLength p + 12) largest) 3 _ (c₃ .1) in
-    let c₅ = check-accepted (eqb (length p) (fieldLength p + 12)) 4 _ (c₄ .1) in
-    let c₆ = check-accepted (eqb (numberAt p (8 + fieldLength p) 4) (crc (fieldOf p))) 5 _ (c₅ .1) in
+    let c₁ = check-accepted _ 1 _ e in
+    let c₂ = check-accepted _ 2 _ (c₁ .1) in
+    let c₃ = check-accepted _ 3 _ (c₂ .1) in
+    let c₄ = check-accepted _ 3 _ (c₃ .1) in
+    let c₅ = check-accepted _ 4 _ (c₄ .1) in
+    let c₆ = check-accepted _ 5 _ (c₅ .1) in
     let long : length p ≡ fieldLength p + 12 = eqb-true _ _ (c₅ .0) in
     let size = length-field p long in
     let least : 3 ≤ fieldLength p = leb-true _ _ (c₃ .0) in
@@ -116,13 +116,12 @@ frame-complete largest d h =
     let s = framed d in
     let k = parts d s (length s) (h .bytes) (h .counted) (between-whole s) in
     let long = length-framed d in
-    check-passed (leb 8 (length s)) 1 _ (le-leb 8 (length s) (omega arith))
-    ∙ check-passed (eqb (numberAt s 0 4) 0) 2 _ (eq-eqb _ _ (k .zeros))
-    ∙ check-passed (leb 3 (fieldLength s)) 3 _ (le-leb 3 (fieldLength s) (omega (arith, k .size, h .least)))
-    ∙ check-passed (leb (fieldLength s + 12) largest) 3 _ (le-leb (fieldLength s + 12) largest (omega (arith, k .size, h .most)))
-    ∙ check-passed (eqb (length s) (fieldLength s + 12)) 4 _ (eq-eqb (length s) (fieldLength s + 12) (omega (arith, k .size, long)))
-    ∙ check-passed (eqb (numberAt s (8 + fieldLength s) 4) (crc (fieldOf s))) 5 _
-    (eq-eqb (numberAt s (8 + fieldLength s) 4) (crc (fieldOf s)) (ap (λ (n : ℕ). numberAt s (8 + n) 4) (k .size) ∙ k .sum ∙ ap crc (sym (k .field))))
+    check-passed _ 1 _ (le-leb _ (length s) (omega arith))
+    ∙ check-passed _ 2 _ (eq-eqb _ _ (k .zeros))
+    ∙ check-passed _ 3 _ (le-leb _ (fieldLength s) (omega (arith, k .size, h .least)))
+    ∙ check-passed _ 3 _ (le-leb _ largest (omega (arith, k .size, h .most)))
+    ∙ check-passed _ 4 _ (eq-eqb (length s) _ (omega (arith, k .size, long)))
+    ∙ check-passed _ 5 _ (eq-eqb _ _ (ap (λ (n : ℕ). numberAt s (8 + n) 4) (k .size) ∙ k .sum ∙ ap crc (sym (k .field))))
     ∙ ap accepted (k .field)
 
 -- the judge accepts exactly the frames that keep the rules

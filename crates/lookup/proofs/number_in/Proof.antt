@@ -22,7 +22,7 @@ widths-of-requires : tie.Need-widths-of-requires
 widths-of-requires c κs = search needs
 
 sub-nth-element : tie.Need-sub-nth-element
-sub-nth-element c = subst (PartIn (c .before .before .before .before .before .args .p .now)) (c .before .before .part2 .given .1) (c .before .before .before .before .before .pre) .0
+sub-nth-element c = omega (arith, subst (PartIn (c .before .before .before .before .before .args .p .now)) (c .before .before .part2 .given .1) (c .before .before .before .before .before .pre))
 
 part-nth-element-start : tie.Need-part-nth-element-start
 part-nth-element-start c = omega (arith, subst (PartIn (c .before .before .before .before .before .args .p .now)) (c .before .before .part2 .given .1) (c .before .before .before .before .before .pre))
