@@ -6,7 +6,7 @@
 #include "brundilope.h"
 
 int main(void) {
-    uint8_t bytes[1281]; /* one more than the longest packet */
+    uint8_t bytes[BRUNDILOPE_LARGEST + 1]; /* one more than the longest packet */
     size_t size = fread(bytes, 1, sizeof bytes, stdin);
 
     struct brundilope_packet packet = brundilope_read_packet(bytes, size);

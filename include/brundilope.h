@@ -36,6 +36,10 @@
 #include <stddef.h>
 #include <stdint.h>
 
+/* The most bytes of a packet or a datagram; and of a TLV form, which has at most four times as many as its packet. */
+#define BRUNDILOPE_LARGEST 1280
+#define BRUNDILOPE_LARGEST_FORM (4 * BRUNDILOPE_LARGEST)
+
 #ifdef __cplusplus
 extern "C" {
 #endif
@@ -173,7 +177,7 @@ struct brundilope_written brundilope_acknowledge_packet(const uint8_t *p, size_t
  * Refusals: those of reading the datagram, which then gets no acknowledgement; then 18. */
 struct brundilope_written brundilope_acknowledge_datagram(const uint8_t *p, size_t p_len, uint8_t *out, size_t out_len);
 
-/* ---- writing: 1,280 bytes are enough for every packet, 4,096 for every TLV form */
+/* ---- writing: BRUNDILOPE_LARGEST bytes are enough for every packet, BRUNDILOPE_LARGEST_FORM for every TLV form */
 
 /* A command packet. `imei` is empty for codec 0x0C and 15 ASCII digits for 0x0E; `text` is any bytes, none with type
  * 0x11. Refusals, in this order: 6, 13, 15, 14 (also if the packet would be over 1,280 bytes), 18. */

@@ -24,8 +24,8 @@
 //! # Buffers
 //!
 //! A function that writes puts its result at the start of the lent buffer, gives the number of bytes written and
-//! changes nothing behind them. A refusal changes no byte. 1,280 bytes are enough for every packet and 4,096 for every
-//! TLV form.
+//! changes nothing behind them. A refusal changes no byte. [`LARGEST`] bytes are enough for every packet and
+//! [`LARGEST_FORM`] for every TLV form.
 //!
 //! # Building
 //!
@@ -34,6 +34,12 @@
 
 #![deny(missing_docs, unsafe_code)]
 #![warn(clippy::all, clippy::undocumented_unsafe_blocks)]
+
+/// The most bytes of a packet or a datagram.
+pub const LARGEST: usize = 1280;
+
+/// The most bytes of a TLV form: it has at most four times as many as its packet.
+pub const LARGEST_FORM: usize = 4 * LARGEST;
 
 #[cfg(test)]
 mod layouts;

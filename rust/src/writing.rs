@@ -64,7 +64,7 @@ pub fn acknowledge_datagram(datagram: &[u8], out: &mut [u8]) -> Result<usize, Re
 /// ```
 /// use brundilope::{samples, write_command};
 ///
-/// let mut out = [0; 1280];
+/// let mut out = [0; brundilope::LARGEST];
 /// let size = write_command(0x0C, 0x05, b"", b"getio", &mut out)?;
 /// assert_eq!(&out[..size], samples::CODEC12_COMMAND);
 /// let size = write_command(0x0E, 0x05, b"352093081452251", b"getver", &mut out)?;
@@ -78,7 +78,7 @@ pub fn write_command(codec: u8, message_type: u8, imei: &[u8], text: &[u8], out:
 /// Writes the TLV form of a TCP data packet. Refusals 1 to 12, then 18.
 ///
 /// ```
-/// let mut form = [0; 4096];
+/// let mut form = [0; brundilope::LARGEST_FORM];
 /// let size = brundilope::form_of_packet(brundilope::samples::CODEC8, &mut form)?;
 /// assert_eq!(size, 82);
 /// assert_eq!(form[..9], [1, 0, 100, 0, 0x08, 27, 0, 101, 0]);
@@ -91,7 +91,7 @@ pub fn form_of_packet(packet: &[u8], out: &mut [u8]) -> Result<usize, Refusal> {
 /// Writes the TLV form of a datagram. Refusals 1, 3, 4, 15, 6 to 12, then 18.
 ///
 /// ```
-/// let mut form = [0; 4096];
+/// let mut form = [0; brundilope::LARGEST_FORM];
 /// let size = brundilope::form_of_datagram(brundilope::samples::UDP_CODEC8, &mut form)?;
 /// assert_eq!(size, 58);
 /// assert_eq!(form[size - 8..size], [4, 0, 2, 0, 66, 0, 0x5D, 0xBC]);
@@ -106,9 +106,9 @@ pub fn form_of_datagram(datagram: &[u8], out: &mut [u8]) -> Result<usize, Refusa
 /// ```
 /// use brundilope::{form_of_packet, packet_of_form, samples};
 ///
-/// let mut form = [0; 4096];
+/// let mut form = [0; brundilope::LARGEST_FORM];
 /// let size = form_of_packet(samples::CODEC8E, &mut form)?;
-/// let mut packet = [0; 1280];
+/// let mut packet = [0; brundilope::LARGEST];
 /// let again = packet_of_form(&form[..size], &mut packet)?;
 /// assert_eq!(&packet[..again], samples::CODEC8E);
 /// # Ok::<(), brundilope::Refusal>(())

@@ -179,7 +179,7 @@ type Writer<'a> = (&'a dyn Fn(&mut [u8]) -> Result<usize, Refusal>, &'a [u8]);
 #[test]
 fn writers_keep_to_their_result() {
     let (packet, datagram) = (packet(&DATA), datagram(&DATA));
-    let mut form = [0; 4096];
+    let mut form = [0; LARGEST_FORM];
     let size = form_of_packet(&packet, &mut form).unwrap();
     let form = &form[..size];
     let writers: [Writer; 8] = [
@@ -264,4 +264,16 @@ fn meanings_are_those_of_the_header() {
         assert!(header.contains(&line), "not in the header: {line}");
     }
     assert_eq!(Refusal { number: 0, record: None }.meaning(), Refusal { number: 19, record: None }.meaning());
+}
+
+#[test]
+fn sizes_are_those_of_the_header_and_the_library() {
+    let header = include_str!("../../include/brundilope.h");
+    assert!(header.contains(&format!("\n#define BRUNDILOPE_LARGEST {LARGEST}\n")));
+    assert!(header.contains("\n#define BRUNDILOPE_LARGEST_FORM (4 * BRUNDILOPE_LARGEST)\n"));
+    assert_eq!(LARGEST_FORM, 4 * LARGEST);
+    let text = [0; LARGEST - 19]; // one byte too many: 20 bytes of a packet are not text
+    let mut out = [0; LARGEST];
+    assert_eq!(write_command(0x0C, 0x05, b"", &text[1..], &mut out), Ok(LARGEST));
+    assert_eq!(write_command(0x0C, 0x05, b"", &text, &mut out), Err(Refusal { number: 14, record: None }));
 }
