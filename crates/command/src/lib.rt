@@ -185,7 +185,7 @@ pub fn judge_command(limits: Limits, p: &[u8]) -> CommandAnswer
     ensures { λ r. ⌜ commandAs r ≡ answerCommand limits (now (p .entry)) ⌝ }
 {
     match frame::unframed(limits.largest, p) {
-        Framed::Unframed(r) => CommandAnswer::Refused(r),
+        Framed::Unframed(number) => refused(number),
         Framed::Field(n) => {
             let end = 8 + n;
             read_field(&p[8..end])

@@ -1,12 +1,13 @@
 -- What the code's answer tells of the frame's judge.
 use Prim.Native.Nat.{ℕ, _+_, _≤_}
 use native.Mathlib.Omega.{arith}
-use mathlib.Core.Path.{_≡_, refl, sym, ap, ap₂, _∙_}
+use mathlib.Core.Path.{_≡_, refl, sym, ap, ap₂, subst, _∙_}
+use mathlib.Core.Bool.{Bool, true, false}
 use mathlib.Core.List.{List}
 use lib.ListN.{length, take, drop}
 use Rattle.wire.specs.Numbers.{Bytes}
 use Rattle.wire.specs.declared.Refusal.{Refusal}
-use Rattle.wire.specs.Answers.{Answer, accepted, refused}
+use Rattle.wire.specs.Answers.{Answer, accepted, refused, refusal, check}
 use Rattle.wire.proofs.Placed.{between-whole}
 use Rattle.frame.specs.declared.Framed.the-variants.{Field, Unframed}
 use Rattle.frame.specs.Frame.{framed, fieldOf, unframe, framing}
@@ -30,10 +31,28 @@ framing-field largest p n e h =
     in
     (a .1 ∙ ap accepted (sym field), omega (arith, ap length (rules .1), length-framed d, a .2), omega (arith, rules .0 .least, a .2))
 
-framing-refused : (r : Answer (List ℕ)) {x : Refusal} → framing r ≡ Unframed x → r ≡ refused x
-unfolding framing
-framing-refused (accepted d) e = absurd (let z : _≡_ {A = ℕ} 0 1 = cc in omega arith)
-framing-refused (refused y) e = ap refused (cc)
+-- refused with no record's index
+abbrev Whole : {A : Type 0} → Answer A → Type 0
+Whole r = (x : Refusal) → r ≡ refused x → x ≡ refusal (x .number)
 
-pub framing-unframed : (largest : ℕ) (p : List ℕ) (x : Refusal) → framing (unframe largest p) ≡ Unframed x → unframe largest p ≡ refused x
-framing-unframed largest p x e = framing-refused (unframe largest p) e
+whole-accepted : {A : Type 0} (a : A) → Whole (accepted a)
+whole-accepted a x e = absurd (let z : _≡_ {A = ℕ} 0 1 = cc in omega arith)
+
+whole-check : {A : Type 0} (test : Bool) (number : ℕ) (rest : Answer A) → Whole rest → Whole (check test number rest)
+unfolding check
+whole-check true number rest h x e = h x e
+whole-check false number rest h x e =
+    let same : refusal number ≡ x = cc in
+    subst (λ (y : Refusal). y ≡ refusal (y .number)) same refl
+
+whole-unframe : (largest : ℕ) (p : List ℕ) → Whole (unframe largest p)
+unfolding unframe
+whole-unframe largest p = whole-check _ 1 _ (whole-check _ 2 _ (whole-check _ 3 _ (whole-check _ 3 _ (whole-check _ 4 _ (whole-check _ 5 _ (whole-accepted _))))))
+
+framing-refused : (r : Answer (List ℕ)) {n : ℕ} → Whole r → framing r ≡ Unframed n → r ≡ refused (refusal n)
+unfolding framing
+framing-refused (accepted d) h e = absurd (let z : _≡_ {A = ℕ} 0 1 = cc in omega arith)
+framing-refused (refused x) {n} h e = let same : x .number ≡ n = cc in ap refused (h x refl ∙ ap refusal same)
+
+pub framing-unframed : (largest : ℕ) (p : List ℕ) (n : ℕ) → framing (unframe largest p) ≡ Unframed n → unframe largest p ≡ refused (refusal n)
+framing-unframed largest p n e = framing-refused (unframe largest p) (whole-unframe largest p) e

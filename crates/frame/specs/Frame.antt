@@ -55,8 +55,8 @@ unframe largest p =
 unfoldable pub lastFour : List ℕ → List ℕ
 lastFour p = drop (length p - 4) p
 
--- ---- what the code answers: the data field's length, or the refusal
+-- ---- what the code answers: the data field's length, or the refusal's number; no record has it
 
 unfoldable pub framing : Answer (List ℕ) → Framed
 framing (accepted d) = Field (length d)
-framing (refused r) = Unframed r
+framing (refused r) = Unframed (r .number)

@@ -1,49 +1,41 @@
 // The TCP packet around a data field.
-use wire::Refusal;
 ghost use mathlib.Core.Path.{_≡_};
 ghost use Prim.Native.Nat.{_+_, _≤_};
 ghost use lib.ListN.{length, take, drop};
 ghost use lib.Seq.{sets};
-ghost use Rattle.wire.specs.Answers.{refusal};
 ghost use Rattle.frame.specs.Frame.{framed, unframe, framing};
 
-// The length of the data field, which starts at 8; or the refusal.
+// The length of the data field, which starts at 8; or the refusal's number. The number alone: an answer of two words goes in registers.
 pub enum Framed {
     Field(usize),
-    Unframed(Refusal),
-}
-
-fn broken(number: usize) -> Framed
-    ensures { λ r. ⌜ r ≡ Framed.Unframed (refusal number) ⌝ }
-{
-    Framed::Unframed(Refusal { number, index: 0 })
+    Unframed(usize),
 }
 
 pub fn unframed(largest: usize, p: &[u8]) -> Framed
     ensures { λ r. ⌜ r ≡ framing (unframe largest (now (p .entry))) ⌝ }
 {
     if p.len() < 8 {
-        return broken(1);
+        return Framed::Unframed(1);
     }
     let zeros = wire::be32(p, 0);
     if zeros != 0 {
-        return broken(2);
+        return Framed::Unframed(2);
     }
     let size = wire::be32(p, 4) as usize;
     if size < 3 {
-        return broken(3);
+        return Framed::Unframed(3);
     }
     let whole = size + 12;
     if largest < whole {
-        return broken(3);
+        return Framed::Unframed(3);
     }
     if p.len() != whole {
-        return broken(4);
+        return Framed::Unframed(4);
     }
     let end = 8 + size;
     let sum = wire::be32(p, end);
     if sum != (checksum::crc16(&p[8..end]) as u32) {
-        return broken(5);
+        return Framed::Unframed(5);
     }
     Framed::Field(size)
 }

@@ -8,7 +8,7 @@ use lib.Seq.{length-take-le}
 use Rattle.wire.specs.declared.Limits.{Limits}
 use Rattle.wire.specs.declared.Refusal.{Refusal}
 use Rattle.wire.specs.Numbers.{Bytes, digits, be}
-use Rattle.wire.specs.Answers.{accepted, refused, onAccepted}
+use Rattle.wire.specs.Answers.{accepted, refused, refusal, onAccepted}
 use Rattle.wire.proofs.Accepting.{onAccepted-passed}
 use Rattle.frame.specs.declared.Framed.{Framed}
 use Rattle.frame.specs.Frame.{unframe, framing}
@@ -19,9 +19,9 @@ use Rattle.walk.proofs.TakenLaws.{TakenOf, taken-fits}
 use Rattle.packet.specs.DataPackets.{readPacket, answerPacket, acknowledged, tcpAcknowledgement}
 use Rattle.packet.proofs.PacketLaws.{packet-exact}
 
-pub unframed-refused : (limits : Limits) (p : List ℕ) (x : Refusal) → framing (unframe (limits .largest) p) ≡ Framed.Unframed x → readPacket limits p ≡ refused x
+pub unframed-refused : (limits : Limits) (p : List ℕ) (n : ℕ) → framing (unframe (limits .largest) p) ≡ Framed.Unframed n → readPacket limits p ≡ refused (refusal n)
 unfolding readPacket onAccepted
-unframed-refused limits p x e = ap (λ r. onAccepted r (readData (limits .longest))) (framing-unframed (limits .largest) p x e)
+unframed-refused limits p n e = ap (λ r. onAccepted r (readData (limits .longest))) (framing-unframed (limits .largest) p n e)
 
 module _ (limits : Limits) (p : List ℕ) (n : ℕ) (e : framing (unframe (limits .largest) p) ≡ Framed.Field n) (b : Bytes p) where
   -- the data field lies in the packet

@@ -22,7 +22,7 @@ pub fn judge_packet(limits: Limits, p: &[u8], want: usize) -> DataWalk
     ensures { λ r. ⌜ r ≡ dataWalk want (readPacket limits (now (p .entry))) ⌝ }
 {
     let n = match frame::unframed(limits.largest, p) {
-        Framed::Unframed(r) => return DataWalk::Refused(r),
+        Framed::Unframed(number) => return DataWalk::Refused(Refusal { number, index: 0 }),
         Framed::Field(n) => n,
     };
     let end = 8 + n;

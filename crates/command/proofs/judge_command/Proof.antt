@@ -26,8 +26,11 @@ field c =
 unframed-requires : tie.Need-unframed-requires
 unframed-requires c κs = search needs
 
-enum-known-r : tie.Need-enum-known-r
-enum-known-r c = search needs
+enum-known-number : tie.Need-enum-known-number
+enum-known-number c = search needs
+
+refused-requires : tie.Need-refused-requires
+refused-requires c κs = search needs
 
 enum-known-n : tie.Need-enum-known-n
 enum-known-n c = search needs
@@ -53,7 +56,7 @@ read-field-requires c κs =
 
 returns : tie.Need-returns
 unfolding commandAs answerCommand answered readCommand onAccepted
-returns c = simp (framing-unframed _ _ _ (sym (c .before .before .before .unframed .ensures) ∙ c .before .r .given .1))
+returns c = simp (c .refused .ensures, framing-unframed _ _ _ (sym (c .before .before .before .before .unframed .ensures) ∙ c .before .before .number .given .1))
 
 returns-2 : tie.Need-returns-2
 unfolding answerCommand readCommand answered onAccepted
@@ -64,7 +67,8 @@ judge-command-spec =
     tie.close
     (tie.spec
     unframed-requires
-    enum-known-r
+    enum-known-number
+    refused-requires
     enum-known-n
     add-end
     sub-read-field

@@ -19,22 +19,16 @@ use Rattle.frame.proofs.unframed.Tie as tie
 lent : (n : ℕ) (p : List ℕ) → crc (take (8 + n - 8) (drop 8 p)) ≡ crc (take n (drop 8 p))
 lent n p = let size : 8 + n - 8 ≡ n = omega arith in ap (λ (k : ℕ). crc (take k (drop 8 p))) size
 
-broken-requires : tie.Need-broken-requires
-broken-requires c κs = search needs
-
 returns : tie.Need-returns
 unfolding unframe framing check
-returns c = simp (c .broken .ensures, lt-leb _ _ (c .before .if1 .taken))
+returns c = simp (lt-leb _ _ (c .if1 .taken))
 
 be32-requires : tie.Need-be32-requires
 be32-requires c κs = search needs
 
-broken-requires-2 : tie.Need-broken-requires-2
-broken-requires-2 c κs = search needs
-
 returns-2 : tie.Need-returns-2
 unfolding unframe framing check
-returns-2 c = simp (c .broken2 .ensures, le-leb _ _ (c .before .before .before .if1 .left), ne-eqb _ _ (λ e. c .before .if2 .taken (c .before .before .be32 .ensures ∙ e)))
+returns-2 c = simp (le-leb _ _ (c .before .before .if1 .left), ne-eqb _ _ (λ e. c .if2 .taken (c .before .be32 .ensures ∙ e)))
 
 be32-requires-2 : tie.Need-be32-requires-2
 be32-requires-2 c κs = search needs
@@ -42,29 +36,20 @@ be32-requires-2 c κs = search needs
 cast-size : tie.Need-cast-size
 cast-size c = search needs
 
-broken-requires-3 : tie.Need-broken-requires-3
-broken-requires-3 c κs = search needs
-
 returns-3 : tie.Need-returns-3
 unfolding unframe framing check fieldLength
-returns-3 c = simp (c .broken3 .ensures, le-leb _ _ (c .before .before .before .before .before .if1 .left), eq-eqb _ _ (sym (c .before .before .before .before .be32 .ensures) ∙ c .before .before .before .if2 .left), ← c .before .before .be322 .ensures, lt-leb _ _ (c .before .if3 .taken))
+returns-3 c = simp (le-leb _ _ (c .before .before .before .before .if1 .left), eq-eqb _ _ (sym (c .before .before .before .be32 .ensures) ∙ c .before .before .if2 .left), ← c .before .be322 .ensures, lt-leb _ _ (c .if3 .taken))
 
 add-whole : tie.Need-add-whole
 add-whole c = search needs
 
-broken-requires-4 : tie.Need-broken-requires-4
-broken-requires-4 c κs = search needs
-
 returns-4 : tie.Need-returns-4
 unfolding unframe framing check fieldLength
-returns-4 c = simp (c .broken4 .ensures, le-leb _ _ (c .before .before .before .before .before .before .if1 .left), eq-eqb _ _ (sym (c .before .before .before .before .before .be32 .ensures) ∙ c .before .before .before .before .if2 .left), ← c .before .before .before .be322 .ensures, le-leb _ _ (c .before .before .if3 .left), lt-leb _ _ (c .before .if4 .taken))
-
-broken-requires-5 : tie.Need-broken-requires-5
-broken-requires-5 c κs = search needs
+returns-4 c = simp (le-leb _ _ (c .before .before .before .before .before .if1 .left), eq-eqb _ _ (sym (c .before .before .before .before .be32 .ensures) ∙ c .before .before .before .if2 .left), ← c .before .before .be322 .ensures, le-leb _ _ (c .before .if3 .left), lt-leb _ _ (c .if4 .taken))
 
 returns-5 : tie.Need-returns-5
 unfolding unframe framing check fieldLength
-returns-5 c = simp (c .broken5 .ensures, le-leb _ _ (c .before .before .before .before .before .before .before .if1 .left), eq-eqb _ _ (sym (c .before .before .before .before .before .before .be32 .ensures) ∙ c .before .before .before .before .before .if2 .left), ← c .before .before .before .before .be322 .ensures, le-leb _ _ (c .before .before .before .if3 .left), le-leb _ _ (c .before .before .if4 .left), ne-eqb _ _ (c .before .if5 .taken))
+returns-5 c = simp (le-leb _ _ (c .before .before .before .before .before .before .if1 .left), eq-eqb _ _ (sym (c .before .before .before .before .before .be32 .ensures) ∙ c .before .before .before .before .if2 .left), ← c .before .before .before .be322 .ensures, le-leb _ _ (c .before .before .if3 .left), le-leb _ _ (c .before .if4 .left), ne-eqb _ _ (c .if5 .taken))
 
 add-end : tie.Need-add-end
 add-end c = search needs
@@ -103,12 +88,9 @@ passed c =
       c .crc16 .ensures ∙ lent (c .before .before .before .before .before .before .be322 .result) (c .before .before .before .before .before .before .before .before .before .before .before .args .p .now),
     )
 
-broken-requires-6 : tie.Need-broken-requires-6
-broken-requires-6 c κs = search needs
-
 returns-6 : tie.Need-returns-6
 unfolding framing check
-returns-6 c = simp (c .broken6 .ensures, passed (c .before .before), ne-eqb _ _ (c .before .if6 .taken))
+returns-6 c = simp (passed (c .before), ne-eqb _ _ (c .if6 .taken))
 
 returns-7 : tie.Need-returns-7
 unfolding framing check fieldOf fieldLength
@@ -122,19 +104,14 @@ pub unframed-spec : {M : Type 1} → statement M
 unframed-spec =
     tie.close
     (tie.spec
-    broken-requires
     returns
     be32-requires
-    broken-requires-2
     returns-2
     be32-requires-2
     cast-size
-    broken-requires-3
     returns-3
     add-whole
-    broken-requires-4
     returns-4
-    broken-requires-5
     returns-5
     add-end
     be32-requires-3
@@ -143,6 +120,5 @@ unframed-spec =
     part-crc16-end
     crc16-requires
     cast-if6
-    broken-requires-6
     returns-6
     returns-7)

@@ -10,12 +10,12 @@ use Rattle.packet.proofs.judge_packet.Tie as tie
 unframed-requires : tie.Need-unframed-requires
 unframed-requires c κs = search needs
 
-enum-known-r : tie.Need-enum-known-r
-enum-known-r c = search needs
+enum-known-number : tie.Need-enum-known-number
+enum-known-number c = search needs
 
 returns : tie.Need-returns
 unfolding dataWalk
-returns c = sym (ap (dataWalk (c .before .before .before .before .before .args .want)) (unframed-refused (c .before .before .before .before .before .args .limits) (c .before .before .before .before .before .args .p .now) _ (sym (c .before .before .before .unframed .ensures) ∙ c .before .r .given .1)))
+returns c = sym (ap (dataWalk (c .before .before .before .before .before .args .want)) (unframed-refused (c .before .before .before .before .before .args .limits) (c .before .before .before .before .before .args .p .now) _ (sym (c .before .before .before .unframed .ensures) ∙ c .before .number .given .1)))
 
 enum-known-n : tie.Need-enum-known-n
 enum-known-n c = search needs
@@ -43,7 +43,7 @@ judge-packet-spec =
     tie.close
     (tie.spec
     unframed-requires
-    enum-known-r
+    enum-known-number
     returns
     enum-known-n
     add-end
