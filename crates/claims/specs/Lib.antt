@@ -1,3 +1,4 @@
+pub mod Rows
 pub mod Demand3
 pub mod BenchSheet
 pub mod Examples
