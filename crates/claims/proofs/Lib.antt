@@ -1,3 +1,5 @@
+pub mod Computing
 pub mod Demand3Proof
 pub mod BenchSheetProof
 pub mod ExamplesProof
+pub mod RefusalsProof

@@ -1,4 +1,7 @@
 pub mod Rows
+pub mod Calls
+pub mod Packets
 pub mod Demand3
 pub mod BenchSheet
 pub mod Examples
+pub mod Refusals

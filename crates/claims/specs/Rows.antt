@@ -19,6 +19,11 @@ abbrev pub AsSaid : List Row → Type 0
 AsSaid [] = Unit {0}
 AsSaid (r ∷ rows) = (r .asked ≡ r .says) × AsSaid rows
 
+-- the same of a table in parts
+abbrev pub EachAsSaid : List (List Row) → Type 0
+EachAsSaid [] = Unit {0}
+EachAsSaid (rows ∷ parts) = AsSaid rows × EachAsSaid parts
+
 -- the refusal with this number at this record
 infix 60 _at_
 abbrev pub _at_ : ℕ → ℕ → Refusal
