@@ -3,3 +3,4 @@ pub mod Demand3Proof
 pub mod BenchSheetProof
 pub mod ExamplesProof
 pub mod RefusalsProof
+pub mod AnswersProof

@@ -6,7 +6,7 @@ use Rattle.claims.proofs.Computing.{computing}
 
 packet-refusals : AsSaid packetRefusals
 unfolding computing packetRefusals
-packet-refusals = (refl, (refl, (refl, (refl, (refl, (refl, (refl, (refl, (refl, (refl, (refl, (refl, (refl, (refl, (refl, (refl, (refl, (refl, (refl, (refl, (refl, (refl, (refl, (refl, (refl, (refl, (refl, (refl, tt))))))))))))))))))))))))))))
+packet-refusals = (refl, (refl, (refl, (refl, (refl, (refl, (refl, (refl, (refl, (refl, (refl, (refl, (refl, (refl, (refl, (refl, (refl, (refl, (refl, (refl, (refl, (refl, (refl, (refl, (refl, (refl, (refl, tt)))))))))))))))))))))))))))
 
 datagram-refusals : AsSaid datagramRefusals
 unfolding computing datagramRefusals

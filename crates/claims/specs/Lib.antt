@@ -5,3 +5,4 @@ pub mod Demand3
 pub mod BenchSheet
 pub mod Examples
 pub mod Refusals
+pub mod Answers

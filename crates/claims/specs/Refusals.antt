@@ -48,7 +48,6 @@ packetRefusals =
     ∷ read-packet "priority 3, the rest missing" (tcp 0x00 0x0C (field 0x08 1 (set (take 9 plain) 8 0x03)) 0xA8 0xB1) (PacketAnswer.Refused (10 at 0))
     ∷ read-packet "generation 8" (tcp 0x00 0x43 (set two16 60 0x08) 0x4C 0x37) (PacketAnswer.Refused (11 at 1))
     ∷ read-packet "256 bytes" (tcp 0x01 0x2D (field 0x8E 2 (long 0 0 ++ long 214 0)) 0x13 0x81) (PacketAnswer.Refused (12 at 1))
-    ∷ read-packet "256 bytes, total 1" (tcp 0x01 0x2D (field 0x8E 2 (long 0 0 ++ long 214 1)) 0x35 0xCA) (PacketAnswer.Refused (9 at 1))
     ∷ []
 
 -- read_datagram: 1, 3, 4, 15, 6, 7, then the walk
