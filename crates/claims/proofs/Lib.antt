@@ -4,3 +4,4 @@ pub mod BenchSheetProof
 pub mod ExamplesProof
 pub mod RefusalsProof
 pub mod AnswersProof
+pub mod MeasuresProof

@@ -10,6 +10,7 @@ use Rattle.datagram.specs.declared.Header.{Header}
 use Rattle.datagram.specs.declared.DatagramAnswer.{DatagramAnswer}
 use Rattle.login.specs.declared.LoginAnswer.{LoginAnswer}
 use Rattle.command.specs.declared.CommandAnswer.{CommandAnswer}
+use Rattle.element.specs.declared.RecordFields.{RecordFields}
 use Rattle.lookup.specs.declared.RecordAnswer.{RecordAnswer}
 use Rattle.lookup.specs.declared.ValueAnswer.{ValueAnswer}
 use Rattle.lookup.specs.declared.KnownAnswer.{KnownAnswer}
@@ -17,7 +18,7 @@ use Rattle.claims.specs.Rows.{Row, EachAsSaid}
 use Rattle.claims.specs.Calls.{read-packet, read-datagram, read-login, read-command}
 use Rattle.claims.specs.Calls.{record-in-packet, record-in-datagram, value-in-packet, value-in-datagram, id-in-packet, id-in-datagram, last-known}
 use Rattle.claims.specs.Calls.{acknowledge-packet, acknowledge-datagram, answer-login, write-command, form-of-packet, form-of-datagram, packet-of-form}
-use Rattle.claims.specs.Packets.{field, tcp, login, udp, long, one16, full16, twoTcp, twoUdp, brokenTcp, newer, older, getverField}
+use Rattle.claims.specs.Packets.{field, tcp, imei, login, udp, long, twoTcp, twoUdp, brokenTcp, newer, newerUdp, older, getver, nack}
 use Rattle.claims.specs.BenchSheet.{sample, sampleForm, getio}
 
 -- a number below 0
@@ -27,10 +28,6 @@ minus (suc n) = negsuc n
 
 abbrev pub header : Header
 header = record { packet = 0xCAFE; unused = 0x01; avl = 0x05; imei = 123456789012345 }
-
--- 352093081452251
-abbrev pub imei : List ℕ
-imei = 0x33 ∷ 0x35 ∷ 0x32 ∷ 0x30 ∷ 0x39 ∷ 0x33 ∷ 0x30 ∷ 0x38 ∷ 0x31 ∷ 0x34 ∷ 0x35 ∷ 0x32 ∷ 0x32 ∷ 0x35 ∷ 0x31 ∷ []
 
 -- the forms of `newer` and `older`, an entry a line
 abbrev pub newerForm : List ℕ
@@ -53,6 +50,71 @@ olderForm =
     ∷ 0x02 ∷ 0x00 ∷ 0x09 ∷ 0x00 ∷ 0x01 ∷ 0x01
     ∷ 0x05 ∷ 0x00 ∷ 0x09 ∷ 0x00 ∷ 0x42 ∷ 0x01 ∷ 0x61 ∷ 0x62 ∷ 0x63 ∷ []
 
+-- the fields of the records `full16`, `one16`, `varied`, and of the bench sheet's sample
+abbrev pub fullFields : RecordFields
+fullFields =
+    record {
+      timestamp = 1562760415000;
+      priority = 2;
+      longitude = minus 50000000;
+      latitude = minus 500000;
+      altitude = minus 100;
+      angle = 258;
+      satellites = 11;
+      speed = 515;
+      event = 385;
+      generation = 7;
+      elements = 5;
+    }
+
+abbrev pub oneFields : RecordFields
+oneFields =
+    record {
+      timestamp = 1562760414000;
+      priority = 1;
+      longitude = pos 547146368;
+      latitude = minus 1;
+      altitude = pos 100;
+      angle = 180;
+      satellites = 7;
+      speed = 5;
+      event = 11;
+      generation = 1;
+      elements = 1;
+    }
+
+abbrev pub variedFields : RecordFields
+variedFields =
+    record {
+      timestamp = 1562760414000;
+      priority = 1;
+      longitude = pos 547146368;
+      latitude = minus 1;
+      altitude = pos 100;
+      angle = 180;
+      satellites = 7;
+      speed = 5;
+      event = 1;
+      generation = 0;
+      elements = 3;
+    }
+
+abbrev pub sampleFields : RecordFields
+sampleFields =
+    record {
+      timestamp = 1000;
+      priority = 1;
+      longitude = minus 1;
+      latitude = pos 547146368;
+      altitude = pos 100;
+      angle = 0;
+      satellites = 7;
+      speed = 5;
+      event = 0;
+      generation = 0;
+      elements = 1;
+    }
+
 -- what was read
 unfoldable pub readings : List Row
 readings =
@@ -64,18 +126,18 @@ readings =
     ∷ read-login "login" login (LoginAnswer.Imei 123456789012345)
     ∷ read-command "codec 12" getio (CommandAnswer.Accepted (record { codec = 0x0C; kind = 0x05; imei = 0; offset = 15; size = 5 })) (0x67 ∷ 0x65 ∷ 0x74 ∷ 0x69 ∷ 0x6F ∷ [])
     ∷ read-command "codec 12, type 06, no text" (tcp 0x00 0x08 (0x0C ∷ 0x01 ∷ 0x06 ∷ 0x00 ∷ 0x00 ∷ 0x00 ∷ 0x00 ∷ 0x01 ∷ []) 0x33 0xD1) (CommandAnswer.Accepted (record { codec = 0x0C; kind = 0x06; imei = 0; offset = 15; size = 0 })) []
-    ∷ read-command "codec 14" (tcp 0x00 0x16 getverField 0xD2 0xC1) (CommandAnswer.Accepted (record { codec = 0x0E; kind = 0x05; imei = 352093081452251; offset = 23; size = 6 })) (0x67 ∷ 0x65 ∷ 0x74 ∷ 0x76 ∷ 0x65 ∷ 0x72 ∷ [])
-    ∷ read-command "codec 14, type 11" (tcp 0x00 0x10 (0x0E ∷ 0x01 ∷ 0x11 ∷ 0x00 ∷ 0x00 ∷ 0x00 ∷ 0x08 ∷ 0x03 ∷ 0x52 ∷ 0x09 ∷ 0x30 ∷ 0x81 ∷ 0x45 ∷ 0x22 ∷ 0x51 ∷ 0x01 ∷ []) 0x32 0xAC) (CommandAnswer.Accepted (record { codec = 0x0E; kind = 0x11; imei = 352093081452251; offset = 23; size = 0 })) []
+    ∷ read-command "codec 14" getver (CommandAnswer.Accepted (record { codec = 0x0E; kind = 0x05; imei = 352093081452251; offset = 23; size = 6 })) (0x67 ∷ 0x65 ∷ 0x74 ∷ 0x76 ∷ 0x65 ∷ 0x72 ∷ [])
+    ∷ read-command "codec 14, type 11" nack (CommandAnswer.Accepted (record { codec = 0x0E; kind = 0x11; imei = 352093081452251; offset = 23; size = 0 })) []
     ∷ []
 
 -- what was looked up
 unfoldable pub lookups : List Row
 lookups =
-    record-in-packet "codec 16" newer 1 (RecordAnswer.Fields (record { timestamp = 1562760415000; priority = 2; longitude = minus 50000000; latitude = minus 500000; altitude = minus 100; angle = 258; satellites = 11; speed = 515; event = 385; generation = 7; elements = 5 }))
-    ∷ record-in-packet "codec 16, the record before" newer 0 (RecordAnswer.Fields (record { timestamp = 1562760414000; priority = 1; longitude = pos 547146368; latitude = minus 1; altitude = pos 100; angle = 180; satellites = 7; speed = 5; event = 11; generation = 1; elements = 1 }))
-    ∷ record-in-packet "codec 8E" older 0 (RecordAnswer.Fields (record { timestamp = 1562760414000; priority = 1; longitude = pos 547146368; latitude = minus 1; altitude = pos 100; angle = 180; satellites = 7; speed = 5; event = 1; generation = 0; elements = 3 }))
-    ∷ record-in-datagram "codec 16" (udp 0x00 0x75 (field 0x10 2 (one16 ++ full16))) 1 (RecordAnswer.Fields (record { timestamp = 1562760415000; priority = 2; longitude = minus 50000000; latitude = minus 500000; altitude = minus 100; angle = 258; satellites = 11; speed = 515; event = 385; generation = 7; elements = 5 }))
-    ∷ record-in-datagram "codec 8" sample 0 (RecordAnswer.Fields (record { timestamp = 1000; priority = 1; longitude = minus 1; latitude = pos 547146368; altitude = pos 100; angle = 0; satellites = 7; speed = 5; event = 0; generation = 0; elements = 1 }))
+    record-in-packet "codec 16" newer 1 (RecordAnswer.Fields fullFields)
+    ∷ record-in-packet "codec 16, the record before" newer 0 (RecordAnswer.Fields oneFields)
+    ∷ record-in-packet "codec 8E" older 0 (RecordAnswer.Fields variedFields)
+    ∷ record-in-datagram "codec 16" newerUdp 1 (RecordAnswer.Fields fullFields)
+    ∷ record-in-datagram "codec 8" sample 0 (RecordAnswer.Fields sampleFields)
     ∷ value-in-packet "1 byte" newer 1 0 (ValueAnswer.Found (record { id = 0x0115; kind = 1; offset = 76; size = 1 })) (0xA1 ∷ [])
     ∷ value-in-packet "1 byte, the second" newer 1 1 (ValueAnswer.Found (record { id = 0x0181; kind = 1; offset = 79; size = 1 })) (0xA2 ∷ [])
     ∷ value-in-packet "2 bytes" newer 1 2 (ValueAnswer.Found (record { id = 0x0142; kind = 2; offset = 83; size = 2 })) (0xB1 ∷ 0xB2 ∷ [])
@@ -87,7 +149,7 @@ lookups =
     ∷ value-in-datagram "codec 8" sample 0 0 (ValueAnswer.Found (record { id = 0x0015; kind = 1; offset = 53; size = 1 })) (0x03 ∷ [])
     ∷ id-in-packet "an ID that occurs twice" newer 1 0x0115 (ValueAnswer.Found (record { id = 0x0115; kind = 1; offset = 76; size = 1 })) (0xA1 ∷ [])
     ∷ id-in-packet "8 bytes" newer 1 0x014E (ValueAnswer.Found (record { id = 0x014E; kind = 8; offset = 95; size = 8 })) (0xD1 ∷ 0xD2 ∷ 0xD3 ∷ 0xD4 ∷ 0xD5 ∷ 0xD6 ∷ 0xD7 ∷ 0xD8 ∷ [])
-    ∷ id-in-datagram "an ID that occurs twice" (udp 0x00 0x75 (field 0x10 2 (one16 ++ full16))) 1 0x0115 (ValueAnswer.Found (record { id = 0x0115; kind = 1; offset = 91; size = 1 })) (0xA1 ∷ [])
+    ∷ id-in-datagram "an ID that occurs twice" newerUdp 1 0x0115 (ValueAnswer.Found (record { id = 0x0115; kind = 1; offset = 91; size = 1 })) (0xA1 ∷ [])
     ∷ last-known "in both" newer older 0x0142 (KnownAnswer.Found false (record { id = 0x0142; kind = 2; offset = 83; size = 2 })) (0xB1 ∷ 0xB2 ∷ [])
     ∷ last-known "in the newer, older refused" newer brokenTcp 0x0142 (KnownAnswer.Found false (record { id = 0x0142; kind = 2; offset = 83; size = 2 })) (0xB1 ∷ 0xB2 ∷ [])
     ∷ last-known "in the older" newer older 0x0015 (KnownAnswer.Found true (record { id = 0x0015; kind = 1; offset = 42; size = 1 })) (0x03 ∷ [])
@@ -103,11 +165,11 @@ writings =
     ∷ answer-login "not known" login false (replicate 2 7) (Written.Bytes 1) (0x00 ∷ 0x07 ∷ [])
     ∷ answer-login "known, digit 3A" (set login 16 0x3A) true (replicate 2 7) (Written.Bytes 1) (0x00 ∷ 0x07 ∷ [])
     ∷ write-command "codec 12" 0x0C 0x05 [] (0x67 ∷ 0x65 ∷ 0x74 ∷ 0x69 ∷ 0x6F ∷ []) (replicate 26 7) (Written.Bytes 25) (getio ++ (7 ∷ []))
-    ∷ write-command "codec 14" 0x0E 0x05 imei (0x67 ∷ 0x65 ∷ 0x74 ∷ 0x76 ∷ 0x65 ∷ 0x72 ∷ []) (replicate 34 7) (Written.Bytes 34) (tcp 0x00 0x16 getverField 0xD2 0xC1)
-    ∷ write-command "codec 14, type 11" 0x0E 0x11 imei [] (replicate 28 7) (Written.Bytes 28) (tcp 0x00 0x10 (0x0E ∷ 0x01 ∷ 0x11 ∷ 0x00 ∷ 0x00 ∷ 0x00 ∷ 0x08 ∷ 0x03 ∷ 0x52 ∷ 0x09 ∷ 0x30 ∷ 0x81 ∷ 0x45 ∷ 0x22 ∷ 0x51 ∷ 0x01 ∷ []) 0x32 0xAC)
+    ∷ write-command "codec 14" 0x0E 0x05 imei (0x67 ∷ 0x65 ∷ 0x74 ∷ 0x76 ∷ 0x65 ∷ 0x72 ∷ []) (replicate 34 7) (Written.Bytes 34) getver
+    ∷ write-command "codec 14, type 11" 0x0E 0x11 imei [] (replicate 28 7) (Written.Bytes 28) nack
     ∷ form-of-packet "codec 16" newer (replicate 121 7) (Written.Bytes 120) (newerForm ++ (7 ∷ []))
     ∷ form-of-packet "codec 8E" older (replicate 58 7) (Written.Bytes 58) olderForm
-    ∷ form-of-datagram "codec 16" (udp 0x00 0x75 (field 0x10 2 (one16 ++ full16))) (replicate 120 7) (Written.Bytes 120) newerForm
+    ∷ form-of-datagram "codec 16" newerUdp (replicate 120 7) (Written.Bytes 120) newerForm
     ∷ packet-of-form "codec 16" newerForm (replicate 109 7) (Written.Bytes 108) (newer ++ (7 ∷ []))
     ∷ packet-of-form "codec 8E" olderForm (replicate 67 7) (Written.Bytes 67) older
     ∷ packet-of-form "codec 8" sampleForm (replicate 47 7) (Written.Bytes 47) (tcp 0x00 0x23 (drop 23 sample) 0xB0 0xD2)

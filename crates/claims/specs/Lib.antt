@@ -6,3 +6,4 @@ pub mod BenchSheet
 pub mod Examples
 pub mod Refusals
 pub mod Answers
+pub mod Measures

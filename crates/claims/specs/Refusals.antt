@@ -15,7 +15,7 @@ use Rattle.claims.specs.Rows.{Row, EachAsSaid, _at_}
 use Rattle.claims.specs.Calls.{read-packet, read-datagram, read-login, read-command}
 use Rattle.claims.specs.Calls.{record-in-packet, record-in-datagram, value-in-packet, value-in-datagram, id-in-packet, id-in-datagram, last-known}
 use Rattle.claims.specs.Calls.{acknowledge-packet, acknowledge-datagram, answer-login, write-command, form-of-packet, form-of-datagram, packet-of-form}
-use Rattle.claims.specs.Packets.{field, tcp, unit, login, udp, plain, long, two, two16, twoTcp, twoUdp, brokenTcp, brokenUdp, newer, older, getioField, getverField}
+use Rattle.claims.specs.Packets.{field, tcp, unit, login, udp, plain, wrapping, long, two, two16, twoTcp, twoUdp, brokenTcp, brokenUdp, newer, older, getioField, getverField}
 use Rattle.claims.specs.BenchSheet.{sample, sampleForm, getio}
 
 -- read_packet: 1, 2, 3, 4, 5, 6, 7, then the walk
@@ -44,7 +44,7 @@ packetRefusals =
     ∷ read-packet "variable length up to the second count" (tcp 0x00 0x32 (field 0x8E 1 (set (long 5 0) 41 0x06)) 0x40 0x3C) (PacketAnswer.Refused (8 at 0))
     ∷ read-packet "total 1, no value" (tcp 0x00 0x3F (set two 57 0x01) 0x65 0xB2) (PacketAnswer.Refused (9 at 1))
     ∷ read-packet "total 2, a group cut short" (tcp 0x00 0x3F (set (set two 57 0x02) 61 0x01) 0xC6 0xB3) (PacketAnswer.Refused (8 at 1))
-    ∷ read-packet "priority 3" (tcp 0x00 0x3F (set two 40 0x03) 0xCD 0x2A) (PacketAnswer.Refused (10 at 1))
+    ∷ read-packet "priority 3" brokenTcp (PacketAnswer.Refused (10 at 1))
     ∷ read-packet "priority 3, the rest missing" (tcp 0x00 0x0C (field 0x08 1 (set (take 9 plain) 8 0x03)) 0xA8 0xB1) (PacketAnswer.Refused (10 at 0))
     ∷ read-packet "generation 8" (tcp 0x00 0x43 (set two16 60 0x08) 0x4C 0x37) (PacketAnswer.Refused (11 at 1))
     ∷ read-packet "256 bytes" (tcp 0x01 0x2D (field 0x8E 2 (long 0 0 ++ long 214 0)) 0x13 0x81) (PacketAnswer.Refused (12 at 1))
@@ -64,12 +64,14 @@ datagramRefusals =
     ∷ read-datagram "codec 0C, counts 0" (udp 0x00 0x54 (set (set (set two 0 0x0C) 1 0x00) 62 0x00)) (DatagramAnswer.Refused (6 at 0))
     ∷ read-datagram "counts 0" (udp 0x00 0x54 (set (set two 1 0x00) 62 0x00)) (DatagramAnswer.Refused (7 at 0))
     ∷ read-datagram "counts 2 and 1, priority 3" (udp 0x00 0x54 (set (set two 10 0x03) 62 0x01)) (DatagramAnswer.Refused (7 at 0))
+    ∷ read-datagram "no byte of a record" (udp 0x00 0x18 (0x08 ∷ 0x01 ∷ 0x01 ∷ [])) (DatagramAnswer.Refused (8 at 0))
     ∷ read-datagram "8-byte group, ID missing" (udp 0x00 0x54 (set two 61 0x01)) (DatagramAnswer.Refused (8 at 1))
     ∷ read-datagram "third record missing" (udp 0x00 0x54 (set (set two 1 0x03) 62 0x03)) (DatagramAnswer.Refused (8 at 2))
     ∷ read-datagram "left-over record, count 1" (udp 0x00 0x54 (set (set two 1 0x01) 62 0x01)) (DatagramAnswer.Refused (8 at 1))
     ∷ read-datagram "left-over byte, count 2" (udp 0x00 0x55 (field 0x08 2 (plain ++ plain ++ (0x00 ∷ [])))) (DatagramAnswer.Refused (8 at 2))
     ∷ read-datagram "total 1, no value" (udp 0x00 0x54 (set two 57 0x01)) (DatagramAnswer.Refused (9 at 1))
-    ∷ read-datagram "priority 3" (udp 0x00 0x54 (set two 40 0x03)) (DatagramAnswer.Refused (10 at 1))
+    ∷ read-datagram "counts 128 and 128, total 0" (udp 0x02 0xB6 (field 0x08 1 wrapping)) (DatagramAnswer.Refused (9 at 0))
+    ∷ read-datagram "priority 3" brokenUdp (DatagramAnswer.Refused (10 at 1))
     ∷ read-datagram "generation 8" (udp 0x00 0x58 (set two16 60 0x08)) (DatagramAnswer.Refused (11 at 1))
     ∷ read-datagram "256 bytes" (udp 0x01 0x42 (field 0x8E 2 (long 0 0 ++ long 214 0))) (DatagramAnswer.Refused (12 at 1))
     ∷ read-datagram "256 bytes, total 1" (udp 0x01 0x42 (field 0x8E 2 (long 0 0 ++ long 214 1))) (DatagramAnswer.Refused (9 at 1))
