@@ -10,7 +10,7 @@ packet-refusals = (refl, (refl, (refl, (refl, (refl, (refl, (refl, (refl, (refl,
 
 datagram-refusals : AsSaid datagramRefusals
 unfolding computing datagramRefusals
-datagram-refusals = (refl, (refl, (refl, (refl, (refl, (refl, (refl, (refl, (refl, (refl, (refl, (refl, (refl, (refl, (refl, (refl, (refl, (refl, (refl, (refl, (refl, (refl, tt))))))))))))))))))))))
+datagram-refusals = (refl, (refl, (refl, (refl, (refl, (refl, (refl, (refl, (refl, (refl, (refl, (refl, (refl, (refl, (refl, (refl, (refl, (refl, (refl, (refl, (refl, tt)))))))))))))))))))))
 
 login-refusals : AsSaid loginRefusals
 unfolding computing loginRefusals

@@ -36,10 +36,6 @@ plain = start ++ replicate 6 0
 abbrev pub plain16 : List ℕ
 plain16 = start ++ (0x00 ∷ 0x00 ∷ 0x05 ∷ replicate 5 0)
 
--- in codec 8: 128 values of one byte and 128 of two, and the total 0
-abbrev pub wrapping : List ℕ
-wrapping = start ++ (0x00 ∷ 0x00 ∷ 128 ∷ (replicate 256 7 ++ (128 ∷ (replicate 384 7 ++ (0x00 ∷ 0x00 ∷ [])))))
-
 -- in codec 8E, 42 bytes and a variable value of `n`, under 256, with the ID 9
 abbrev pub long : ℕ → ℕ → List ℕ
 long n total = start ++ (0x00 ∷ 0x00 ∷ 0x00 ∷ total ∷ (replicate 8 0 ++ (0x00 ∷ 0x01 ∷ 0x00 ∷ 0x09 ∷ 0x00 ∷ n ∷ replicate n 7)))

@@ -15,7 +15,7 @@ use Rattle.claims.specs.Rows.{Row, EachAsSaid, _at_}
 use Rattle.claims.specs.Calls.{read-packet, read-datagram, read-login, read-command}
 use Rattle.claims.specs.Calls.{record-in-packet, record-in-datagram, value-in-packet, value-in-datagram, id-in-packet, id-in-datagram, last-known}
 use Rattle.claims.specs.Calls.{acknowledge-packet, acknowledge-datagram, answer-login, write-command, form-of-packet, form-of-datagram, packet-of-form}
-use Rattle.claims.specs.Packets.{field, tcp, unit, login, udp, plain, wrapping, long, two, two16, twoTcp, twoUdp, brokenTcp, brokenUdp, newer, older, getioField, getverField}
+use Rattle.claims.specs.Packets.{field, tcp, unit, login, udp, plain, long, two, two16, twoTcp, twoUdp, brokenTcp, brokenUdp, newer, older, getioField, getverField}
 use Rattle.claims.specs.BenchSheet.{sample, sampleForm, getio}
 
 -- read_packet: 1, 2, 3, 4, 5, 6, 7, then the walk
@@ -70,7 +70,6 @@ datagramRefusals =
     ∷ read-datagram "left-over record, count 1" (udp 0x00 0x54 (set (set two 1 0x01) 62 0x01)) (DatagramAnswer.Refused (8 at 1))
     ∷ read-datagram "left-over byte, count 2" (udp 0x00 0x55 (field 0x08 2 (plain ++ plain ++ (0x00 ∷ [])))) (DatagramAnswer.Refused (8 at 2))
     ∷ read-datagram "total 1, no value" (udp 0x00 0x54 (set two 57 0x01)) (DatagramAnswer.Refused (9 at 1))
-    ∷ read-datagram "counts 128 and 128, total 0" (udp 0x02 0xB6 (field 0x08 1 wrapping)) (DatagramAnswer.Refused (9 at 0))
     ∷ read-datagram "priority 3" brokenUdp (DatagramAnswer.Refused (10 at 1))
     ∷ read-datagram "generation 8" (udp 0x00 0x58 (set two16 60 0x08)) (DatagramAnswer.Refused (11 at 1))
     ∷ read-datagram "256 bytes" (udp 0x01 0x42 (field 0x8E 2 (long 0 0 ++ long 214 0))) (DatagramAnswer.Refused (12 at 1))
