@@ -117,10 +117,10 @@ lookupRefusals =
     record-in-packet "refused packet" brokenTcp 9 (RecordAnswer.Refused (10 at 1))
     ∷ record-in-packet "no such record" twoTcp 2 (RecordAnswer.Refused (16 at 0))
     ∷ value-in-packet "refused packet" brokenTcp 9 9 (ValueAnswer.Refused (10 at 1)) []
-    ∷ value-in-packet "no such record" newer 2 0 (ValueAnswer.Refused (16 at 0)) []
+    ∷ value-in-packet "no such record" twoTcp 2 0 (ValueAnswer.Refused (16 at 0)) []
     ∷ value-in-packet "no such value, the next record has one" newer 0 1 (ValueAnswer.Refused (16 at 0)) []
     ∷ id-in-packet "refused packet" brokenTcp 9 0x0143 (ValueAnswer.Refused (10 at 1)) []
-    ∷ id-in-packet "no such record" newer 2 0x0143 (ValueAnswer.Refused (16 at 0)) []
+    ∷ id-in-packet "no such record" twoTcp 2 0x0143 (ValueAnswer.Refused (16 at 0)) []
     ∷ id-in-packet "no such ID, the next record has it" newer 0 0x0142 (ValueAnswer.Refused (16 at 0)) []
     ∷ id-in-packet "no such ID, the record before has it" newer 1 0x0143 (ValueAnswer.Refused (16 at 0)) []
     ∷ record-in-datagram "refused datagram" brokenUdp 9 (RecordAnswer.Refused (10 at 1))
