@@ -1,14 +1,13 @@
 -- The bench sheet, P1 to P13: what the sheet gives the judges, and what it says they answer.
 use Prim.Native.Nat.{ℕ}
-use mathlib.Core.Path.{_≡_}
 use mathlib.Core.List.{List, [], _∷_}
 use lib.ListN.{set}
 use Rattle.wire.specs.Limits.{baseLimits}
-use Rattle.wire.specs.Sequences.{All}
-use Rattle.wire.specs.Answers.{Answer, accepted, refused, onAccepted, refusal}
+use Rattle.wire.specs.Answers.{Answer, accepted, refused, onAccepted}
 use Rattle.command.specs.Commands.{readCommand}
 use Rattle.datagram.specs.Datagrams.{udpAcknowledgement}
 use Rattle.tlv.specs.PacketOf.{formOfPacket, formOfDatagram}
+use Rattle.claims.specs.Rows.{Row, row, AsSaid, _at_}
 
 abbrev pub sample : List ℕ
 sample =
@@ -33,29 +32,24 @@ getio =
 unfoldable pub commandFields : List ℕ → Answer (List ℕ)
 commandFields p = onAccepted (readCommand baseLimits p) (λ c. accepted (c .codec ∷ c .type ∷ c .imei ∷ c .text))
 
--- what is asked, and what the sheet says
-pub record Row : Type 0 where
-  pub asked : Answer (List ℕ)
-  pub says : Answer (List ℕ)
-
 unfoldable pub sheet : List Row
 sheet =
-    record { asked = formOfDatagram baseLimits sample; says = accepted sampleForm }
-    ∷ record { asked = udpAcknowledgement baseLimits sample; says = accepted sampleAcknowledgement }
-    ∷ record { asked = formOfDatagram baseLimits (set sample 1 0x37); says = refused (refusal 4) }
-    ∷ record { asked = formOfDatagram baseLimits (set sample 57 2); says = refused (refusal 7) }
-    ∷ record { asked = formOfDatagram baseLimits (set sample 33 3); says = refused (refusal 10) }
-    ∷ record { asked = formOfDatagram baseLimits (set sample 50 2); says = refused (refusal 9) }
-    ∷ record { asked = formOfDatagram baseLimits (set sample 51 2); says = refused (refusal 8) }
-    ∷ record { asked = formOfDatagram baseLimits (set (set sample 24 2) 57 2); says = refused (record { number = 8; index = 1 }) }
-    ∷ record { asked = commandFields getio; says = accepted (0x0C ∷ 0x05 ∷ 0 ∷ 0x67 ∷ 0x65 ∷ 0x74 ∷ 0x69 ∷ 0x6F ∷ []) }
-    ∷ record { asked = commandFields (set getio 24 0xCA); says = refused (refusal 5) }
-    ∷ record { asked = formOfPacket baseLimits []; says = refused (refusal 1) }
-    ∷ record { asked = formOfPacket baseLimits (0 ∷ 0 ∷ 0 ∷ 0 ∷ 0 ∷ 0 ∷ 0 ∷ 0 ∷ []); says = refused (refusal 3) }
-    ∷ record { asked = formOfPacket baseLimits (0 ∷ 0 ∷ 0 ∷ 0 ∷ 0 ∷ 0 ∷ 0x04 ∷ 0xF5 ∷ []); says = refused (refusal 3) }
-    ∷ record { asked = formOfPacket baseLimits (0 ∷ 0 ∷ 0 ∷ 0 ∷ 0 ∷ 0 ∷ 0x04 ∷ 0xF4 ∷ []); says = refused (refusal 4) }
+    row "P1" (formOfDatagram baseLimits sample) (accepted sampleForm)
+    ∷ row "P2" (udpAcknowledgement baseLimits sample) (accepted sampleAcknowledgement)
+    ∷ row "P3" (formOfDatagram baseLimits (set sample 1 0x37)) (refused (4 at 0))
+    ∷ row "P4" (formOfDatagram baseLimits (set sample 57 2)) (refused (7 at 0))
+    ∷ row "P5" (formOfDatagram baseLimits (set sample 33 3)) (refused (10 at 0))
+    ∷ row "P6" (formOfDatagram baseLimits (set sample 50 2)) (refused (9 at 0))
+    ∷ row "P7" (formOfDatagram baseLimits (set sample 51 2)) (refused (8 at 0))
+    ∷ row "P8" (formOfDatagram baseLimits (set (set sample 24 2) 57 2)) (refused (8 at 1))
+    ∷ row "P9" (commandFields getio) (accepted (0x0C ∷ 0x05 ∷ 0 ∷ 0x67 ∷ 0x65 ∷ 0x74 ∷ 0x69 ∷ 0x6F ∷ []))
+    ∷ row "P10" (commandFields (set getio 24 0xCA)) (refused (5 at 0))
+    ∷ row "P11" (formOfPacket baseLimits []) (refused (1 at 0))
+    ∷ row "P12" (formOfPacket baseLimits (0 ∷ 0 ∷ 0 ∷ 0 ∷ 0 ∷ 0 ∷ 0 ∷ 0 ∷ [])) (refused (3 at 0))
+    ∷ row "P13" (formOfPacket baseLimits (0 ∷ 0 ∷ 0 ∷ 0 ∷ 0 ∷ 0 ∷ 0x04 ∷ 0xF5 ∷ [])) (refused (3 at 0))
+    ∷ row "P13" (formOfPacket baseLimits (0 ∷ 0 ∷ 0 ∷ 0 ∷ 0 ∷ 0 ∷ 0x04 ∷ 0xF4 ∷ [])) (refused (4 at 0))
     ∷ []
 
 -- every row is answered as the sheet says
 abbrev pub AsTheSheetSays : Type 0
-AsTheSheetSays = All (λ row. row .asked ≡ row .says) sheet
+AsTheSheetSays = AsSaid sheet

@@ -1,4 +1,10 @@
+pub mod Rows
+pub mod Calls
+pub mod Packets
 pub mod Demand3
 pub mod BenchSheet
 pub mod Examples
 pub mod Demand2
+pub mod Refusals
+pub mod Answers
+pub mod Measures

@@ -1,0 +1,97 @@
+-- What the contract of each call says, as a row: the inputs, and the answer that the code gives to them.
+use Prim.Native.Nat.{ℕ}
+use Prim.Native.String.{String}
+use mathlib.Core.Bool.{Bool}
+use mathlib.Core.List.{List}
+use Rattle.wire.specs.declared.Written.{Written}
+use Rattle.wire.specs.Limits.{baseLimits}
+use Rattle.wire.specs.Answers.{Answer, accepted}
+use Rattle.wire.specs.Buffers.{writing, leaving, writtenAs}
+use Rattle.packet.specs.declared.PacketAnswer.{PacketAnswer}
+use Rattle.packet.specs.DataPackets.{answerPacket, packetAs, tcpAcknowledgement}
+use Rattle.datagram.specs.declared.DatagramAnswer.{DatagramAnswer}
+use Rattle.datagram.specs.Datagrams.{answerDatagram, datagramAs, udpAcknowledgement}
+use Rattle.login.specs.declared.LoginAnswer.{LoginAnswer}
+use Rattle.login.specs.Login.{readLogin, loginAs, loginAnswer}
+use Rattle.command.specs.declared.CommandAnswer.{CommandAnswer}
+use Rattle.command.specs.declared.CommandFields.{CommandFields}
+use Rattle.command.specs.Commands.{readCommand, answerCommand, textView, commandAs}
+use Rattle.command.specs.Writing.{commandBytes}
+use Rattle.tlv.specs.PacketOf.{formOfPacket, formOfDatagram, packetOfForm}
+use Rattle.element.specs.declared.Value.{Value}
+use Rattle.lookup.specs.declared.RecordAnswer.{RecordAnswer}
+use Rattle.lookup.specs.declared.ValueAnswer.{ValueAnswer}
+use Rattle.lookup.specs.declared.KnownAnswer.{KnownAnswer}
+use Rattle.lookup.specs.Lookups.{Found, LastKnown, tcpSource, udpSource, recordByNumber, valueByNumber, valueById, lastKnown, view}
+use Rattle.lookup.specs.Answers.{recordAs, answerValue, valueAs, KnownResult, answerKnown, knownAs, knownView}
+use Rattle.claims.specs.Rows.{Row, row}
+
+-- ---- readers
+
+abbrev pub read-packet : String → List ℕ → PacketAnswer → Row
+read-packet label p r = row label (answerPacket baseLimits p) (packetAs r)
+
+abbrev pub read-datagram : String → List ℕ → DatagramAnswer → Row
+read-datagram label p r = row label (answerDatagram baseLimits p) (datagramAs r)
+
+abbrev pub read-login : String → List ℕ → LoginAnswer → Row
+read-login label p r = row label (readLogin p) (loginAs r)
+
+-- with command_text
+abbrev pub read-command : String → List ℕ → CommandAnswer → List ℕ → Row
+read-command label p r text = row {A = Answer CommandFields × List ℕ} label (answerCommand baseLimits p, textView (readCommand baseLimits p)) (commandAs r, text)
+
+-- ---- look-ups, each value with its view
+
+abbrev pub record-in-packet : String → List ℕ → ℕ → RecordAnswer → Row
+record-in-packet label p n r = row label (recordByNumber (tcpSource baseLimits p) n) (recordAs r)
+
+abbrev pub record-in-datagram : String → List ℕ → ℕ → RecordAnswer → Row
+record-in-datagram label p n r = row label (recordByNumber (udpSource baseLimits p) n) (recordAs r)
+
+abbrev pub looked-up : String → Answer Found → ValueAnswer → List ℕ → Row
+looked-up label found r bytes = row {A = Answer Value × List ℕ} label (answerValue found, view found) (valueAs r, bytes)
+
+abbrev pub value-in-packet : String → List ℕ → ℕ → ℕ → ValueAnswer → List ℕ → Row
+value-in-packet label p n k = looked-up label (valueByNumber (tcpSource baseLimits p) n k)
+
+abbrev pub value-in-datagram : String → List ℕ → ℕ → ℕ → ValueAnswer → List ℕ → Row
+value-in-datagram label p n k = looked-up label (valueByNumber (udpSource baseLimits p) n k)
+
+abbrev pub id-in-packet : String → List ℕ → ℕ → ℕ → ValueAnswer → List ℕ → Row
+id-in-packet label p n id = looked-up label (valueById (tcpSource baseLimits p) n id)
+
+abbrev pub id-in-datagram : String → List ℕ → ℕ → ℕ → ValueAnswer → List ℕ → Row
+id-in-datagram label p n id = looked-up label (valueById (udpSource baseLimits p) n id)
+
+abbrev pub known : String → Answer LastKnown → KnownAnswer → List ℕ → Row
+known label k r bytes = row {A = Answer KnownResult × List ℕ} label (answerKnown k, knownView k) (knownAs r, bytes)
+
+abbrev pub last-known : String → List ℕ → List ℕ → ℕ → KnownAnswer → List ℕ → Row
+last-known label newer older id = known label (lastKnown id (tcpSource baseLimits newer) (tcpSource baseLimits older))
+
+-- ---- writers: the lent buffer, the answer, and the buffer afterwards
+
+abbrev pub written : String → Answer (List ℕ) → List ℕ → Written → List ℕ → Row
+written label result out r after = row {A = Answer ℕ × List ℕ} label (writing result out, leaving result out) (writtenAs r, after)
+
+abbrev pub acknowledge-packet : String → List ℕ → List ℕ → Written → List ℕ → Row
+acknowledge-packet label p = written label (accepted (tcpAcknowledgement baseLimits p))
+
+abbrev pub acknowledge-datagram : String → List ℕ → List ℕ → Written → List ℕ → Row
+acknowledge-datagram label p = written label (udpAcknowledgement baseLimits p)
+
+abbrev pub answer-login : String → List ℕ → Bool → List ℕ → Written → List ℕ → Row
+answer-login label p known = written label (accepted (loginAnswer known p))
+
+abbrev pub write-command : String → ℕ → ℕ → List ℕ → List ℕ → List ℕ → Written → List ℕ → Row
+write-command label codec type imei text = written label (commandBytes baseLimits codec type imei text)
+
+abbrev pub form-of-packet : String → List ℕ → List ℕ → Written → List ℕ → Row
+form-of-packet label p = written label (formOfPacket baseLimits p)
+
+abbrev pub form-of-datagram : String → List ℕ → List ℕ → Written → List ℕ → Row
+form-of-datagram label p = written label (formOfDatagram baseLimits p)
+
+abbrev pub packet-of-form : String → List ℕ → List ℕ → Written → List ℕ → Row
+packet-of-form label f = written label (packetOfForm baseLimits f)
