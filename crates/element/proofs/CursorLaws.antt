@@ -19,7 +19,7 @@ use Rattle.element.specs.Elements.{Located, locateGroup, locateGroups}
 use Rattle.element.specs.Search.{Onward, ReadableElement, valueAt}
 use Rattle.element.specs.Cursors.{kindOf, Remaining, Head, Stepped}
 use Rattle.element.proofs.ReadLaws.{repeat-nothing}
-use Rattle.element.proofs.SearchLaws.{parts, onward-inside, present-group, onward-on, onward-next, Run, present, run-parted, run-element, run-value, run-behind, run-within, run-stands, run-onward, run-located}
+use Rattle.element.proofs.SearchLaws.{parts, onward-inside, present-group, onward-on, onward-next, Run, present, run-parted, run-element, run-value, run-begins, run-behind, run-within, run-stands, run-onward, run-located}
 
 -- the group with number `k`, before which all of `l` is left, is count-inside
 pub enter : {w : Widths} {s : List ℕ} {at : ℕ} {l : List Located} (k : ℕ) → Onward w (drop k (kinds w)) s at (λ l. l) l → k < length (kinds w) → Bytes s
@@ -90,6 +90,7 @@ module _ {w : Widths} {s : List ℕ} {c : Cursor} {l : List Located} (h : Remain
               reads = ap₂ (λ (k n : ℕ). repeat (c .left - 1) (element w k) s n) (sym k) (run-behind front is) ∙ front .read .more;
               behind = record { rest = h .behind .rest; end = h .behind .end; reads = h .behind .reads; same = refl };
             };
+            begins = omega (arith, e, run-begins front is);
             within = next-within;
             stands = run-stands front is;
             ends = refl;

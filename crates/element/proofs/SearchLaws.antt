@@ -49,6 +49,10 @@ module _ {w : Widths} {kind : ℕ} {s : List ℕ} {at m : ℕ} {l : List Element
     unfolding valueAt locatedValue
     run-value = is _ _ (f .read .one)
 
+    pub run-begins : at ≤ v .offset
+    unfolding locatedValue
+    run-begins = omega (arith, ap (λ (x : Value). x .offset) run-value)
+
     -- the value ends where the element does
     pub run-behind : v .offset + v .size ≡ f .read .mid
     unfolding locatedValue

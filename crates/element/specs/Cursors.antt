@@ -38,6 +38,7 @@ pub record Head (w : Widths) (s : List ℕ) (c : Cursor) (l : List Located) (v :
   pub is : l ≡ head ∷ tail
   pub value : v ≡ locatedValue head
   pub rest : Remaining w s next tail
+  pub begins : c .next ≤ v .offset
   pub within : v .offset + v .size ≤ length s
   pub stands : part s (v .offset) (v .size) ≡ head .value
   pub ends : next .next ≡ v .offset + v .size
