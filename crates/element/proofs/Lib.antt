@@ -2,3 +2,4 @@ pub mod ElementLaws
 pub mod ReadLaws
 pub mod SearchLaws
 pub mod NumberLaws
+pub mod CursorLaws

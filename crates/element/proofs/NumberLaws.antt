@@ -20,10 +20,10 @@ use Rattle.avl.specs.RecordReader.{element, group, plainRecord}
 use Rattle.element.specs.declared.Value.{Value}
 use Rattle.element.specs.declared.ElementAnswer.{ElementAnswer}
 use Rattle.element.specs.Elements.{Located, leadSize, locateGroup, locateGroups, elements, nth}
-use Rattle.element.specs.Search.{ReadableElement, locatedValue, valueAt, elementAs}
+use Rattle.element.specs.Search.{Onward, ReadableElement, locatedValue, valueAt, elementAs}
 use Rattle.element.proofs.ElementLaws.{length-element, length-group}
 use Rattle.element.proofs.ReadLaws.{element-read, repeat-parted, repeat-nothing}
-use Rattle.element.proofs.SearchLaws.{Onward, parts, present-group, later, ahead, onward-on, Ahead}
+use Rattle.element.proofs.SearchLaws.{parts, onward-inside, present-group, later, ahead, onward-on, Ahead}
 
 -- ---- the n-th of a list
 
@@ -134,9 +134,6 @@ nth-beyond w kind s at k h g n f =
 -- ---- from group to group
 
 module _ {w : Widths} {kind : ℕ} {ks : List ℕ} {s : List ℕ} {at : ℕ} {answer : Answer Located} (k : ℕ) (h : Onward w (kind ∷ ks) s at (nth k) answer) where
-  pub number-inside : at + w .count ≤ length s
-  number-inside = group-read w kind s at .if-got _ _ (parts h .one) .inside
-
   module _ {n : ℕ} (is : n ≡ numberAt s at (w .count)) where
     members : repeat n (element w kind) s (at + w .count) ≡ got (parts h .first) (parts h .mid)
     members = ap (λ (m : ℕ). repeat m (element w kind) s (at + w .count)) is ∙ group-read w kind s at .if-got _ _ (parts h .one) .elements
@@ -147,7 +144,7 @@ module _ {w : Widths} {kind : ℕ} {ks : List ℕ} {s : List ℕ} {at : ℕ} {an
     module _ (ne : kind ≡ 9 → ⊥) where
       pub number-end : at + w .count + n * (w .id + kind) ≤ length s
       number-end =
-          omega (arith, fixed-end w kind s ne n (at + w .count) _ _ members, repeat-inside w kind s n (at + w .count) _ _ members number-inside)
+          omega (arith, fixed-end w kind s ne n (at + w .count) _ _ members, repeat-inside w kind s n (at + w .count) _ _ members (onward-inside h))
 
       -- it is in a later group
       pub number-on : Bytes s → n ≤ k → Onward w ks s (at + w .count + n * (w .id + kind)) (nth (k - n)) answer

@@ -22,9 +22,58 @@ use Rattle.element.specs.declared.Value.{Value}
 use Rattle.element.specs.declared.Search.{Search}
 use Rattle.element.specs.declared.ElementAnswer.{ElementAnswer}
 use Rattle.element.specs.Elements.{Located, leadSize, locateGroup, locateGroups, fixedSize, elements, firstWith}
-use Rattle.element.specs.Search.{ReadableElement, ReadableGroup, locatedValue, valueAt, hitOr, searched, elementAs}
+use Rattle.element.specs.Places.{part}
+use Rattle.element.specs.Search.{Onward, ReadableElement, ReadableGroup, locatedValue, valueAt, hitOr, searched, elementAs}
 use Rattle.element.proofs.ElementLaws.{length-element}
 use Rattle.element.proofs.ReadLaws.{got-same, element-read, repeat-parted, repeat-nothing, groups-parted, record-read}
+
+-- ---- a run of elements of one kind
+
+-- at `at` an element stands, and `m` behind it
+pub record Run (w : Widths) (kind : ℕ) (s : List ℕ) (at m : ℕ) (l : List Element) (end : ℕ) : Type 0 where
+  pub read : ListRead (element w kind) (repeat m (element w kind)) s at l end
+
+pub run-parted : {w : Widths} {kind : ℕ} {s : List ℕ} {at m : ℕ} {l : List Element} {end : ℕ} (n : ℕ) → n ≡ suc m → repeat n (element w kind) s at ≡ got l end → Run w kind s at m l end
+run-parted {w} {kind} {s} {at} {m} n e h = record { read = repeat-parted m (element w kind) s at .if-got _ _ (ap (λ (n : ℕ). repeat n (element w kind) s at) (sym e) ∙ h) }
+
+module _ {w : Widths} {kind : ℕ} {s : List ℕ} {at m : ℕ} {l : List Element} {end : ℕ} (f : Run w kind s at m l end) where
+  pub run-element : ReadableElement w kind s at
+  run-element = record { content = f .read .first; next = f .read .mid; reads = f .read .one }
+
+  -- the element that stands here
+  abbrev pub present : Located
+  present = record { kind = kind; id = f .read .first .id; place = at + leadSize w kind; value = f .read .first .value }
+
+  module _ {v : Value} (is : (e : Element) (n : ℕ) → element w kind s at ≡ got e n → v ≡ valueAt w kind at e) where
+    pub run-value : v ≡ locatedValue present
+    unfolding valueAt locatedValue
+    run-value = is _ _ (f .read .one)
+
+    pub run-begins : at ≤ v .offset
+    unfolding locatedValue
+    run-begins = omega (arith, ap (λ (x : Value). x .offset) run-value)
+
+    -- the value ends where the element does
+    pub run-behind : v .offset + v .size ≡ f .read .mid
+    unfolding locatedValue
+    run-behind = ap (λ (x : Value). x .offset + x .size) run-value ∙ sym (element-read w kind s at .if-got _ _ (f .read .one) .ends)
+
+    pub run-within : v .offset + v .size ≤ length s
+    run-within = omega (arith, run-behind, element-read w kind s at .if-got _ _ (f .read .one) .inside)
+
+    pub run-stands : part s (v .offset) (v .size) ≡ present .value
+    unfolding locatedValue
+    run-stands = ap (λ (x : Value). part s (x .offset) (x .size)) run-value ∙ element-read w kind s at .if-got _ _ (f .read .one) .stands
+
+    pub run-onward : 1 ≤ kind → at < v .offset + v .size
+    run-onward i = omega (arith, run-behind, element-read w kind s at .if-got _ _ (f .read .one) .onward i)
+
+    pub run-located : locateGroup w kind at l ≡ present ∷ locateGroup w kind (v .offset + v .size) (f .read .others)
+    unfolding locateGroup
+    run-located =
+        let bytes : at + length (elementBytes w kind (f .read .first)) ≡ v .offset + v .size =
+        omega (arith, run-behind, length-element w kind (f .read .first), element-read w kind s at .if-got _ _ (f .read .one) .ends) in
+        ap (locateGroup w kind at) (f .read .is) ∙ ap (λ (n : ℕ). present ∷ locateGroup w kind n (f .read .others)) bytes
 
 -- ---- within a group
 
@@ -63,71 +112,45 @@ module _ {w : Widths} {kind : ℕ} {s : List ℕ} {at : ℕ} {look : ℕ → Lis
         (answers g n f ∙ ap (λ (l : List Element). look i (locateGroup w kind next l)) (z .0), sym (z .1) ∙ got-same (h .whole) f .1)
 
     module _ (more : i < numberAt s at (w .count)) where
-      front : ListRead (element w kind) (repeat (numberAt s at (w .count) - (i + 1)) (element w kind)) s next (h .rest) (h .end)
-      front =
-          let n : numberAt s at (w .count) - i ≡ suc (numberAt s at (w .count) - (i + 1)) = omega arith in
-          repeat-parted _ (element w kind) s next .if-got _ _ (ap (λ (n : ℕ). repeat n (element w kind) s next) (sym n) ∙ h .reads)
+      front : Run w kind s next (numberAt s at (w .count) - (i + 1)) (h .rest) (h .end)
+      front = run-parted (numberAt s at (w .count) - i) (omega arith) (h .reads)
 
       pub search-element : ReadableElement w kind s next
-      search-element = record { content = front .first; next = front .mid; reads = front .one }
+      search-element = run-element front
 
       module _ {v : Value} (is : (e : Element) (n : ℕ) → element w kind s next ≡ got e n → v ≡ valueAt w kind next e) where
-        -- the element that stands here
-        abbrev present : Located
-        present = record { kind = kind; id = front .first .id; place = next + leadSize w kind; value = front .first .value }
-
-        value : v ≡ locatedValue present
-        unfolding valueAt locatedValue
-        value = is _ _ (front .one)
-
-        -- the value ends where the element does
-        behind : v .offset + v .size ≡ front .mid
-        unfolding locatedValue
-        behind = ap (λ (x : Value). x .offset + x .size) value ∙ sym (element-read w kind s next .if-got _ _ (front .one) .ends)
-
         pub search-within : v .offset + v .size ≤ length s
-        search-within = omega (arith, behind, element-read w kind s next .if-got _ _ (front .one) .inside)
+        search-within = run-within front is
 
         -- it is the one
         pub search-hit : ((e : Located) (l : List Located) → locatedValue e ≡ v → look i (e ∷ l) ≡ accepted e) → (g : List Element) (n : ℕ) → group w kind s at ≡ got g n
             → (e : Located) × (look 0 (locateGroup w kind (at + w .count) g) ≡ accepted e) × (locatedValue e ≡ v)
-        unfolding locateGroup
         search-hit found g n f =
-            (present, answers g n f ∙ ap (λ (l : List Element). look i (locateGroup w kind next l)) (front .is) ∙ found present _ (sym value), sym value)
+            (present front, answers g n f ∙ ap (look i) (run-located front is) ∙ found (present front) _ (sym (run-value front is)), sym (run-value front is))
 
         -- it is not
         pub search-on : ((e : Located) (l : List Located) → locatedValue e ≡ v → look (i + 1) l ≡ look i (e ∷ l)) → Searching w kind s at look (v .offset + v .size) (i + 1)
-        unfolding locateGroup locatedValue
         search-on passed =
-            let bytes : v .offset + v .size ≡ next + length (elementBytes w kind (front .first)) =
-            ap (λ (x : Value). x .offset + x .size) value ∙ omega (arith, length-element w kind (front .first)) in
             record {
               members = h .members;
               end = h .end;
               whole = h .whole;
-              rest = front .others;
-              reads = ap (λ (n : ℕ). repeat (numberAt s at (w .count) - (i + 1)) (element w kind) s n) behind ∙ front .more;
-              same = ap (λ (n : ℕ). look (i + 1) (locateGroup w kind n (front .others))) bytes
-                  ∙ passed present _ (sym value)
-                  ∙ ap (λ (l : List Element). look i (locateGroup w kind next l)) (sym (front .is))
-                  ∙ h .same;
+              rest = front .read .others;
+              reads = ap (λ (n : ℕ). repeat (numberAt s at (w .count) - (i + 1)) (element w kind) s n) (run-behind front is) ∙ front .read .more;
+              same = passed (present front) _ (sym (run-value front is)) ∙ ap (look i) (sym (run-located front is)) ∙ h .same;
             }
 
 -- ---- from group to group
 
--- the search stands before the groups of these kinds, at `at`: what is left answers as the whole record
-pub record Onward (w : Widths) (ks : List ℕ) (s : List ℕ) (at : ℕ) (look : List Located → Answer Located) (answer : Answer Located) : Type 0 where
-  pub rest : List (List Element)
-  pub end : ℕ
-  pub reads : groups w ks s at ≡ got rest end
-  pub same : look (locateGroups w ks at rest) ≡ answer
-
-module _ {w : Widths} {k : ℕ} {ks : List ℕ} {s : List ℕ} {at : ℕ} {look : List Located → Answer Located} {answer : Answer Located} (h : Onward w (k ∷ ks) s at look answer) where
+module _ {A : Type 0} {w : Widths} {k : ℕ} {ks : List ℕ} {s : List ℕ} {at : ℕ} {look : List Located → A} {answer : A} (h : Onward w (k ∷ ks) s at look answer) where
   pub parts : ListRead (group w k) (groups w ks) s at (h .rest) (h .end)
   parts = groups-parted w k ks s at .if-got _ _ (h .reads)
 
   pub onward-group : ReadableGroup w k s at
   onward-group = record { members = parts .first; next = parts .mid; reads = parts .one }
+
+  pub onward-inside : at + w .count ≤ length s
+  onward-inside = group-read w k s at .if-got _ _ (parts .one) .inside
 
   -- the elements of the first group, and those behind it
   abbrev pub present-group : List Located
@@ -141,9 +164,9 @@ module _ {w : Widths} {k : ℕ} {ks : List ℕ} {s : List ℕ} {at : ℕ} {look 
   ahead = sym (ap (λ (l : List (List Element)). look (locateGroups w (k ∷ ks) at l)) (parts .is)) ∙ h .same
 
   -- it is not in this group
-  pub onward-on : {next : ℕ} → Bytes s → parts .mid ≡ next → (rest : List Located → Answer Located) → look (present-group ++ later) ≡ rest later → Onward w ks s next rest answer
+  pub onward-on : {next : ℕ} → Bytes s → parts .mid ≡ next → (rest : List Located → A) → look (present-group ++ later) ≡ rest later → Onward w ks s next rest answer
   onward-on {next} b e rest passed =
-      let start : at ≤ length s = omega (arith, group-read w k s at .if-got _ _ (parts .one) .inside) in
+      let start : at ≤ length s = omega (arith, onward-inside) in
       let size = group-exact w k .sound s at b start .if-got _ _ (parts .one) .0 .size in
       record {
         rest = parts .others;
@@ -152,11 +175,20 @@ module _ {w : Widths} {k : ℕ} {ks : List ℕ} {s : List ℕ} {at : ℕ} {look 
         same = ap (λ (n : ℕ). rest (locateGroups w ks n (parts .others))) (sym e ∙ size) ∙ sym passed ∙ ahead;
       }
 
--- before the group with number `k`, whatever record is read
-abbrev pub Ahead : Widths → List ℕ → (List Located → Answer Located) → (List Located → Answer Located) → ℕ → ℕ → Type 0
+-- before the group with number `k`
+module _ {A : Type 0} {w : Widths} {k : ℕ} {s : List ℕ} {at : ℕ} {look : List Located → A} {answer : A} (h : Onward w (drop k (kinds w)) s at look answer) where
+  pub onward-next : {kind : ℕ} → k < length (kinds w) → kind ≡ getD allKinds k 0 → Onward w (kind ∷ drop (k + 1) (kinds w)) s at look answer
+  onward-next i e = subst (λ (ks : List ℕ). Onward w ks s at look answer) (next-kind w k i (e ∙ kind-known w k i)) h
+
+  pub onward-none : length (kinds w) ≤ k → look [] ≡ answer
+  unfolding locateGroups
+  onward-none i = subst (λ (ks : List ℕ). Onward w ks s at look answer) (drop-of-length-le (kinds w) i) h .same
+
+-- the same, whatever record is read
+abbrev pub Ahead : {A : Type 0} → Widths → List ℕ → (List Located → A) → (List Located → A) → ℕ → ℕ → Type 0
 Ahead w s look rest k at = (x : AvlRecord) (n : ℕ) → plainRecord w s 0 ≡ got x n → Onward w (drop k (kinds w)) s at rest (look (elements w x))
 
-module _ {w : Widths} {s : List ℕ} (look : List Located → Answer Located) where
+module _ {A : Type 0} {w : Widths} {s : List ℕ} (look : List Located → A) where
   pub ahead-start : {at : ℕ} → at ≡ fixedSize w → Ahead w s look look 0 at
   unfolding elements
   ahead-start e x next h =
@@ -167,13 +199,12 @@ module _ {w : Widths} {s : List ℕ} (look : List Located → Answer Located) wh
         same = ap (λ (n : ℕ). look (locateGroups w (kinds w) n (x .groups))) e;
       }
 
-  module _ {rest : List Located → Answer Located} {k at : ℕ} (a : Ahead w s look rest k at) (x : AvlRecord) (n : ℕ) (r : plainRecord w s 0 ≡ got x n) where
+  module _ {rest : List Located → A} {k at : ℕ} (a : Ahead w s look rest k at) (x : AvlRecord) (n : ℕ) (r : plainRecord w s 0 ≡ got x n) where
     pub ahead-next : {kind : ℕ} → k < length (kinds w) → kind ≡ getD allKinds k 0 → Onward w (kind ∷ drop (k + 1) (kinds w)) s at rest (look (elements w x))
-    ahead-next h e = subst (λ (ks : List ℕ). Onward w ks s at rest (look (elements w x))) (next-kind w k h (e ∙ kind-known w k h)) (a x n r)
+    ahead-next h e = onward-next {k = k} (a x n r) h e
 
     pub ahead-none : length (kinds w) ≤ k → rest [] ≡ look (elements w x)
-    unfolding locateGroups
-    ahead-none h = subst (λ (ks : List ℕ). Onward w ks s at rest (look (elements w x))) (drop-of-length-le (kinds w) h) (a x n r) .same
+    ahead-none h = onward-none {k = k} (a x n r) h
 
 -- ---- by ID
 

@@ -2,3 +2,4 @@ pub mod Elements
 pub mod Places
 pub mod Results
 pub mod Search
+pub mod Cursors

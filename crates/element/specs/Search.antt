@@ -7,12 +7,12 @@ use Rattle.wire.specs.Reading.{got}
 use Rattle.wire.specs.Answers.{Answer, accepted, refused}
 use Rattle.avl.specs.declared.Widths.{Widths}
 use Rattle.avl.specs.Records.{Element, AvlRecord, elementCount}
-use Rattle.avl.specs.RecordReader.{element, group, plainRecord}
+use Rattle.avl.specs.RecordReader.{element, group, groups, plainRecord}
 use Rattle.element.specs.declared.Value.{Value}
 use Rattle.element.specs.declared.Search.{Search}
 use Rattle.element.specs.declared.ElementAnswer.{ElementAnswer}
 use Rattle.element.specs.declared.ElementAnswer.the-variants.{At, Nothing}
-use Rattle.element.specs.Elements.{Located, leadSize, elements, firstWith}
+use Rattle.element.specs.Elements.{Located, leadSize, locateGroups, elements, firstWith}
 
 -- the bytes `s` begin with a record that can be read
 pub record Readable (w : Widths) (s : List ℕ) : Type 0 where
@@ -36,6 +36,13 @@ abbrev pub HasElements : Widths → List ℕ → ℕ → Type 0
 HasElements w s n = (x : AvlRecord) (next : ℕ) → plainRecord w s 0 ≡ got x next → n ≡ elementCount (x .groups)
 
 -- ---- the search among a record's elements
+
+-- before the groups of these kinds, which begin at `at`: what their elements give is the answer
+pub record Onward {A : Type 0} (w : Widths) (ks : List ℕ) (s : List ℕ) (at : ℕ) (look : List Located → A) (answer : A) : Type 0 where
+  pub rest : List (List Element)
+  pub end : ℕ
+  pub reads : groups w ks s at ≡ got rest end
+  pub same : look (locateGroups w ks at rest) ≡ answer
 
 unfoldable pub locatedValue : Located → Value
 locatedValue e = record { id = e .id; kind = e .kind; offset = e .place; size = length (e .value) }

@@ -22,10 +22,10 @@ use Rattle.element.specs.Elements.{firstWith}
 use Rattle.lookup.specs.declared.Part.{Part}
 use Rattle.lookup.specs.declared.ValueAnswer.{ValueAnswer}
 use Rattle.lookup.specs.declared.KnownAnswer.{KnownAnswer}
-use Rattle.lookup.specs.Lookups.{Source, tcpSource, Found, view, LastKnown, valueInLast, inOlder, orElse, lastKnown, knownPlace}
+use Rattle.lookup.specs.Lookups.{Source, tcpSource, Found, view, LastKnown, valueIn, valueInLast, inOlder, orElse, lastKnown, knownPlace}
 use Rattle.lookup.specs.Answers.{PartResult, partOf, lastPart, partAs, PartIn, ValueIn, Within, viewOf, valueResult, answerValue, valueAs, KnownResult, answerKnown, knownAs, knownView}
 use Rattle.lookup.proofs.PlaceLaws.{Stored, tcp-stored, first-member}
-use Rattle.lookup.proofs.PartLaws.{part-there, part-in, first-sixteen, value-answer, value-view}
+use Rattle.lookup.proofs.PartLaws.{part-there, part-in, part-answer, value-view}
 
 -- ---- the last record of a TCP packet
 
@@ -80,8 +80,8 @@ module _ (limits : Limits) (p : List ℕ) (bytes : Bytes p) where
 
   pub last-value : (id : ℕ) (part : Part) (answer : ValueAnswer) → partAs part ≡ lastPart (tcpSource limits p) → ValueIn p part (firstWith id) answer
       → valueAs answer ≡ answerValue (inLast id (tcpSource limits p))
-  unfolding lastPart valueInLast
-  last-value id part answer e k = value-answer stored lastNumber (firstWith id) (first-sixteen id) part answer e k
+  unfolding lastPart valueInLast valueIn
+  last-value id part answer e k = part-answer stored lastNumber part e k
 
   pub last-view : (id : ℕ) (answer : ValueAnswer) → valueAs answer ≡ answerValue (inLast id (tcpSource limits p))
       → Within p answer × (viewOf p answer ≡ view (inLast id (tcpSource limits p)))

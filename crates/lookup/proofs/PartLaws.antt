@@ -33,16 +33,14 @@ use Rattle.element.specs.declared.Value.{Value}
 use Rattle.element.specs.declared.ElementAnswer.{ElementAnswer}
 use Rattle.element.specs.Elements.{Located, elements, nth, firstWith}
 use Rattle.element.specs.Places.{part, Inside}
-use Rattle.element.specs.Results.{recordResult}
 use Rattle.element.specs.Search.{Readable, HasElements, Finds, locatedValue, elementAs}
 use Rattle.element.proofs.ReadLaws.{got-same}
 use Rattle.element.proofs.ElementLaws.{elements-inside}
 use Rattle.lookup.specs.declared.Part.{Part}
-use Rattle.lookup.specs.declared.RecordAnswer.{RecordAnswer}
 use Rattle.lookup.specs.declared.ValueAnswer.{ValueAnswer}
 use Rattle.lookup.specs.Places.{Placed, placeRecords}
-use Rattle.lookup.specs.Lookups.{Source, tcpSource, udpSource, placedRecord, Found, foundIn, valueIn, view, viewOffset}
-use Rattle.lookup.specs.Answers.{recordAs, PartResult, partOf, partAs, PartIn, RecordIn, ValueIn, Reaches, shifted, Within, viewOf, startOf, valueResult, answerValue, valueAs}
+use Rattle.lookup.specs.Lookups.{Source, tcpSource, udpSource, placedRecord, ofRecord, Found, foundIn, valueIn, view, viewOffset}
+use Rattle.lookup.specs.Answers.{PartResult, partOf, partAs, RecordAt, PartIn, OfPart, ValueIn, Reaches, shifted, Within, viewOf, startOf, valueResult, answerValue, valueAs}
 use Rattle.lookup.proofs.PlaceLaws.{Stored, kept, own-part, value-in-place}
 
 -- ---- the span of a record is its place
@@ -134,15 +132,45 @@ module _ {longest : ℕ} {p : List ℕ} {source : Answer Source} {number : Sourc
       ap (λ (n : ℕ). plainRecord (widthsOf (h .origin .content .codec)) (part p (h .placed .start) n) 0) (sym size)
       ∙ plain-record longest _ _ 0 (own-part longest p (h .origin) (number (h .origin)) (h .placed) (h .stored) (h .found))
 
-  lies-in : PartIn p q
-  lies-in =
-      subst (PartIn p) (h .is) (
-        omega arith,
-        (
-          kept longest p (h .origin) (number (h .origin)) (h .placed) (h .stored) (h .found) .stands .inside,
-          (record { content = _; next = _; reads = reads }, λ x n k. ap (λ (y : AvlRecord). elementCount (y .groups)) (got-same reads k .0)),
-        ),
-      )
+-- what a part that is a record gives, and that of a refused part
+abbrev Standing : List ℕ → Part → Type 0
+Standing p (Part.Of codec start end count) = RecordAt p codec start end count
+Standing p (Part.Refused r) = Unit {0}
+
+lies-in : {longest : ℕ} {p : List ℕ} {source : Answer Source} {number : Source → ℕ} {codec start end count : ℕ} → Lies longest p source number (Part.Of codec start end count)
+    → RecordAt p codec start end count
+lies-in {longest} {p} {source} {number} h =
+    subst (Standing p) (h .is)
+    (record {
+      ordered = omega arith;
+      inside = kept longest p (h .origin) (number (h .origin)) (h .placed) (h .stored) (h .found) .stands .inside;
+      readable = record { content = _; next = _; reads = reads h };
+      counted = λ x n k. ap (λ (y : AvlRecord). elementCount (y .groups)) (got-same (reads h) k .0);
+    })
+
+-- ---- what holds of a part
+
+abbrev Made : {B : Type 0} → List ℕ → (ℕ → Placed → Answer B) → (Answer B → Type 0) → Part → Type 0
+Made p f Holds (Part.Of codec start end count) =
+    (x : AvlRecord) (n : ℕ) → plainRecord (widthsOf codec) (part p start (end - start)) 0 ≡ got x n → Holds (f codec (record { start = start; content = x }))
+Made p f Holds (Part.Refused r) = Unit {0}
+
+module _ {B : Type 0} {p : List ℕ} {q : Part} {f : ℕ → Placed → Answer B} {Holds : Answer B → Type 0} where
+  pub of-refused : {r : Refusal} → q ≡ Part.Refused r → Holds (refused r) → OfPart p q f Holds
+  of-refused {r} e h =
+      record {
+        made = λ codec start end count k x n i. absurd (let z : _≡_ {A = ℕ} 0 1 = cc in omega arith);
+        passed = λ x k. let same : r ≡ x = cc in subst (λ (y : Refusal). Holds (refused y)) same h;
+      }
+
+  pub of-record : {codec start end count : ℕ} → q ≡ Part.Of codec start end count
+      → ((x : AvlRecord) (n : ℕ) → plainRecord (widthsOf codec) (part p start (end - start)) 0 ≡ got x n → Holds (f codec (record { start = start; content = x })))
+      → OfPart p q f Holds
+  of-record e h =
+      record {
+        made = λ codec start end count k. subst (Made p f Holds) (sym e ∙ k) h;
+        passed = λ x k. absurd (let z : _≡_ {A = ℕ} 0 1 = cc in omega arith);
+      }
 
 -- a look-up refuses only with 16
 abbrev Sixteen : (List Located → Answer Located) → Type 0
@@ -188,10 +216,9 @@ module _ {longest : ℕ} {p : List ℕ} {source : Answer Source} (stored : (x : 
         is = ap (λ (r : PartResult). Part.Of (r .codec) (r .start) (r .end) (r .elements)) same;
       }
 
-  pub part-in : (part : Part) → partAs part ≡ partAt number source → PartIn p part
+  pub part-in : (q : Part) → partAs q ≡ partAt number source → PartIn p q
   unfolding partAs
-  part-in (Part.Of codec start end count) e = lies-in (lies e)
-  part-in (Part.Refused r) e = tt
+  part-in q e = record { stands = λ codec start end count k. lies-in (lies (sym (ap partAs k) ∙ e)) }
 
   -- the answer of a refused part
   part-refused : {B : Type 0} (g : Source → Placed → Answer B) {x : Refusal} → refused x ≡ partAt number source
@@ -199,34 +226,20 @@ module _ {longest : ℕ} {p : List ℕ} {source : Answer Source} (stored : (x : 
   unfolding partOf onAccepted
   part-refused g e = sym (refused-before source (λ x. placedRecord x (number x)) _ g (sym e))
 
-  pub record-answer : (part : Part) (answer : RecordAnswer) → partAs part ≡ partAt number source → RecordIn p part answer
-      → recordAs answer ≡ onAccepted source (λ x. onAccepted (placedRecord x (number x)) (λ r. accepted (recordResult (r .content))))
-  unfolding partAs recordAs
-  record-answer (Part.Of codec start end count) answer e k =
+  -- what holds of a part holds of the record with its number
+  pub part-answer : {B : Type 0} {f : ℕ → Placed → Answer B} {Holds : Answer B → Type 0} (q : Part) → partAs q ≡ partAt number source → OfPart p q f Holds
+      → Holds (onAccepted source (λ x. onAccepted (placedRecord x (number x)) (f (x .content .codec))))
+  unfolding partAs
+  part-answer {B} {f} {Holds} (Part.Of codec start end count) e k =
       let h = lies e in
-      let k' : RecordIn p (asPart (h .origin) (h .placed)) answer = subst (λ (q : Part). RecordIn p q answer) (sym (h .is)) k in
-      ap recordAs (k' _ _ (reads h))
-      ∙ sym (onAccepted-passed source _ (h .accepts) ∙ onAccepted-passed (placedRecord (h .origin) (number (h .origin))) _ (h .found))
-  record-answer (Part.Refused r) answer e k = ap recordAs k ∙ part-refused (λ x r. accepted (recordResult (r .content))) e
+      subst Holds (sym (onAccepted-passed source _ (h .accepts) ∙ onAccepted-passed (placedRecord (h .origin) (number (h .origin))) _ (h .found)))
+      (k .made _ _ _ _ (sym (h .is)) _ _ (reads h))
+  part-answer {B} {f} {Holds} (Part.Refused r) e k = subst Holds (part-refused (λ x. f (x .content .codec)) e) (k .passed r refl)
 
   module _ (choose : List Located → Answer Located) where
     -- the looked-up value
     abbrev pub wantedIn : Answer Found
     wantedIn = onAccepted source (λ x. valueIn choose x (number x))
-
-    pub value-answer : Sixteen choose → (part : Part) (answer : ValueAnswer) → partAs part ≡ partAt number source → ValueIn p part choose answer
-        → valueAs answer ≡ answerValue wantedIn
-    unfolding partAs valueAs valueIn answerValue
-    value-answer sixteen (Part.Of codec start end count) answer e k =
-        let h = lies e in
-        let l = elements (widthsOf (h .origin .content .codec)) (h .placed .content) in
-        let k' : ValueIn p (asPart (h .origin) (h .placed)) choose answer = subst (λ (q : Part). ValueIn p q choose answer) (sym (h .is)) k in
-        ap valueAs (k' _ _ (reads h))
-        ∙ shifted-found (h .placed) (choose l) (sixteen l)
-        ∙ sym (ap answerValue (onAccepted-passed source _ (h .accepts) ∙ onAccepted-passed (placedRecord (h .origin) (number (h .origin))) _ (h .found)))
-    value-answer sixteen (Part.Refused r) answer e k =
-        ap valueAs k
-        ∙ sym (onAccepted-refused wantedIn _ (sym (part-refused (λ x r. onAccepted (choose (elements (widthsOf (x .content .codec)) (r .content))) (λ e. accepted (foundIn r e))) e)))
 
     -- a value lies in the input, and its bytes there are the value
     pub value-view : ((l : List Located) (e : Located) → choose l ≡ accepted e → (P : Located → Type 0) → All P l → P e)
@@ -244,6 +257,17 @@ module _ {longest : ℕ} {p : List ℕ} {source : Answer Source} (stored : (x : 
           ap (λ (v : Value). part p (v .offset) (v .size)) (sym same) ∙ k .4 ∙ sym (ap view (i .1)),
         )
     value-view member (ValueAnswer.Refused r) e = (tt, sym (refused-view wantedIn (sym e)))
+
+-- ---- a record by its number
+
+module _ {longest : ℕ} {p : List ℕ} {source : Answer Source} (stored : (x : Source) → source ≡ accepted x → Stored longest p x) (n : ℕ) {q : Part} (e : partAs q ≡ partOf source n) where
+  pub record-in : PartIn p q
+  unfolding partOf onAccepted
+  record-in = part-in stored (λ x. n) q e
+
+  pub record-answer : {B : Type 0} {f : ℕ → Placed → Answer B} {Holds : Answer B → Type 0} → OfPart p q f Holds → Holds (ofRecord f source n)
+  unfolding partOf onAccepted
+  record-answer k = part-answer stored (λ x. n) q e k
 
 -- ---- the look-ups by number and by ID
 
@@ -264,10 +288,11 @@ first-sixteen id (a ∷ l) x e = go (eqb (a .id) id) e (first-sixteen id l x)
 
 -- ---- what may be asked of a part
 
-module _ (p : List ℕ) (codec start end count : ℕ) {w : Widths} (same : w ≡ widthsOf codec) (h : PartIn p (Part.Of codec start end count)) where
+module _ {p : List ℕ} {codec start end count : ℕ} (h : RecordAt p codec start end count) {w : Widths} (same : w ≡ widthsOf codec) where
   pub part-fields : Narrow w × (Readable w (part p start (end - start)) × HasElements w (part p start (end - start)) count)
   part-fields =
-      subst (λ (w : Widths). Narrow w × (Readable w (part p start (end - start)) × HasElements w (part p start (end - start)) count)) (sym same) (narrow codec, h .1 .1)
+      subst (λ (w : Widths). Narrow w × (Readable w (part p start (end - start)) × HasElements w (part p start (end - start)) count)) (sym same)
+      (narrow codec, (h .readable, h .counted))
 
   pub part-narrow : Narrow w × Readable w (part p start (end - start))
   part-narrow = (part-fields .0, part-fields .1 .0)
@@ -284,27 +309,28 @@ at-inside w s x n (accepted e') v b e member h =
     subst (λ (v : Value). v .offset + v .size ≤ length s) (sym same) (omega (arith, m .within, f .0, f .1))
 at-inside w s x n (refused y) v b e member h = absurd (let z : _≡_ {A = ℕ} 0 1 = cc in omega arith)
 
-module _ (p : List ℕ) (codec start end count : ℕ) (look : List Located → Answer Located) {w : Widths} {answer : ElementAnswer} (same : w ≡ widthsOf codec)
+module _ {p : List ℕ} {codec start end count : ℕ} (h : RecordAt p codec start end count) (look : List Located → Answer Located) {w : Widths} {answer : ElementAnswer} (same : w ≡ widthsOf codec)
     (found : Finds w (part p start (end - start)) look answer) where
   searched : Finds (widthsOf codec) (part p start (end - start)) look answer
   searched = rw same at found
 
-  pub value-found : {r : ValueAnswer} → r ≡ shifted start answer → ValueIn p (Part.Of codec start end count) look r
-  value-found e x n h = e ∙ ap (shifted start) (searched x n h)
+  pub value-found : Sixteen look → {q : Part} {r : ValueAnswer} → q ≡ Part.Of codec start end count → r ≡ shifted start answer → ValueIn p q look r
+  value-found sixteen e is =
+      of-record e (λ x n k. ap valueAs (is ∙ ap (shifted start) (searched x n k)) ∙ shifted-found _ (look (elements (widthsOf codec) x)) (sixteen (elements (widthsOf codec) x)))
 
   pub value-reaches : ((l : List Located) (e : Located) → look l ≡ accepted e → (P : Located → Type 0) → All P l → P e) → length p < 2 ^ 64
-      → Bytes p → PartIn p (Part.Of codec start end count) → Reaches start answer
+      → Bytes p → Reaches start answer
   unfolding part
-  value-reaches member few b k = go answer refl
+  value-reaches member few b = go answer refl
     where
       go : (a : ElementAnswer) → answer ≡ a → Reaches start a
       go ElementAnswer.Nothing e = tt
       go (ElementAnswer.At v) e =
-          let r = k .1 .1 .0 in
+          let r = h .readable in
           let l = elements (widthsOf codec) (r .content) in
           let inside = at-inside (widthsOf codec) _ (r .content) (r .next) (look l) v (bytes-take (end - start) (drop start p) (bytes-drop start p b)) (r .reads) (member l) (sym e ∙ searched _ _ (r .reads)) in
           let size = length-take-le (end - start) (drop start p) (simp length-drop (omega arith)) in
-          omega arith
+          omega (arith, h .ordered, h .inside)
 
 -- ---- what the walks tell
 
@@ -334,7 +360,7 @@ module _ {source : Answer Source} {base n codec count : ℕ} {span : Span} (h : 
   pub walked-in : {longest : ℕ} {p : List ℕ} → ((x : Source) → source ≡ accepted x → Stored longest p x) → n < count
       → (base + span .start ≤ base + span .end) × (base + span .end ≤ length p)
   unfolding partOf onAccepted
-  walked-in stored k = let q = part-in stored (λ x. n) _ (walked-part k) in (q .0, q .1 .0)
+  walked-in stored k = let q = part-in stored (λ x. n) _ (walked-part k) .stands _ _ _ _ refl in (q .ordered, q .inside)
 
 source-refused : {source : Answer Source} {r : Refusal} (n : ℕ) → source ≡ refused r → partAs (Part.Refused r) ≡ partOf source n
 unfolding partAs partOf

@@ -4,6 +4,7 @@ use mathlib.Core.Path.{_≡_}
 use mathlib.Core.Bool.{Bool}
 use mathlib.Core.List.{List, []}
 use lib.ListN.{length}
+use Rattle.wire.specs.declared.Refusal.{Refusal}
 use Rattle.wire.specs.Reading.{got}
 use Rattle.wire.specs.Answers.{Answer, accepted, refused, onAccepted, refusal}
 use Rattle.avl.specs.Codecs.{widthsOf}
@@ -14,13 +15,13 @@ use Rattle.element.specs.declared.RecordFields.{RecordFields}
 use Rattle.element.specs.declared.ElementAnswer.{ElementAnswer}
 use Rattle.element.specs.Elements.{Located, elements}
 use Rattle.element.specs.Places.{part}
-use Rattle.element.specs.Results.{recordResult}
-use Rattle.element.specs.Search.{Readable, HasElements, elementAs}
+use Rattle.element.specs.Search.{Readable, HasElements}
 use Rattle.lookup.specs.declared.Part.{Part}
 use Rattle.lookup.specs.declared.RecordAnswer.{RecordAnswer}
 use Rattle.lookup.specs.declared.ValueAnswer.{ValueAnswer}
 use Rattle.lookup.specs.declared.KnownAnswer.{KnownAnswer}
-use Rattle.lookup.specs.Lookups.{Source, placedRecord, Found, LastKnown}
+use Rattle.lookup.specs.Lookups.{Source, placedRecord, fieldsOf, Found, chosen, LastKnown}
+use Rattle.lookup.specs.Places.{Placed}
 
 unfoldable pub recordAs : RecordAnswer → Answer RecordFields
 recordAs (RecordAnswer.Fields f) = accepted f
@@ -54,18 +55,26 @@ unfoldable pub partAs : Part → Answer PartResult
 partAs (Part.Of codec start end elements) = accepted (record { codec = codec; start = start; end = end; elements = elements })
 partAs (Part.Refused r) = refused r
 
--- the part is a record of the input, which can be read and has so many elements
-abbrev pub PartIn : List ℕ → Part → Type 0
-PartIn p (Part.Of codec start end elements) =
-    (start ≤ end)
-    × ((end ≤ length p) × (Readable (widthsOf codec) (part p start (end - start)) × HasElements (widthsOf codec) (part p start (end - start)) elements))
-PartIn p (Part.Refused r) = Unit {0}
+-- from `start` to `end` the input has a record of this codec, which can be read and has so many elements
+pub record RecordAt (p : List ℕ) (codec start end elements : ℕ) : Type 0 where
+  pub ordered : start ≤ end
+  pub inside : end ≤ length p
+  pub readable : Readable (widthsOf codec) (part p start (end - start))
+  pub counted : HasElements (widthsOf codec) (part p start (end - start)) elements
+
+-- the part is a record of the input
+pub record PartIn (p : List ℕ) (q : Part) : Type 0 where
+  pub stands : (codec start end elements : ℕ) → q ≡ Part.Of codec start end elements → RecordAt p codec start end elements
+
+-- what is so of the answer that `f` makes of the record that the part is, or of the part's refusal
+pub record OfPart {B : Type 0} (p : List ℕ) (q : Part) (f : ℕ → Placed → Answer B) (Holds : Answer B → Type 0) : Type 0 where
+  pub made : (codec start end elements : ℕ) → q ≡ Part.Of codec start end elements → (x : AvlRecord) (n : ℕ)
+      → plainRecord (widthsOf codec) (part p start (end - start)) 0 ≡ got x n → Holds (f codec (record { start = start; content = x }))
+  pub passed : (r : Refusal) → q ≡ Part.Refused r → Holds (refused r)
 
 -- the answer is the fields of the record that the part is
 abbrev pub RecordIn : List ℕ → Part → RecordAnswer → Type 0
-RecordIn p (Part.Of codec start end elements) answer =
-    (x : AvlRecord) (n : ℕ) → plainRecord (widthsOf codec) (part p start (end - start)) 0 ≡ got x n → answer ≡ RecordAnswer.Fields (recordResult x)
-RecordIn p (Part.Refused r) answer = answer ≡ RecordAnswer.Refused r
+RecordIn p q answer = OfPart p q fieldsOf (λ r. recordAs answer ≡ r)
 
 -- ---- a value
 
@@ -78,13 +87,6 @@ Reaches start ElementAnswer.Nothing = Unit {0}
 unfoldable pub shifted : ℕ → ElementAnswer → ValueAnswer
 shifted start (ElementAnswer.At v) = ValueAnswer.Found (record { id = v .id; kind = v .kind; offset = start + v .offset; size = v .size })
 shifted start ElementAnswer.Nothing = ValueAnswer.Refused (refusal 16)
-
--- the answer is the element that is looked for in the record that the part is
-abbrev pub ValueIn : List ℕ → Part → (List Located → Answer Located) → ValueAnswer → Type 0
-ValueIn p (Part.Of codec start end count) look answer =
-    (x : AvlRecord) (n : ℕ) → plainRecord (widthsOf codec) (part p start (end - start)) 0 ≡ got x n
-    → answer ≡ shifted start (elementAs (look (elements (widthsOf codec) x)))
-ValueIn p (Part.Refused r) look answer = answer ≡ ValueAnswer.Refused r
 
 -- the bytes of a value, which lie in the input
 abbrev pub Within : List ℕ → ValueAnswer → Type 0
@@ -109,6 +111,10 @@ answerValue found = onAccepted found (λ f. accepted (valueResult f))
 unfoldable pub valueAs : ValueAnswer → Answer Value
 valueAs (ValueAnswer.Found v) = accepted v
 valueAs (ValueAnswer.Refused r) = refused r
+
+-- the answer is the value that is looked for in the record that the part is
+abbrev pub ValueIn : List ℕ → Part → (List Located → Answer Located) → ValueAnswer → Type 0
+ValueIn p q look answer = OfPart p q (chosen look) (λ found. valueAs answer ≡ answerValue found)
 
 -- ---- the last known value
 

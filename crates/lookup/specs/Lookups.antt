@@ -31,8 +31,16 @@ udpSource limits p = onAccepted (readDatagram limits p) (λ g. accepted (record 
 unfoldable pub placedRecord : Source → ℕ → Answer Placed
 placedRecord x n = nth n (placeRecords (widthsOf (x .content .codec)) (x .base) (x .content .records))
 
+-- what `f` makes of the codec and of the record with this number
+abbrev pub ofRecord : {B : Type 0} → (ℕ → Placed → Answer B) → Answer Source → ℕ → Answer B
+ofRecord f source n = onAccepted source (λ x. onAccepted (placedRecord x n) (f (x .content .codec)))
+
+-- its fields
+abbrev pub fieldsOf : ℕ → Placed → Answer RecordFields
+fieldsOf codec r = accepted (recordResult (r .content))
+
 unfoldable pub recordByNumber : Answer Source → ℕ → Answer RecordFields
-recordByNumber source n = onAccepted source (λ x. onAccepted (placedRecord x n) (λ r. accepted (recordResult (r .content))))
+recordByNumber source n = ofRecord fieldsOf source n
 
 -- ---- a value: its ID, kind, offset from the input's start, and its bytes
 
@@ -46,10 +54,11 @@ unfoldable pub foundIn : Placed → Located → Found
 foundIn r e = record { id = e .id; kind = e .kind; offset = r .start + e .place; value = e .value }
 
 -- a value of a record, chosen from the record's elements
+abbrev pub chosen : (List Located → Answer Located) → ℕ → Placed → Answer Found
+chosen choose codec r = onAccepted (choose (elements (widthsOf codec) (r .content))) (λ e. accepted (foundIn r e))
+
 unfoldable pub valueIn : (List Located → Answer Located) → Source → ℕ → Answer Found
-valueIn choose x n =
-    onAccepted (placedRecord x n)
-    (λ r. onAccepted (choose (elements (widthsOf (x .content .codec)) (r .content))) (λ e. accepted (foundIn r e)))
+valueIn choose x n = onAccepted (placedRecord x n) (chosen choose (x .content .codec))
 
 unfoldable pub valueByNumber : Answer Source → ℕ → ℕ → Answer Found
 valueByNumber source n k = onAccepted source (λ x. valueIn (nth k) x n)

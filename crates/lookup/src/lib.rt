@@ -30,7 +30,7 @@ pub enum KnownAnswer {
 }
 
 // A record as a part of the input: its codec, its first byte, the one behind its last, the number of its elements.
-enum Part {
+pub enum Part {
     Of {
         codec: u8,
         start: usize,
@@ -42,7 +42,7 @@ enum Part {
 
 // ---- records as parts of the input
 
-fn packet_part(limits: Limits, p: &[u8], n: usize) -> Part
+pub fn packet_part(limits: Limits, p: &[u8], n: usize) -> Part
     ensures { λ r. ⌜ partAs r ≡ partOf (tcpSource limits (now (p .entry))) n ⌝ }
 {
     match packet::judge_packet(limits, p, n) {
@@ -64,7 +64,7 @@ fn packet_part(limits: Limits, p: &[u8], n: usize) -> Part
     }
 }
 
-fn datagram_part(limits: Limits, p: &[u8], n: usize) -> Part
+pub fn datagram_part(limits: Limits, p: &[u8], n: usize) -> Part
     ensures { λ r. ⌜ partAs r ≡ partOf (udpSource limits (now (p .entry))) n ⌝ }
 {
     match datagram::judge_datagram(limits, p, n) {

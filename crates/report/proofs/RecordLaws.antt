@@ -3,10 +3,17 @@ use Prim.Native.Nat.{ℕ, suc, _+_, _≤_}
 use native.Mathlib.Numerals.{add-one}
 use native.Mathlib.Omega.{arith}
 use mathlib.Core.Path.{_≡_, refl, ap, _∙_}
-use mathlib.Core.Bool.{Bool}
+use mathlib.Core.Bool.{Bool, true, false}
 use mathlib.Core.List.{List}
+use Rattle.wire.specs.Numbers.{Bytes}
+use Rattle.wire.specs.Limits.{baseLimits}
 use Rattle.wire.specs.Answers.{Answer, accepted, refused}
-use Rattle.report.specs.Shown.{recordOf, oneIf, recordsSaid}
+use Rattle.lookup.specs.declared.Part.{Part}
+use Rattle.lookup.specs.Lookups.{fieldsOf, recordByNumber}
+use Rattle.lookup.specs.Answers.{PartIn, OfPart}
+use Rattle.lookup.proofs.PlaceLaws.{tcp-stored, udp-stored}
+use Rattle.lookup.proofs.PartLaws.{record-in, record-answer}
+use Rattle.report.specs.Shown.{PartHere, recordOf, oneIf, recordsSaid}
 
 one-at-most : {A : Type 0} (r : Answer A) → oneIf r ≤ 1
 unfolding oneIf
@@ -39,3 +46,15 @@ pub said-done : {udp : Bool} {p : List ℕ} {all said n : ℕ} → SaidSo udp p 
 said-done {udp} {p} {all} {said} {n} h done =
     let same : n ≡ all = omega (arith, h .inside) in
     h .count ∙ ap (recordsSaid udp p) same
+
+-- ---- a record of either kind of input
+
+module _ {p : List ℕ} (b : Bytes p) {q : Part} where
+  pub part-here : (udp : Bool) (n : ℕ) → PartHere udp p n q → PartIn p q
+  part-here true n e = record-in (λ x. udp-stored baseLimits p x b) n e
+  part-here false n e = record-in (λ x. tcp-stored baseLimits p x b) n e
+
+  pub one-here : {r : ℕ} (udp : Bool) (n : ℕ) → PartHere udp p n q → OfPart p q fieldsOf (λ a. r ≡ oneIf a) → r ≡ oneIf (recordOf udp p n)
+  unfolding recordOf recordByNumber
+  one-here true n e k = record-answer (λ x. udp-stored baseLimits p x b) n e k
+  one-here false n e k = record-answer (λ x. tcp-stored baseLimits p x b) n e k

@@ -1,5 +1,6 @@
 -- What the functions that say something answer: the number of the refusal that is said, 0 where the input is accepted.
 use Prim.Native.Nat.{ℕ, zero, suc, _+_, _*_}
+use mathlib.Core.Path.{_≡_}
 use mathlib.Core.Bool.{Bool}
 use mathlib.Core.List.{List}
 use lib.ListN.{replicate}
@@ -14,7 +15,9 @@ use Rattle.command.specs.Commands.{answerCommand}
 use Rattle.command.specs.Writing.{commandBytes}
 use Rattle.tlv.specs.PacketOf.{formOfPacket, formOfDatagram, packetOfForm}
 use Rattle.element.specs.declared.RecordFields.{RecordFields}
+use Rattle.lookup.specs.declared.Part.{Part}
 use Rattle.lookup.specs.Lookups.{tcpSource, udpSource, recordByNumber}
+use Rattle.lookup.specs.Answers.{partOf, partAs}
 
 unfoldable pub refusalNumber : {A : Type 0} → Answer A → ℕ
 refusalNumber (accepted a) = 0
@@ -55,6 +58,10 @@ writeRefusal codec kind imei text = writtenRefusal (baseLimits .largest) (comman
 
 unfoldable pub recordOf : Bool → List ℕ → ℕ → Answer RecordFields
 recordOf udp p n = pick udp (recordByNumber (udpSource baseLimits p) n) (recordByNumber (tcpSource baseLimits p) n)
+
+-- the part is the record with this number, or says why there is none
+abbrev pub PartHere : Bool → List ℕ → ℕ → Part → Type 0
+PartHere udp p n q = partAs q ≡ pick udp (partOf (udpSource baseLimits p) n) (partOf (tcpSource baseLimits p) n)
 
 unfoldable pub oneIf : {A : Type 0} → Answer A → ℕ
 oneIf (accepted a) = 1

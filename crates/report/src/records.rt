@@ -1,51 +1,60 @@
 // The records of a TCP data packet or a datagram.
 ghost use mathlib.Core.Path.{_≡_};
-ghost use Rattle.lookup.specs.Answers.{recordAs};
-ghost use Rattle.report.specs.Shown.{recordOf, oneIf, recordsSaid};
+ghost use Rattle.walk.specs.Walks.{Narrow};
+ghost use Rattle.element.specs.Search.{Readable};
+ghost use Rattle.report.specs.Shown.{PartHere, recordOf, oneIf, recordsSaid};
+use avl::Widths;
 use element::RecordFields;
+use element::Step;
 use element::Value;
-use lookup::RecordAnswer;
-use lookup::ValueAnswer;
+use lookup::Part;
 use say::say;
 use say::say_hex;
 use say::say_quoted;
 
 // The records 0 to `count` - 1; how many of them there are.
-pub fn say_records(udp: bool, p: &[u8], codec: u8, count: u8) -> usize
+pub fn say_records(udp: bool, p: &[u8], count: u8) -> usize
     ensures { λ r. ⌜ r ≡ recordsSaid udp (now (p .entry)) count ⌝ }
 {
     let mut said: usize = 0;
     let mut n: u8 = 0;
     while n < count {
-        said += say_record(udp, p, codec, n as usize);
+        said += say_record(udp, p, n as usize);
         n += 1;
     }
     said
 }
 
-fn say_record(udp: bool, p: &[u8], codec: u8, n: usize) -> usize
+fn say_record(udp: bool, p: &[u8], n: usize) -> usize
     ensures { λ r. ⌜ r ≡ oneIf (recordOf udp (now (p .entry)) n) ⌝ }
 {
-    match record_at(udp, p, n) {
-        RecordAnswer::Refused(_) => 0,
-        RecordAnswer::Fields(f) => {
+    match part_at(udp, p, n) {
+        Part::Refused(_) => 0,
+        Part::Of {
+            codec,
+            start,
+            end,
+            elements,
+        } => {
+            let w = walk::widths_of(codec);
+            let f = element::fields_of(w, &p[start..end], elements);
             say_time(n as u64, f.timestamp);
             say_origin(codec, f);
             say_position(f);
             say_motion(f);
-            say_values(udp, p, n, f.elements);
+            say_values(w, &p[start..end]);
             1
         }
     }
 }
 
-fn record_at(udp: bool, p: &[u8], n: usize) -> RecordAnswer
-    ensures { λ r. ⌜ recordAs r ≡ recordOf udp (now (p .entry)) n ⌝ }
+fn part_at(udp: bool, p: &[u8], n: usize) -> Part
+    ensures { λ r. ⌜ PartHere udp (now (p .entry)) n r ⌝ }
 {
     if udp {
-        return lookup::record_in_datagram(p, n);
+        return lookup::datagram_part(wire::BASE, p, n);
     }
-    lookup::record_in_packet(p, n)
+    lookup::packet_part(wire::BASE, p, n)
 }
 
 // The record's number and its time: milliseconds since 1970, and their date before the year 10000.
@@ -115,21 +124,22 @@ fn say_motion(f: RecordFields) {
     );
 }
 
-fn say_values(udp: bool, p: &[u8], n: usize, elements: usize) {
-    let mut k: usize = 0;
-    while k < elements {
-        say_value(udp, p, n, k);
-        k += 1;
-    }
-}
-
-fn say_value(udp: bool, p: &[u8], n: usize, k: usize) {
-    if udp {
-        if let ValueAnswer::Found(v) = lookup::value_in_datagram(p, n, k) {
-            say_found(v, lookup::view_in_datagram(p, n, k));
+// The values of the record that `part` is, one after another.
+fn say_values(w: Widths, part: &[u8])
+    requires { ⌜ Narrow w ⌝ }
+    requires { ⌜ Readable w (now part) ⌝ }
+{
+    let mut cursor = element::first(w, part);
+    loop {
+        match element::advance(w, part, cursor) {
+            Step::Done => return,
+            Step::At(v, next) => {
+                let start = v.offset;
+                let end = v.offset + v.size;
+                say_found(v, &part[start..end]);
+                cursor = next;
+            }
         }
-    } else if let ValueAnswer::Found(v) = lookup::value_in_packet(p, n, k) {
-        say_found(v, lookup::view_in_packet(p, n, k));
     }
 }
 

@@ -1,5 +1,5 @@
-use Rattle.element.proofs.NumberLaws.{nth-nothing, number-inside, number-end, number-on, number-element, number-hit, number-last, last, four-kinds}
-use Rattle.element.proofs.SearchLaws.{Ahead, ahead-start, ahead-next, ahead-none, onward-group}
+use Rattle.element.proofs.NumberLaws.{nth-nothing, number-end, number-on, number-element, number-hit, number-last, last, four-kinds}
+use Rattle.element.proofs.SearchLaws.{Ahead, ahead-start, ahead-next, ahead-none, onward-group, onward-inside}
 use Rattle.element.specs.Search.{elementAs}
 use Rattle.element.specs.Elements.{nth}
 use Rattle.walk.proofs.KindLaws.{kinds-four, fixed-kind}
@@ -31,10 +31,10 @@ add-size : tie.Need-add-size Inv-loop μ-loop
 add-size c = omega (arith, c .before .before .before .before .before .pre .0 .id, c .kind-at .ensures, fixed-kind (c .before .before .loop .k) (c .before .loop-test .taken))
 
 short-number-requires : tie.Need-short-number-requires Inv-loop μ-loop
-short-number-requires c κs = (number-inside (c .before .before .loop .left) (ahead-next (nth (c .before .before .before .before .before .args .n)) {k = c .before .before .loop .k} (c .before .before .loop .inv .1) _ _ (c .before .before .before .before .before .pre .1 .reads) (omega (arith, c .before .loop-test .taken, kinds-four (c .before .before .before .before .before .args .w))) (c .kind-at .ensures)), c .before .before .before .before .before .pre .0 .count)
+short-number-requires c κs = (onward-inside (ahead-next (nth (c .before .before .before .before .before .args .n)) {k = c .before .before .loop .k} (c .before .before .loop .inv .1) _ _ (c .before .before .before .before .before .pre .1 .reads) (omega (arith, c .before .loop-test .taken, kinds-four (c .before .before .before .before .before .args .w))) (c .kind-at .ensures)), c .before .before .before .before .before .pre .0 .count)
 
 add-start : tie.Need-add-start Inv-loop μ-loop
-add-start c = omega (arith, number-inside (c .before .before .before .loop .left) (ahead-next (nth (c .before .before .before .before .before .before .args .n)) {k = c .before .before .before .loop .k} (c .before .before .before .loop .inv .1) _ _ (c .before .before .before .before .before .before .pre .1 .reads) (omega (arith, c .before .before .loop-test .taken, kinds-four (c .before .before .before .before .before .before .args .w))) (c .before .kind-at .ensures)))
+add-start c = omega (arith, onward-inside (ahead-next (nth (c .before .before .before .before .before .before .args .n)) {k = c .before .before .before .loop .k} (c .before .before .before .loop .inv .1) _ _ (c .before .before .before .before .before .before .pre .1 .reads) (omega (arith, c .before .before .loop-test .taken, kinds-four (c .before .before .before .before .before .before .args .w))) (c .before .kind-at .ensures)))
 
 mul-place : tie.Need-mul-place Inv-loop μ-loop
 mul-place c = omega (arith, number-end (c .before .before .before .before .loop .left) (ahead-next (nth (c .before .before .before .before .before .before .before .args .n)) {k = c .before .before .before .before .loop .k} (c .before .before .before .before .loop .inv .1) _ _ (c .before .before .before .before .before .before .before .pre .1 .reads) (omega (arith, c .before .before .before .loop-test .taken, kinds-four (c .before .before .before .before .before .before .before .args .w))) (c .before .before .kind-at .ensures)) (c .before .short-number .ensures) (λ e. omega (arith, e, c .before .before .kind-at .ensures, fixed-kind (c .before .before .before .before .loop .k) (c .before .before .before .loop-test .taken))), mul-le-mul-right (c .before .before .before .before .before .before .before .args .w .id + c .before .before .kind-at .result) (le-of-lt (c .if1 .taken)))

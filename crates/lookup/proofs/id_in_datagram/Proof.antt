@@ -1,11 +1,8 @@
 use Rattle.wire.specs.Limits.{baseLimits}
-use Rattle.wire.specs.Answers.{onAccepted}
 use Rattle.wire.proofs.Widths.{getD-bytes}
-use Rattle.element.specs.Elements.{firstWith}
-use Rattle.lookup.specs.Lookups.{valueById}
-use Rattle.lookup.specs.Answers.{partOf}
+use Rattle.lookup.specs.Lookups.{valueById, valueIn}
 use Rattle.lookup.proofs.PlaceLaws.{udp-stored}
-use Rattle.lookup.proofs.PartLaws.{part-in, first-sixteen, value-answer}
+use Rattle.lookup.proofs.PartLaws.{record-in, record-answer}
 use borrow.Author.Needs.{needs}
 use Rattle.lookup.proofs.id_in_datagram.Statement.{statement}
 use Rattle.lookup.proofs.id_in_datagram.Tie as tie
@@ -14,12 +11,11 @@ datagram-part-requires : tie.Need-datagram-part-requires
 datagram-part-requires c κs = search needs
 
 id-in-requires : tie.Need-id-in-requires
-unfolding partOf onAccepted
-id-in-requires c κs = part-in (λ x. udp-stored baseLimits (c .before .before .args .p .now) x (getD-bytes (c .before .before .args .p .now) (λ k. c .before .shared-slice-known .given k .fits))) _ _ (c .datagram-part .ensures)
+id-in-requires c κs = record-in (λ x. udp-stored baseLimits (c .before .before .args .p .now) x (getD-bytes (c .before .before .args .p .now) (λ k. c .before .shared-slice-known .given k .fits))) (c .before .before .args .n) (c .datagram-part .ensures)
 
 returns : tie.Need-returns
-unfolding partOf valueById onAccepted
-returns c = value-answer (λ x. udp-stored baseLimits (c .before .before .before .args .p .now) x (getD-bytes (c .before .before .before .args .p .now) (λ k. c .before .before .shared-slice-known .given k .fits))) (λ x. c .before .before .before .args .n) (firstWith (c .before .before .before .args .id)) (first-sixteen (c .before .before .before .args .id)) _ _ (c .before .datagram-part .ensures) (c .id-in .ensures)
+unfolding valueById valueIn
+returns c = record-answer (λ x. udp-stored baseLimits (c .before .before .before .args .p .now) x (getD-bytes (c .before .before .before .args .p .now) (λ k. c .before .before .shared-slice-known .given k .fits))) (c .before .before .before .args .n) (c .before .datagram-part .ensures) (c .id-in .ensures)
 
 pub id-in-datagram-spec : {M : Type 1} → statement M
 id-in-datagram-spec = tie.close (tie.spec datagram-part-requires id-in-requires returns)

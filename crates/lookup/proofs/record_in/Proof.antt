@@ -1,13 +1,9 @@
-use Rattle.lookup.proofs.PartLaws.{part-fields}
-use Rattle.lookup.specs.Answers.{PartIn, RecordIn}
-use Rattle.lookup.specs.declared.RecordAnswer.{RecordAnswer}
-use Rattle.lookup.specs.declared.Part.{Part}
+use Rattle.wire.specs.Answers.{accepted}
+use Rattle.lookup.proofs.PartLaws.{of-refused, of-record, part-fields}
+use Rattle.lookup.specs.Answers.{recordAs}
 use Rattle.element.specs.Places.{part}
-use Rattle.avl.specs.RecordReader.{plainRecord}
-use Rattle.avl.specs.declared.Widths.{Widths}
-use mathlib.Core.Path.{refl, sym, ap, _∙_, subst}
+use mathlib.Core.Path.{refl, ap}
 use native.Mathlib.Omega.{arith}
-use Prim.Native.Nat.{_-_}
 use borrow.Author.Needs.{needs}
 use Rattle.lookup.proofs.record_in.Statement.{statement}
 use Rattle.lookup.proofs.record_in.Tie as tie
@@ -22,25 +18,25 @@ widths-of-requires : tie.Need-widths-of-requires
 widths-of-requires c κs = search needs
 
 sub-fields-of : tie.Need-sub-fields-of
-sub-fields-of c = subst (PartIn (c .before .before .before .before .before .args .p .now)) (c .before .before .part2 .given .1) (c .before .before .before .before .before .pre) .0
+sub-fields-of c = let h = c .before .before .before .before .before .pre .stands _ _ _ _ (c .before .before .part2 .given .1) in omega arith
 
 part-fields-of-start : tie.Need-part-fields-of-start
-part-fields-of-start c = omega (arith, subst (PartIn (c .before .before .before .before .before .args .p .now)) (c .before .before .part2 .given .1) (c .before .before .before .before .before .pre))
+part-fields-of-start c = let h = c .before .before .before .before .before .pre .stands _ _ _ _ (c .before .before .part2 .given .1) in omega arith
 
 part-fields-of-end : tie.Need-part-fields-of-end
-part-fields-of-end c = omega (arith, subst (PartIn (c .before .before .before .before .before .args .p .now)) (c .before .before .part2 .given .1) (c .before .before .before .before .before .pre))
+part-fields-of-end c = let h = c .before .before .before .before .before .pre .stands _ _ _ _ (c .before .before .part2 .given .1) in omega arith
 
 fields-of-requires : tie.Need-fields-of-requires
 unfolding part
-fields-of-requires c κs = part-fields (c .before .before .before .before .before .before .args .p .now) (c .before .before .before .part2 .given .0 .0) (c .before .before .before .part2 .given .0 .1 .0) (c .before .before .before .part2 .given .0 .1 .1 .0) (c .before .before .before .part2 .given .0 .1 .1 .1 .0) (c .before .widths-of .ensures) (subst (PartIn (c .before .before .before .before .before .before .args .p .now)) (c .before .before .before .part2 .given .1) (c .before .before .before .before .before .before .pre))
+fields-of-requires c κs = part-fields (c .before .before .before .before .before .before .pre .stands _ _ _ _ (c .before .before .before .part2 .given .1)) (c .before .widths-of .ensures)
 
 returns : tie.Need-returns
-returns c = subst (λ (q : Part). RecordIn (c .before .before .before .before .args .p .now) q (RecordAnswer.Refused (c .before .part .given .0 .0))) (sym (c .before .part .given .1)) refl
+unfolding recordAs
+returns c = of-refused (c .before .part .given .1) refl
 
 returns-2 : tie.Need-returns-2
-unfolding part
-returns-2 c = subst (λ (q : Part). RecordIn (c .before .before .before .before .before .before .before .args .p .now) q (RecordAnswer.Fields (c .fields-of .result))) (sym (c .before .before .before .before .part2 .given .1))
-    (λ x n h. ap RecordAnswer.Fields (c .fields-of .ensures x n (ap (λ (w : Widths). plainRecord w (part (c .before .before .before .before .before .before .before .args .p .now) (c .before .before .before .before .part2 .given .0 .1 .0) (c .before .before .before .before .part2 .given .0 .1 .1 .0 - c .before .before .before .before .part2 .given .0 .1 .0)) 0) (c .before .before .widths-of .ensures) ∙ h)))
+unfolding part recordAs
+returns-2 c = of-record (c .before .before .before .before .part2 .given .1) (λ x n h. ap accepted (c .fields-of .ensures x n (rw (c .before .before .widths-of .ensures) h)))
 
 pub record-in-spec : {M : Type 1} → statement M
 record-in-spec =

@@ -7,10 +7,10 @@ use Rattle.report.proofs.records.say_records.Statement.{statement}
 use Rattle.report.proofs.records.say_records.Tie as tie
 
 abbrev Inv-loop : tie.InvT-loop
-Inv-loop udp p codec count said₀ n₀ said n = SaidSo udp p count said n
+Inv-loop udp p count said₀ n₀ said n = SaidSo udp p count said n
 
 abbrev μ-loop : tie.MeasureT-loop
-μ-loop udp p codec count said₀ n₀ said n = count - n
+μ-loop udp p count said₀ n₀ said n = count - n
 
 loop-holds : tie.Need-loop-holds Inv-loop μ-loop
 loop-holds c = said-first _ _ _
