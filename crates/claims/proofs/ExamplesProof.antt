@@ -17,7 +17,7 @@ use Rattle.command.specs.Layouts.{types, layouts, findLayout, layoutOf, rowAs}
 use Rattle.command.specs.Walks.{bodyAs, givenAs, planned}
 use Rattle.login.specs.Login.{readLogin, isAccepted, loginAnswer, loginAs}
 use Rattle.datagram.specs.Datagrams.{headerBytes, contentBytes, datagramBytes, readHeader, readDatagram, answerDatagram, acknowledgementBytes, udpAcknowledgement, datagramAs, judgeHeader}
-use Rattle.tlv.specs.Entries.{entryBytes, entriesFrom, entriesOf}
+use Rattle.store.specs.Entries.{entryBytes, entriesFrom, entriesOf}
 use Rattle.tlv.specs.Form.{fixedEntry, elementEntry, groupEntries, groupsEntries, recordsEntries, formEntries, form}
 use Rattle.tlv.specs.PacketOf.{formOfPacket, formOfDatagram, or17, readForm, packetOfForm}
 use Rattle.claims.specs.BenchSheet.{commandFields}
