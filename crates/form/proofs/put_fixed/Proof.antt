@@ -11,8 +11,6 @@ use lib.Dec.{lit≤}
 use native.Mathlib.Omega.{arith}
 use native.Mathlib.Nat.{le-trans, le-add-right}
 use mathlib.Core.Path.{refl}
-use Prim.Native.Nat.{_+_}
-use borrow.Author.Needs.{needs}
 use Rattle.form.proofs.put_fixed.Statement.{statement}
 use Rattle.form.proofs.put_fixed.Tie as tie
 
