@@ -15,7 +15,7 @@ use Rattle.command.specs.Commands.{commandField, commandBody, readField, readCo
 use Rattle.command.specs.Layouts.{types, layouts, findLayout, layoutOf}
 use Rattle.login.specs.Login.{readLogin, isAccepted, loginAnswer, loginAs}
 use Rattle.datagram.specs.Datagrams.{readHeader, readDatagram, answerDatagram, acknowledgementBytes, udpAcknowledgement, datagramAs, judgeHeader}
-use Rattle.tlv.specs.Entries.{entryBytes, entriesFrom, entriesOf}
+use Rattle.store.specs.Entries.{entryBytes, entriesFrom, entriesOf}
 use Rattle.tlv.specs.Form.{fixedEntry, elementEntry, groupEntries, groupsEntries, recordsEntries, formEntries, form}
 use Rattle.tlv.specs.PacketOf.{formOfPacket, formOfDatagram, or17, readForm, packetOfForm}
 use Rattle.wire.specs.Buffers.{writing, leaving, writtenAs}

@@ -18,7 +18,7 @@ use Rattle.avl.specs.Codecs.{widthsOf, kinds}
 use Rattle.avl.specs.Records.{AvlRecord}
 use Rattle.avl.specs.RecordReader.{plainRecord, avlRecords, atEnd, allRecords}
 use Rattle.avl.specs.DataField.{AvlData, readData}
-use Rattle.tlv.specs.Entries.{entryBytes}
+use Rattle.store.specs.Entries.{entryBytes}
 use Rattle.tlv.specs.Form.{recordsEntries, formEntries, form}
 use Rattle.wire.specs.declared.Written.{Written}
 use Rattle.wire.specs.Buffers.{writtenAs}

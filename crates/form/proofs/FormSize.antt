@@ -18,7 +18,7 @@ use Rattle.avl.specs.Records.{Element, Fixed, AvlRecord, ElementRules, GroupsRu
 use Rattle.avl.specs.DataField.{AvlData, dataBytes, readData}
 use Rattle.avl.proofs.DataLaws.{data-exact}
 use Rattle.walk.proofs.KindLaws.{KindRange, kinds-range}
-use Rattle.tlv.specs.Entries.{entryBytes}
+use Rattle.store.specs.Entries.{entryBytes}
 use Rattle.tlv.specs.Form.{fixedEntry, elementEntry, groupEntries, groupsEntries, recordsEntries, formEntries, form}
 use Rattle.form.proofs.MoveLaws.{laid, length-laid}
 

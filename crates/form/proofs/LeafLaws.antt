@@ -4,16 +4,16 @@ use native.Mathlib.Omega.{arith}
 use mathlib.Core.Path.{_≡_, sym, ap, ap₂, _∙_}
 use mathlib.Core.List.{List, [], _++_, append-nil}
 use lib.ListN.{length, take, drop, length-append, length-drop}
-use lib.Seq.{sets, length-sets, length-take-le}
+use lib.Seq.{sets, length-take-le}
 use mir.Val.{Fits}
 use mir.Syntax.{w64}
 use Rattle.wire.specs.Numbers.{numberAt, le}
 use Rattle.wire.specs.Reading.{Reader, got}
-use Rattle.wire.proofs.Storing.{sets-append}
 use Rattle.avl.specs.declared.Widths.{Widths}
 use Rattle.avl.specs.Records.{Element}
 use Rattle.avl.specs.RecordReader.{valueSize, element, fixedFields}
-use Rattle.tlv.specs.Entries.{entryBytes}
+use Rattle.store.specs.Stores.{Stored}
+use Rattle.store.specs.Entries.{entryBytes}
 use Rattle.tlv.specs.Form.{fixedEntry, elementEntry}
 use Rattle.form.specs.Moves.{Ready, Copies, elementEntries, fixedEntries}
 use Rattle.avl.proofs.Inversion.{fixedAt, fixed-read, ElementRead, element-read, size-read}
@@ -30,17 +30,6 @@ module _ {A : Type 0} {m : Reader A} {s : List ℕ} {from to : ℕ} (k : Ready m
   pub near-fits : (i : ℕ) → i ≤ 2 ^ 36 → Fits w64 (to + i)
   near-fits i h = let l = near-on i h in omega arith
 
--- `o` is the buffer `l` with the bytes `done` stored from `to` on
-pub record Stored (l : List ℕ) (to : ℕ) (done o : List ℕ) : Type 0 where
-  pub is : o ≡ sets l to done
-
--- one block more
-pub stored-on : {l done o p : List ℕ} {to at : ℕ} (a : List ℕ) → Stored l to done o → p ≡ sets o at a → at ≡ to + length done → Stored l to (done ++ a) p
-stored-on {l} {done} {to = to} a e f h = record { is = f ∙ ap₂ (λ (x : List ℕ) (k : ℕ). sets x k a) (e .is) h ∙ sym (sets-append l to done a) }
-
-pub stored-length : {l done o : List ℕ} {to : ℕ} → Stored l to done o → length o ≡ length l
-stored-length {l} {done} {to = to} e = ap length (e .is) ∙ length-sets l to done
-
 -- ---- the fixed fields
 
 module _ (w : Widths) {s : List ℕ} {at to : ℕ} (k : Ready (fixedFields w) s at to) where
@@ -54,12 +43,12 @@ module _ (w : Widths) {s : List ℕ} {at to : ℕ} (k : Ready (fixedFields w) s 
   pub field-inside : (i w : ℕ) → i + w ≤ 24 → w ≤ 8 → (at + i + w ≤ length s) × (w ≤ 8) × (i ≤ 24) × (to ≤ 2 ^ 36)
   field-inside i w h l = (omega (arith, fixed-inside), l, omega arith, near k)
 
-  pub fixed-copied : {before after : List ℕ} → Stored before to (laid (fixedEntries (fixedAt w s at))) after
+  pub fixed-copied : {before after : List ℕ} {next : ℕ} → Stored (laid (fixedEntries (fixedAt w s at))) before after to next
       → Copies (fixedFields w) fixedEntries s at to before after (moved (at + 24 + w .event + w .generation) (to + 31))
   unfolding entryBytes fixedEntry le
   fixed-copied {before} e =
       let f = fixed-read w s at .if-got _ _ (k .reads) in
-      copies-of (k .reads) (ap (λ (n : ℕ). moved n (to + 31)) (sym (f .end))) (e .is ∙ ap (λ x. sets before to (laid (fixedEntries x))) (sym (f .is)))
+      copies-of (k .reads) (ap (λ (n : ℕ). moved n (to + 31)) (sym (f .end))) (e .buffer ∙ ap (λ x. sets before to (laid (fixedEntries x))) (sym (f .is)))
 
 -- ---- an element
 
@@ -92,7 +81,7 @@ module _ (w : Widths) (kind : ℕ) {s : List ℕ} {at to : ℕ} (k : Ready (elem
     pub value-long : length value ≡ size
     value-long = ap length value-is ∙ length-take-le size (drop start s) (simp length-drop (omega (arith, value-inside)))
 
-    pub element-copied : {before after : List ℕ} → Stored before to (((le 2 (2 + size) ++ le 2 kind) ++ le 2 (numberAt s at (w .id))) ++ value) after
+    pub element-copied : {before after : List ℕ} {next : ℕ} → Stored (((le 2 (2 + size) ++ le 2 kind) ++ le 2 (numberAt s at (w .id))) ++ value) before after to next
         → Copies (element w kind) (elementEntries kind) s at to before after (moved (start + size) (to + 6 + size))
     unfolding entryBytes elementEntry le
     element-copied {before} e =
@@ -106,4 +95,4 @@ module _ (w : Widths) (kind : ℕ) {s : List ℕ} {at to : ℕ} (k : Ready (elem
         let entry : ((le 2 (2 + size) ++ le 2 kind) ++ le 2 (numberAt s at (w .id))) ++ value ≡ laid (elementEntries kind x) =
         ap₂ (λ (n : ℕ) (v : List ℕ). le 2 n ++ (le 2 kind ++ (le 2 (numberAt s at (w .id)) ++ v))) (omega (arith, value-long)) (sym (append-nil value))
         in
-        copies-of (k .reads ∙ ap₂ got content end) (ap (moved (start + size)) (omega (arith, value-long, length-append value []))) (e .is ∙ ap (sets before to) entry)
+        copies-of (k .reads ∙ ap₂ got content end) (ap (moved (start + size)) (omega (arith, value-long, length-append value []))) (e .buffer ∙ ap (sets before to) entry)

@@ -1,4 +1,3 @@
-pub mod Stores
 pub mod MoveLaws
 pub mod LeafLaws
 pub mod LoopLaws

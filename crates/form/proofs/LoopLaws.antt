@@ -12,7 +12,7 @@ use Rattle.avl.specs.declared.Widths.{Widths}
 use Rattle.avl.specs.Codecs.{kinds}
 use Rattle.avl.specs.RecordReader.{element, group, groups, fixedFields, plainRecord}
 use Rattle.walk.proofs.KindLaws.{next-kind}
-use Rattle.tlv.specs.Entries.{Entry}
+use Rattle.store.specs.Entries.{Entry}
 use Rattle.tlv.specs.Form.{groupEntries, groupsEntries, recordsEntries}
 use Rattle.form.specs.declared.Moved.{Moved}
 use Rattle.form.specs.Moves.{Ready, Copies, fixedEntries, elementEntries, recordEntries}

@@ -16,7 +16,7 @@ use Rattle.avl.specs.Codecs.{kinds}
 use Rattle.avl.specs.Records.{Element}
 use Rattle.avl.specs.RecordReader.{element, group, groups, fixedFields, plainRecord}
 use Rattle.walk.proofs.KindLaws.{KindRange, kinds-range}
-use Rattle.tlv.specs.Entries.{Entry, entryBytes}
+use Rattle.store.specs.Entries.{Entry, entryBytes}
 use Rattle.tlv.specs.Form.{fixedEntry, elementEntry, groupEntries, groupsEntries}
 use Rattle.form.specs.declared.Moved.{Moved}
 use Rattle.form.specs.Moves.{Ready, Copies, elementEntries, fixedEntries, recordEntries}

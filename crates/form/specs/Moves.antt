@@ -12,7 +12,7 @@ use Rattle.wire.specs.Answers.{Answer, accepted, onAccepted}
 use Rattle.wire.specs.Buffers.{writing, leaving, writtenAs}
 use Rattle.avl.specs.Records.{Element, Fixed, AvlRecord}
 use Rattle.avl.specs.DataField.{AvlData, readData}
-use Rattle.tlv.specs.Entries.{Entry, entryBytes}
+use Rattle.store.specs.Entries.{Entry, entryBytes}
 use Rattle.tlv.specs.Form.{fixedEntry, elementEntry, groupsEntries, formEntries, form}
 use Rattle.form.specs.declared.Moved.{Moved}
 

@@ -7,10 +7,10 @@ ghost use mathlib.Core.Path.{_≡_};
 ghost use Prim.Native.Nat.{_+_, _^_, _≤_, _<_};
 ghost use mathlib.Core.List.{_++_};
 ghost use lib.ListN.{length};
-ghost use lib.Seq.{sets};
 ghost use Rattle.wire.specs.Numbers.{numberAt, le};
 ghost use Rattle.wire.specs.Reading.{got, repeat};
 ghost use Rattle.wire.specs.Buffers.{writing, leaving, writtenAs};
+ghost use Rattle.store.specs.Stores.{Stored};
 ghost use Rattle.avl.specs.RecordReader.{valueSize, element, group, groups, fixedFields, plainRecord};
 ghost use Rattle.avl.specs.Codecs.{widthsOf, kinds};
 ghost use Rattle.walk.specs.Walks.{Narrow};
@@ -25,49 +25,20 @@ struct Moved {
     to: usize,
 }
 
-// Stores the `w` lowest bytes of `n`, the lowest first, as far as the buffer reaches.
-fn store_le(out: &mut [u8], at: usize, w: usize, n: u64)
-    requires { ⌜ (at ≤ 2 ^ 40) × (w ≤ 8) ⌝ }
-    ensures { λ _. ⌜ now (out .exit) ≡ sets (now (out .entry)) at (le w n) ⌝ }
-{
-    if at + w <= out.len() {
-        wire::put_le(out, at, w, n);
-        return;
-    }
-    if at < out.len() {
-        wire::put_le(out, at, out.len() - at, n);
-    }
-}
-
-// Stores the bytes of `src`, as far as the buffer reaches.
-pub fn store_bytes(out: &mut [u8], at: usize, src: &[u8])
-    requires { ⌜ at + length (now src) < 2 ^ 64 ⌝ }
-    ensures { λ _. ⌜ now (out .exit) ≡ sets (now (out .entry)) at (now (src .entry)) ⌝ }
-{
-    if at + src.len() <= out.len() {
-        wire::put_bytes(out, at, src);
-        return;
-    }
-    if at < out.len() {
-        let room = out.len() - at;
-        wire::put_bytes(out, at, &src[0..room]);
-    }
-}
-
 // Reads a number of `w` bytes and stores it in `v`, the lowest first.
-fn store_number(s: &[u8], at: usize, w: usize, out: &mut [u8], to: usize, v: usize)
+fn store_number(s: &[u8], at: usize, w: usize, out: &mut [u8], to: usize, v: usize) -> usize
     requires { ⌜ (at + w ≤ length (now s)) × (w ≤ 8) × (to ≤ 2 ^ 40) × (v ≤ 8) ⌝ }
-    ensures { λ _. ⌜ now (out .exit) ≡ sets (now (out .entry)) to (le v (numberAt (now (s .entry)) at w)) ⌝ }
+    ensures { λ r. ⌜ Stored (le v (numberAt (now (s .entry)) at w)) (now (out .entry)) (now (out .exit)) to r ⌝ }
 {
-    store_le(out, to, v, wire::number(s, at, w));
+    store::store_le(out, to, v, wire::number(s, at, w))
 }
 
 // A fixed field of `w` bytes: `i` bytes behind the record's start, and as many behind the head of its entry.
-fn store_field(s: &[u8], at: usize, i: usize, w: usize, out: &mut [u8], to: usize)
+fn store_field(s: &[u8], at: usize, i: usize, w: usize, out: &mut [u8], to: usize) -> usize
     requires { ⌜ (at + i + w ≤ length (now s)) × (w ≤ 8) × (i ≤ 24) × (to ≤ 2 ^ 36) ⌝ }
-    ensures { λ _. ⌜ now (out .exit) ≡ sets (now (out .entry)) (to + 4 + i) (le w (numberAt (now (s .entry)) (at + i) w)) ⌝ }
+    ensures { λ r. ⌜ Stored (le w (numberAt (now (s .entry)) (at + i) w)) (now (out .entry)) (now (out .exit)) (to + 4 + i) r ⌝ }
 {
-    store_number(s, at + i, w, out, to + 4 + i, w);
+    store_number(s, at + i, w, out, to + 4 + i, w)
 }
 
 // The entry of the fixed fields: kind 101, 27 bytes.
@@ -80,8 +51,7 @@ fn put_fixed(w: Widths, s: &[u8], at: usize, out: &mut [u8], to: usize) -> Moved
     let generation = w.generation;
     let behind = at + 24;
     let last = behind + event;
-    store_le(out, to, 2, 27);
-    store_le(out, to + 2, 2, 101);
+    store::store_head(out, to, 27, 101);
     store_field(s, at, 0, 8, out, to);
     store_field(s, at, 8, 1, out, to);
     store_field(s, at, 9, 4, out, to);
@@ -122,19 +92,19 @@ fn value_at(kind: usize, s: &[u8], at: usize) -> Value
 }
 
 // The first six bytes of an element's entry: its length, its kind, its ID. One test of the room serves all three.
-fn put_head(out: &mut [u8], to: usize, size: u64, kind: u64, id: u64)
+fn put_head(out: &mut [u8], to: usize, size: u64, kind: u64, id: u64) -> usize
     requires { ⌜ to ≤ 2 ^ 36 ⌝ }
-    ensures { λ _. ⌜ now (out .exit) ≡ sets (now (out .entry)) to ((le 2 size ++ le 2 kind) ++ le 2 id) ⌝ }
+    ensures { λ r. ⌜ Stored ((le 2 size ++ le 2 kind) ++ le 2 id) (now (out .entry)) (now (out .exit)) to r ⌝ }
 {
-    if to + 6 <= out.len() {
+    let end = to + 6;
+    if end <= out.len() {
         wire::put_le(out, to, 2, size);
         wire::put_le(out, to + 2, 2, kind);
         wire::put_le(out, to + 4, 2, id);
-        return;
+        return end;
     }
-    store_le(out, to, 2, size);
-    store_le(out, to + 2, 2, kind);
-    store_le(out, to + 4, 2, id);
+    let next = store::store_head(out, to, size, kind);
+    store::store_le(out, next, 2, id)
 }
 
 // The entry of an element: its kind, its ID, its value as it stands.
@@ -151,7 +121,7 @@ fn put_element(w: Widths, kind: usize, s: &[u8], at: usize, out: &mut [u8], to: 
     let end = start + size;
     let number = wire::short_number(s, at, id);
     put_head(out, to, (2 + size) as u64, kind as u64, number);
-    store_bytes(out, to + 6, &s[start..end]);
+    store::store_bytes(out, to + 6, &s[start..end]);
     Moved {
         from: end,
         to: to + 6 + size,
@@ -233,7 +203,7 @@ fn put_form(codec: u8, count: usize, s: &[u8], out: &mut [u8]) -> Moved
     ensures { λ r. ⌜ Copies (repeat count (plainRecord (widthsOf codec))) (dataEntries codec) (now (s .entry)) 0 0 (now (out .entry)) (now (out .exit)) r ⌝ }
 {
     let head: [u8; 5] = [1, 0, 100, 0, codec];
-    store_bytes(out, 0, &head);
+    store::store_bytes(out, 0, &head);
     put_records(walk::widths_of(codec), count, s, out, 5)
 }
 

@@ -14,10 +14,9 @@ use Rattle.avl.specs.Codecs.{kinds}
 use Rattle.avl.specs.Records.{Element, AvlRecord, elementCount, total, lengthBytes, elementBytes, groupBytes, groupsBytes, recordBytes}
 use Rattle.walk.specs.Walks.{Narrow}
 use Rattle.walk.proofs.KindLaws.{kinds-few}
-use Rattle.tlv.specs.Entries.{Entry, entriesFrom, entriesOf}
+use Rattle.store.specs.Entries.{Entry, entriesFrom, entriesOf, entriesAt}
 use Rattle.tlv.specs.Decoding.{entryElement, run, behind, groupsOf, fixedOf, recordsOf}
 use Rattle.form.proofs.FormSize.{length-recordBytes}
-use Rattle.rebuild.specs.FormPlaces.{entriesAt}
 
 -- ---- the bytes that entries take
 

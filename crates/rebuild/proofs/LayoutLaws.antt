@@ -13,7 +13,7 @@ use Rattle.avl.specs.Codecs.{widthsOf, kinds}
 use Rattle.avl.specs.Records.{lengthBytes, elementBytes, recordBytes}
 use Rattle.avl.specs.DataField.{dataBytes}
 use Rattle.tlv.specs.Decoding.{entryElement, recordsOf, decoded}
-use Rattle.rebuild.specs.FormPlaces.{bodyAt, nextAt, entriesAt}
+use Rattle.store.specs.Entries.{bodyAt, nextAt, entriesAt}
 use Rattle.rebuild.proofs.OffsetLaws.{decoded-at, value-part}
 
 -- ---- an element

@@ -1,4 +1,3 @@
-pub mod StoredLaws
 pub mod OffsetLaws
 pub mod LayoutLaws
 pub mod Bounds

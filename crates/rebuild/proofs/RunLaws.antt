@@ -15,13 +15,15 @@ use Rattle.avl.specs.Codecs.{kinds}
 use Rattle.avl.specs.Records.{Element, Fixed, elementCount, total, elementBytes, groupBytes, groupsBytes, fixedBytes, recordBytes}
 use Rattle.walk.proofs.KindLaws.{next-kind}
 use Rattle.walk.proofs.WalkLaws.{share-consed}
-use Rattle.tlv.specs.Entries.{Entry}
+use Rattle.store.specs.Entries.{Entry, kindAt, bodyAt, nextAt, entryAt, entriesAt}
 use Rattle.tlv.specs.Decoding.{entryElement, run, behind, groupsOf, fixedOf, recordsOf}
 use Rattle.form.proofs.FormSize.{length-fixedBytes, length-recordBytes}
 use Rattle.rebuild.specs.declared.Run.{Run}
-use Rattle.rebuild.specs.FormPlaces.{kindAt, bodyAt, nextAt, entryAt, entriesAt, behindAll, recordAt, RecordFrom, Stored, Goes}
-use Rattle.rebuild.proofs.OffsetLaws.{NoRun, run-on, behind-on, entries-end, records-own, records-end, records-behind-all}
-use Rattle.rebuild.proofs.StoredLaws.{stored-then, stored-as, stored-before, Left, left-all, left-as, left-more, left-done}
+use Rattle.store.specs.Stores.{Stored}
+use Rattle.rebuild.specs.FormPlaces.{behindAll, recordAt, RecordFrom, Goes}
+use Rattle.store.proofs.PlaceLaws.{entries-end}
+use Rattle.rebuild.proofs.OffsetLaws.{NoRun, run-on, behind-on, records-own, records-end, records-behind-all}
+use Rattle.store.proofs.StoredLaws.{stored-then, stored-as, stored-before, Left, left-all, left-as, left-more, left-done}
 
 -- ---- a run
 

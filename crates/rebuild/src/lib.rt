@@ -4,9 +4,9 @@ use wire::Limits;
 use wire::Refusal;
 use wire::Written;
 ghost use mathlib.Core.Path.{_≡_};
-ghost use Prim.Native.Nat.{_+_, _*_, _^_, _≤_, _<_, min};
+ghost use Prim.Native.Nat.{_+_, _*_, _^_, _≤_, _<_};
 ghost use mathlib.Core.List.{[]};
-ghost use lib.ListN.{length, getD, set};
+ghost use lib.ListN.{length};
 ghost use lib.Seq.{sets};
 ghost use Rattle.wire.specs.Numbers.{be, littleAt};
 ghost use Rattle.wire.specs.Sequences.{joined};
@@ -21,7 +21,9 @@ ghost use Rattle.tlv.specs.Decoding.{entryElement, run, behind, fixedOf, groups
 ghost use Rattle.tlv.specs.PacketOf.{same, packetOfForm};
 ghost use Rattle.rebuild.specs.Candidates.{Roomy, formWithin, hasForm};
 ghost use Rattle.wire.specs.Limits.{baseLimits};
-ghost use Rattle.rebuild.specs.FormPlaces.{kindAt, nextAt, entryAt, entriesAt, recordAt, behindAll, Stored, Goes, RecordFrom};
+ghost use Rattle.store.specs.Stores.{Stored};
+ghost use Rattle.store.specs.Entries.{nextAt, entryAt, entriesAt};
+ghost use Rattle.rebuild.specs.FormPlaces.{recordAt, behindAll, Goes, RecordFrom};
 
 // Where reading and storing go on, and how many elements or records were stored.
 struct Run {
@@ -33,133 +35,13 @@ struct Run {
 // The most bytes of a data field.
 const FIELD: usize = wire::LARGEST - 12;
 
-// Stores a byte; past the buffer's end it does nothing.
-fn put(out: &mut [u8], at: usize, b: u8)
-    ensures { λ r. ⌜ now (out .exit) ≡ set (now (out .entry)) at b ⌝ }
-{
-    if at < out.len() {
-        out[at] = b;
-    }
-}
-
-// The same where the buffer ends before them.
-fn cut_be(out: &mut [u8], to: usize, w: usize, n: u64)
-    requires { ⌜ to + w < 2 ^ 64 ⌝ }
-    ensures { λ r. ⌜ now (out .exit) ≡ sets (now (out .entry)) to (be w n) ⌝ }
-{
-    let mut rest = n;
-    let mut left = w;
-    while 0 < left {
-        left -= 1;
-        put(out, to + left, (rest % 256) as u8);
-        rest = rest / 256;
-    }
-}
-
-// Stores the `w` lowest bytes of `n`, the highest first.
-fn store_be(out: &mut [u8], to: usize, w: usize, n: u64) -> usize
-    requires { ⌜ to + w < 2 ^ 64 ⌝ }
-    ensures { λ r. ⌜ r ≡ to + w ⌝ }
-    ensures { λ r. ⌜ Stored (be w n) (now (out .entry)) (now (out .exit)) to r ⌝ }
-{
-    let end = to + w;
-    if end <= out.len() {
-        wire::put_be(out, to, w, n);
-        return end;
-    }
-    cut_be(out, to, w, n);
-    end
-}
-
-fn store_bytes(out: &mut [u8], to: usize, src: &[u8]) -> usize
-    requires { ⌜ to + length (now src) < 2 ^ 64 ⌝ }
-    ensures { λ r. ⌜ Stored (now (src .entry)) (now (out .entry)) (now (out .exit)) to r ⌝ }
-{
-    form::store_bytes(out, to, src);
-    to + src.len()
-}
-
-fn byte_or_zero(f: &[u8], at: usize) -> u8
-    ensures { λ r. ⌜ r ≡ getD (now (f .entry)) at 0 ⌝ }
-{
-    if at < f.len() {
-        return f[at];
-    }
-    0
-}
-
-// The little-endian number of `w` bytes where they are all there.
-fn whole_little(f: &[u8], at: usize, w: usize) -> u64
-    requires { ⌜ (at + w ≤ length (now f)) × (w ≤ 8) ⌝ }
-    ensures { λ r. ⌜ r ≡ littleAt (now (f .entry)) at w ⌝ }
-{
-    let mut n: u64 = 0;
-    let mut i = w;
-    while 0 < i {
-        i -= 1;
-        let b = f[at + i];
-        n = n * 256 + (b as u64);
-    }
-    n
-}
-
-// The same where some are not there: those are 0.
-fn cut_little(f: &[u8], at: usize, w: usize) -> u64
-    requires { ⌜ (at + w < 2 ^ 64) × (w ≤ 8) ⌝ }
-    ensures { λ r. ⌜ r ≡ littleAt (now (f .entry)) at w ⌝ }
-{
-    let mut n: u64 = 0;
-    let mut i = w;
-    while 0 < i {
-        i -= 1;
-        n = n * 256 + (byte_or_zero(f, at + i) as u64);
-    }
-    n
-}
-
-// The little-endian number of `w` bytes; those past the end are 0.
-fn little(f: &[u8], at: usize, w: usize) -> u64
-    requires { ⌜ (at + w < 2 ^ 64) × (w ≤ 8) ⌝ }
-    ensures { λ r. ⌜ r ≡ littleAt (now (f .entry)) at w ⌝ }
-{
-    if at + w <= f.len() {
-        return whole_little(f, at, w);
-    }
-    cut_little(f, at, w)
-}
-
-// The kind of the entry at `at`.
-fn entry_kind(f: &[u8], at: usize) -> usize
-    requires { ⌜ at ≤ 65536 ⌝ }
-    ensures { λ r. ⌜ r ≡ kindAt (now (f .entry)) at ⌝ }
-{
-    little(f, at + 2, 2) as usize
-}
-
-// Where the entry behind the one at `at` starts.
-fn next_at(f: &[u8], at: usize) -> usize
-    requires { ⌜ at ≤ 65536 ⌝ }
-    ensures { λ r. ⌜ r ≡ nextAt (now (f .entry)) at ⌝ }
-{
-    at + 4 + (little(f, at, 2) as usize)
-}
-
-fn clipped(n: usize, most: usize) -> usize
-    ensures { λ r. ⌜ r ≡ min n most ⌝ }
-{
-    if most < n {
-        return most;
-    }
-    n
-}
-
 // The little-endian number of `n` bytes at `at`, stored in `w` bytes, the highest first.
 fn turned(b: &[u8], at: usize, n: usize, out: &mut [u8], to: usize, w: usize) -> usize
     requires { ⌜ (at ≤ 32) × (n ≤ 8) × (to + w < 2 ^ 64) ⌝ }
     ensures { λ r. ⌜ r ≡ to + w ⌝ }
     ensures { λ r. ⌜ Stored (be w (littleAt (now (b .entry)) at n)) (now (out .entry)) (now (out .exit)) to r ⌝ }
 {
-    store_be(out, to, w, little(b, at, n))
+    store::store_be(out, to, w, store::little(b, at, n))
 }
 
 // The fixed fields of a record, from the body of its entry.
@@ -187,14 +69,14 @@ fn put_element(w: Widths, kind: usize, b: &[u8], out: &mut [u8], to: usize) -> u
     requires { ⌜ to ≤ 2 ^ 40 ⌝ }
     ensures { λ r. ⌜ Stored (elementBytes w kind (entryElement (record { kind = kind; body = now (b .entry) }))) (now (out .entry)) (now (out .exit)) to r ⌝ }
 {
-    let start = clipped(2, b.len());
+    let start = store::clipped(2, b.len());
     let a1 = turned(b, 0, 2, out, to, w.id);
     if kind == 9 {
         let size = b.len() - start;
-        let a2 = store_be(out, a1, 2, size as u64);
-        return store_bytes(out, a2, &b[start..]);
+        let a2 = store::store_be(out, a1, 2, size as u64);
+        return store::store_bytes(out, a2, &b[start..]);
     }
-    store_bytes(out, a1, &b[start..])
+    store::store_bytes(out, a1, &b[start..])
 }
 
 // The element of a kind whose entry is at `at`.
@@ -204,9 +86,7 @@ fn put_entry(w: Widths, kind: usize, f: &[u8], at: usize, out: &mut [u8], to: us
     requires { ⌜ to ≤ 2 ^ 40 ⌝ }
     ensures { λ r. ⌜ Stored (elementBytes w kind (entryElement (entryAt (now (f .entry)) at))) (now (out .entry)) (now (out .exit)) to r ⌝ }
 {
-    let start = clipped(at + 4, f.len());
-    let end = clipped(next_at(f, at), f.len());
-    put_element(w, kind, &f[start..end], out, to)
+    put_element(w, kind, store::entry_body(f, at), out, to)
 }
 
 // The elements of a kind from `from` on.
@@ -220,7 +100,7 @@ fn put_run(w: Widths, kind: usize, f: &[u8], from: usize, out: &mut [u8], to: us
     let mut next = to;
     let mut n: usize = 0;
     while at < f.len() {
-        if entry_kind(f, at) != kind {
+        if store::entry_kind(f, at) != kind {
             return Run {
                 from: at,
                 to: next,
@@ -228,7 +108,7 @@ fn put_run(w: Widths, kind: usize, f: &[u8], from: usize, out: &mut [u8], to: us
             };
         }
         next = put_entry(w, kind, f, at, out, next);
-        at = next_at(f, at);
+        at = store::next_at(f, at);
         n += 1;
     }
     Run {
@@ -247,7 +127,7 @@ fn put_group(w: Widths, kind: usize, f: &[u8], from: usize, out: &mut [u8], to: 
 {
     let count = w.count;
     let elements = put_run(w, kind, f, from, out, to + count);
-    store_be(out, to, count, elements.count as u64);
+    store::store_be(out, to, count, elements.count as u64);
     elements
 }
 
@@ -284,13 +164,11 @@ fn put_record(w: Widths, f: &[u8], at: usize, out: &mut [u8], to: usize) -> Run
     requires { ⌜ to + length (recordBytes w (recordAt (kinds w) (now f) at)) ≤ 2 ^ 40 ⌝ }
     ensures { λ r. ⌜ Goes (now (f .entry)) (nextAt (now (f .entry)) at) (behindAll (kinds w) (entriesAt (now (f .entry)) (nextAt (now (f .entry)) at))) (recordBytes w (recordAt (kinds w) (now (f .entry)) at)) (now (out .entry)) (now (out .exit)) to (total (groupsOf (kinds w) (entriesAt (now (f .entry)) (nextAt (now (f .entry)) at)))) r ⌝ }
 {
-    let from = next_at(f, at);
-    let start = clipped(at + 4, f.len());
-    let end = clipped(from, f.len());
+    let from = store::next_at(f, at);
     let count = w.count;
-    let a1 = put_fixed(w, &f[start..end], out, to);
+    let a1 = put_fixed(w, store::entry_body(f, at), out, to);
     let groups = put_groups(w, f, from, out, a1 + count);
-    store_be(out, a1, count, groups.count as u64);
+    store::store_be(out, a1, count, groups.count as u64);
     groups
 }
 
@@ -301,10 +179,10 @@ fn next_record(f: &[u8], from: usize) -> usize
 {
     let mut at = from;
     while at < f.len() {
-        if entry_kind(f, at) == 101 {
+        if store::entry_kind(f, at) == 101 {
             return at;
         }
-        at = next_at(f, at);
+        at = store::next_at(f, at);
     }
     at
 }
@@ -338,15 +216,13 @@ fn decode_form(f: &[u8], out: &mut [u8]) -> usize
     ensures size { λ r. ⌜ r ≡ length (dataBytes (decoded (now (f .entry)))) ⌝ }
     ensures buffer { λ r. ⌜ now (out .exit) ≡ sets (now (out .entry)) 0 (dataBytes (decoded (now (f .entry)))) ⌝ }
 {
-    let from = next_at(f, 0);
-    let start = clipped(4, f.len());
-    let end = clipped(from, f.len());
-    let codec = byte_or_zero(&f[start..end], 0);
-    let a1 = store_be(out, 0, 1, codec as u64);
+    let from = store::next_at(f, 0);
+    let codec = store::byte_or_zero(store::entry_body(f, 0), 0);
+    let a1 = store::store_be(out, 0, 1, codec as u64);
     let records = put_records(walk::widths_of(codec), f, from, out, a1 + 1);
     let count = records.count as u64;
-    store_be(out, a1, 1, count);
-    store_be(out, records.to, 1, count)
+    store::store_be(out, a1, 1, count);
+    store::store_be(out, records.to, 1, count)
 }
 
 // Whether two sequences of bytes are the same. No early exit, so that many bytes are compared at once.

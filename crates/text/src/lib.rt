@@ -1,7 +1,7 @@
 // Hex text to bytes and back, and the calendar date of a day.
 ghost use mathlib.Core.Path.{_≡_};
 ghost use Prim.Native.Nat.{_*_, _<_};
-ghost use lib.ListN.{length, set};
+ghost use lib.ListN.{length};
 ghost use lib.Seq.{sets};
 ghost use Rattle.text.specs.Hex.{among, markOf, kindOf, hexBytes, glyphOf, hexText, printable};
 ghost use lib.IntN.{natAbs};
@@ -63,15 +63,6 @@ pub fn kind_of(s: &[u8]) -> Kind
     Kind::Hex(n)
 }
 
-// Stores a byte if there is room.
-fn store(out: &mut [u8], at: usize, b: u8)
-    ensures { λ _. ⌜ now (out .exit) ≡ set (now (out .entry)) at b ⌝ }
-{
-    if at < out.len() {
-        out[at] = b;
-    }
-}
-
 // Stores the byte of each pair of digits, as far as there is room, and answers how many pairs there are.
 pub fn decode(s: &[u8], out: &mut [u8]) -> usize
     ensures count { λ r. ⌜ r ≡ length (hexBytes (now (s .entry))) ⌝ }
@@ -86,7 +77,7 @@ pub fn decode(s: &[u8], out: &mut [u8]) -> usize
         match mark_of(c) {
             Mark::Digit(d) => {
                 if high < 16 {
-                    store(out, to, high * 16 + d);
+                    store::store_byte(out, to, high * 16 + d);
                     to += 1;
                     high = 16;
                 } else {
@@ -115,8 +106,8 @@ pub fn encode(s: &[u8], out: &mut [u8]) -> usize
     let mut i: usize = 0;
     while i < s.len() {
         let b = s[i];
-        store(out, 2 * i, glyph_of(b / 16));
-        store(out, 2 * i + 1, glyph_of(b % 16));
+        store::store_byte(out, 2 * i, glyph_of(b / 16));
+        store::store_byte(out, 2 * i + 1, glyph_of(b % 16));
         i += 1;
     }
     2 * s.len()

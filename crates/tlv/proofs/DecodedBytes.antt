@@ -12,7 +12,7 @@ use Rattle.avl.specs.DataField.{dataBytes}
 use Rattle.avl.proofs.ByteLaws.{ByteValues, bytes-data}
 use Rattle.frame.proofs.FrameLaws.{bytes-framed}
 use Rattle.packet.specs.DataPackets.{packetBytes}
-use Rattle.tlv.specs.Entries.{Entry, entriesFrom, entriesOf}
+use Rattle.store.specs.Entries.{Entry, entriesFrom, entriesOf}
 use Rattle.tlv.specs.Decoding.{entryElement, run, behind, groupsOf, fixedOf, recordsOf, dataOf, decoded}
 
 abbrev ByteBodies : List Entry → Type 0

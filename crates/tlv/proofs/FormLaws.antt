@@ -15,10 +15,10 @@ use Rattle.avl.specs.declared.Widths.{Widths}
 use Rattle.avl.specs.Codecs.{widthsOf, kinds, codec8, codec8E, codec16}
 use Rattle.avl.specs.Records.{Element, Fixed, AvlRecord, FixedRules, ElementRules, GroupsRules, RecordRules, total, lengthBytes, elementBytes, groupBytes, groupsBytes, fixedBytes, recordBytes}
 use Rattle.avl.specs.DataField.{AvlData, DataRules}
-use Rattle.tlv.specs.Entries.{Entry}
+use Rattle.store.specs.Entries.{Entry}
 use Rattle.tlv.specs.Form.{fixedEntry, elementEntry, groupEntries, groupsEntries, recordsEntries, formEntries, form}
 use Rattle.tlv.specs.Decoding.{entryElement, run, behind, groupsOf, fixedOf, recordsOf, dataOf, decoded}
-use Rattle.tlv.proofs.EntryLaws.{EntryFits, entries-written}
+use Rattle.store.proofs.EntryLaws.{EntryFits, entries-written}
 
 -- ---- the elements of a record
 

@@ -1,4 +1,3 @@
-pub mod EntryLaws
 pub mod FormLaws
 pub mod DecodedBytes
 pub mod PacketOfLaws

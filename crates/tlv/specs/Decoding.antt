@@ -7,7 +7,7 @@ use Rattle.wire.specs.Numbers.{littleAt, pick}
 use Rattle.avl.specs.Codecs.{widthsOf, kinds}
 use Rattle.avl.specs.Records.{Element, Fixed, AvlRecord}
 use Rattle.avl.specs.DataField.{AvlData}
-use Rattle.tlv.specs.Entries.{Entry, entriesOf}
+use Rattle.store.specs.Entries.{Entry, entriesOf}
 
 unfoldable pub entryElement : Entry → Element
 entryElement e = record { id = littleAt (e .body) 0 2; value = drop 2 (e .body) }

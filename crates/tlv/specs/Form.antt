@@ -6,7 +6,7 @@ use Rattle.wire.specs.Sequences.{fields, joined}
 use Rattle.avl.specs.Codecs.{widthsOf, kinds}
 use Rattle.avl.specs.Records.{Element, Fixed, AvlRecord}
 use Rattle.avl.specs.DataField.{AvlData}
-use Rattle.tlv.specs.Entries.{Entry, entryBytes}
+use Rattle.store.specs.Entries.{Entry, entryBytes}
 
 -- kind 101, 27 bytes
 unfoldable pub fixedEntry : Fixed → Entry

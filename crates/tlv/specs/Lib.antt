@@ -1,4 +1,3 @@
-pub mod Entries
 pub mod Form
 pub mod Decoding
 pub mod PacketOf

@@ -1,11 +1,11 @@
 use Rattle.wire.specs.Numbers.{le, numberAt}
-use lib.Seq.{sets}
-use lib.ListN.{take, drop}
 use native.Mathlib.Omega.{arith}
 use mathlib.Core.List.{_++_}
-use mathlib.Core.Path.{refl, ap, _∙_}
-use Prim.Native.Nat.{ℕ, _+_, _-_}
-use Rattle.form.proofs.LeafLaws.{near, Stored, stored-on, size-stands, id-inside, value-inside, size-small, value-long, element-copied}
+use mathlib.Core.Path.{refl}
+use Prim.Native.Nat.{_+_}
+use Rattle.form.proofs.LeafLaws.{near, size-stands, id-inside, value-inside, size-small, value-long, element-copied}
+use Rattle.store.specs.Stores.{Stored}
+use Rattle.store.proofs.StoredLaws.{stored-on}
 use borrow.Author.Needs.{needs}
 use Rattle.form.proofs.put_element.Statement.{statement}
 use Rattle.form.proofs.put_element.Tie as tie
@@ -57,11 +57,8 @@ returns : tie.Need-returns
 unfolding le
 returns c = let args = c .before .before .before .before .before .before .before .before .before .before .before .before .before .args in
     let size = c .before .before .before .before .before .before .before .before .before .before .value-at .result .size in
-    let start = c .before .before .before .before .before .before .before .before .before .before .value-at .result .start in
-    let s = args .s .now in
-    let id = ap (λ (n : ℕ). sets (args .out .now) (args .to) ((le 2 (2 + size) ++ le 2 (args .kind)) ++ le 2 n)) (c .before .before .before .before .before .before .before .before .before .short-number .ensures) in
-    let head : Stored (args .out .now) (args .to) ((le 2 (2 + size) ++ le 2 (args .kind)) ++ le 2 (numberAt s (args .at) (args .w .id))) _ = record { is = c .before .before .before .before .before .before .before .put-head .ensures ∙ id } in
-    element-copied (args .w) (args .kind) (c .before .before .before .before .before .before .before .before .before .before .before .before .before .pre .1 .1) (c .before .before .before .before .before .before .before .before .before .before .value-at .ensures) (stored-on (take (start + size - start) (drop start s)) head (c .before .before .store-bytes .ensures) refl)
+    let head : Stored ((le 2 (2 + size) ++ le 2 (args .kind)) ++ le 2 (numberAt (args .s .now) (args .at) (args .w .id))) (args .out .now) _ (args .to) _ = rw (c .before .before .before .before .before .before .before .before .before .short-number .ensures) at (c .before .before .before .before .before .before .before .put-head .ensures) in
+    element-copied (args .w) (args .kind) (c .before .before .before .before .before .before .before .before .before .before .before .before .before .pre .1 .1) (c .before .before .before .before .before .before .before .before .before .before .value-at .ensures) (stored-on head (c .before .before .store-bytes .ensures) refl)
 
 pub put-element-spec : {M : Type 1} → statement M
 put-element-spec =

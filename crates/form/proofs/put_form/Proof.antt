@@ -26,7 +26,7 @@ same-length : tie.Need-same-length
 same-length c = search needs
 
 returns : tie.Need-returns
-returns c = form-copied (c .before .before .before .before .before .before .before .before .before .before .before .before .args .codec) (c .before .before .before .before .before .before .before .before .before .before .before .before .args .count) (c .before .before .before .before .widths-of .ensures) (c .before .before .before .before .before .before .before .store-bytes .ensures) (c .before .before .put-records .ensures)
+returns c = form-copied (c .before .before .before .before .before .before .before .before .before .before .before .before .args .codec) (c .before .before .before .before .before .before .before .before .before .before .before .before .args .count) (c .before .before .before .before .widths-of .ensures) (c .before .before .before .before .before .before .before .store-bytes .ensures .buffer) (c .before .before .put-records .ensures)
 
 pub put-form-spec : {M : Type 1} → statement M
 put-form-spec =

@@ -1,12 +1,14 @@
-use Rattle.form.proofs.LeafLaws.{Stored, stored-on}
-use Rattle.wire.specs.Numbers.{le}
+use Rattle.store.proofs.StoredLaws.{stored-le, stored-on, stored-then}
+use Prim.Native.Nat.{_+_}
+use native.Mathlib.Omega.{arith}
 use mathlib.Core.Path.{refl}
+use Rattle.wire.specs.Numbers.{le}
 use borrow.Author.Needs.{needs}
 use Rattle.form.proofs.put_head.Statement.{statement}
 use Rattle.form.proofs.put_head.Tie as tie
 
-add-if1 : tie.Need-add-if1
-add-if1 c = search needs
+add-end : tie.Need-add-end
+add-end c = search needs
 
 put-le-requires : tie.Need-put-le-requires
 put-le-requires c κs = search needs
@@ -28,37 +30,28 @@ same-length c = search needs
 
 returns : tie.Need-returns
 unfolding le
-returns c = let first : Stored (c .before .before .before .before .before .before .before .before .before .before .before .before .before .before .args .out .now) (c .before .before .before .before .before .before .before .before .before .before .before .before .before .before .args .to) (le 2 (c .before .before .before .before .before .before .before .before .before .before .before .before .before .before .args .size)) _ = record { is = c .before .before .before .before .before .before .before .before .before .before .put-le .ensures } in
-    stored-on (le 2 (c .before .before .before .before .before .before .before .before .before .before .before .before .before .before .args .id)) (stored-on (le 2 (c .before .before .before .before .before .before .before .before .before .before .before .before .before .before .args .kind)) first (c .before .before .before .before .before .before .put-le2 .ensures) refl) (c .before .before .put-le3 .ensures) refl .is
+returns c = let args = c .before .before .before .before .before .before .before .before .before .before .before .before .before .before .args in
+    let first = stored-le 2 (args .size) (args .to) refl (c .before .before .before .before .before .before .before .before .before .before .put-le .ensures) in
+    let second = stored-on first (stored-le 2 (args .kind) (args .to + 2) refl (c .before .before .before .before .before .before .put-le2 .ensures)) refl in
+    stored-on second (stored-le 2 (args .id) (args .to + 4) (omega arith) (c .before .before .put-le3 .ensures)) refl
+
+store-head-requires : tie.Need-store-head-requires
+store-head-requires c κs = search needs
 
 store-le-requires : tie.Need-store-le-requires
 store-le-requires c κs = search needs
-
-add-store-le : tie.Need-add-store-le
-add-store-le c = search needs
-
-store-le-requires-2 : tie.Need-store-le-requires-2
-store-le-requires-2 c κs = search needs
-
-add-store-le-2 : tie.Need-add-store-le-2
-add-store-le-2 c = search needs
-
-store-le-requires-3 : tie.Need-store-le-requires-3
-store-le-requires-3 c κs = search needs
 
 same-length-2 : tie.Need-same-length-2
 same-length-2 c = search needs
 
 returns-2 : tie.Need-returns-2
-unfolding le
-returns-2 c = let first : Stored (c .before .before .before .before .before .before .before .before .before .before .before .before .before .before .args .out .now) (c .before .before .before .before .before .before .before .before .before .before .before .before .before .before .args .to) (le 2 (c .before .before .before .before .before .before .before .before .before .before .before .before .before .before .args .size)) _ = record { is = c .before .before .before .before .before .before .before .before .before .before .store-le .ensures } in
-    stored-on (le 2 (c .before .before .before .before .before .before .before .before .before .before .before .before .before .before .args .id)) (stored-on (le 2 (c .before .before .before .before .before .before .before .before .before .before .before .before .before .before .args .kind)) first (c .before .before .before .before .before .before .store-le2 .ensures) refl) (c .before .before .store-le3 .ensures) refl .is
+returns-2 c = stored-then (c .before .before .before .before .before .before .store-head .ensures .1) (c .before .before .store-le .ensures .1)
 
 pub put-head-spec : {M : Type 1} → statement M
 put-head-spec =
     tie.close
     (tie.spec
-    add-if1
+    add-end
     put-le-requires
     add-put-le
     put-le-requires-2
@@ -66,10 +59,7 @@ put-head-spec =
     put-le-requires-3
     same-length
     returns
+    store-head-requires
     store-le-requires
-    add-store-le
-    store-le-requires-2
-    add-store-le-2
-    store-le-requires-3
     same-length-2
     returns-2)

@@ -1,7 +1,3 @@
-use Rattle.wire.specs.Numbers.{le}
-use Prim.Native.Nat.{ℕ}
-use mathlib.Core.Path.{ap, _∙_}
-use lib.Seq.{sets}
 use borrow.Author.Needs.{needs}
 use Rattle.form.proofs.store_number.Statement.{statement}
 use Rattle.form.proofs.store_number.Tie as tie
@@ -16,7 +12,7 @@ same-length : tie.Need-same-length
 same-length c = search needs
 
 returns : tie.Need-returns
-returns c = c .before .before .store-le .ensures ∙ ap (λ (n : ℕ). sets (c .before .before .before .before .before .before .before .args .out .now) (c .before .before .before .before .before .before .before .args .to) (le (c .before .before .before .before .before .before .before .args .v) n)) (c .before .before .before .number .ensures)
+returns c = rw (c .before .before .before .number .ensures) at (c .before .before .store-le .ensures .1)
 
 pub store-number-spec : {M : Type 1} → statement M
 store-number-spec = tie.close (tie.spec number-requires store-le-requires same-length returns)

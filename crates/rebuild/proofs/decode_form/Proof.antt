@@ -1,15 +1,14 @@
 use Rattle.rebuild.proofs.RunLaws.{goes-before}
-use Rattle.rebuild.proofs.StoredLaws.{stored-then, stored-as}
-use Rattle.rebuild.proofs.LayoutLaws.{data-at}
-use Rattle.rebuild.proofs.OffsetLaws.{body-part}
 use Rattle.rebuild.proofs.Bounds.{records-room}
+use Rattle.rebuild.proofs.LayoutLaws.{data-at}
+use Rattle.store.proofs.StoredLaws.{stored-then, stored-as}
 use Rattle.walk.proofs.WalkLaws.{narrow}
 use Rattle.walk.specs.Walks.{Narrow}
-use lib.ListN.{length, getD}
+use lib.ListN.{getD}
 use mathlib.Core.List.{List}
 use mathlib.Core.Path.{ap, _∙_}
 use native.Mathlib.Omega.{arith}
-use Prim.Native.Nat.{ℕ, _-_, min}
+use Prim.Native.Nat.{ℕ}
 use borrow.Author.Needs.{needs}
 use Rattle.rebuild.proofs.decode_form.Statement.{statement}
 use Rattle.rebuild.proofs.decode_form.Tie as tie
@@ -17,20 +16,8 @@ use Rattle.rebuild.proofs.decode_form.Tie as tie
 next-at-requires : tie.Need-next-at-requires
 next-at-requires c κs = search needs
 
-clipped-requires : tie.Need-clipped-requires
-clipped-requires c κs = search needs
-
-clipped-requires-2 : tie.Need-clipped-requires-2
-clipped-requires-2 c κs = search needs
-
-sub-byte-or-zero : tie.Need-sub-byte-or-zero
-sub-byte-or-zero c = search needs
-
-part-byte-or-zero-start : tie.Need-part-byte-or-zero-start
-part-byte-or-zero-start c = search needs
-
-part-byte-or-zero-end : tie.Need-part-byte-or-zero-end
-part-byte-or-zero-end c = search needs
+entry-body-requires : tie.Need-entry-body-requires
+entry-body-requires c κs = search needs
 
 byte-or-zero-requires : tie.Need-byte-or-zero-requires
 byte-or-zero-requires c κs = search needs
@@ -49,24 +36,22 @@ add-put-records c = search needs
 
 put-records-requires : tie.Need-put-records-requires
 put-records-requires c κs = let thin : Narrow (c .before .widths-of .result) = rw (c .before .widths-of .ensures) (narrow (c .before .before .before .before .before .before .byte-or-zero .result)) in
-    (thin, (c .before .before .before .before .before .before .before .before .before .before .before .before .before .pre, omega (arith, c .before .before .before .before .store-be .ensures .0, records-room (c .before .widths-of .result) thin (c .before .before .before .before .before .before .before .before .before .before .before .before .before .args .f .now) (c .before .before .before .before .before .before .before .before .before .before .next-at .result) (c .before .before .before .before .before .before .before .before .before .before .before .before .before .pre))))
+    (thin, (c .before .before .before .before .before .before .before .before .before .before .before .pre, omega (arith, c .before .before .before .before .store-be .ensures .0, records-room (c .before .widths-of .result) thin (c .before .before .before .before .before .before .before .before .before .before .before .args .f .now) (c .before .before .before .before .before .before .before .before .next-at .result) (c .before .before .before .before .before .before .before .before .before .before .before .pre))))
 
 store-be-requires-2 : tie.Need-store-be-requires-2
 store-be-requires-2 c κs = search needs
 
 store-be-requires-3 : tie.Need-store-be-requires-3
 store-be-requires-3 c κs = let thin : Narrow (c .before .before .before .before .before .before .before .before .before .widths-of .result) = rw (c .before .before .before .before .before .before .before .before .before .widths-of .ensures) (narrow (c .before .before .before .before .before .before .before .before .before .before .before .before .before .before .byte-or-zero .result)) in
-    omega (arith, c .before .before .before .before .before .before .before .before .before .before .before .before .store-be .ensures .0, c .before .before .before .before .before .before .before .put-records .ensures .stored .place, records-room (c .before .before .before .before .before .before .before .before .before .widths-of .result) thin (c .before .before .before .before .before .before .before .before .before .before .before .before .before .before .before .before .before .before .before .before .before .args .f .now) (c .before .before .before .before .before .before .before .before .before .before .before .before .before .before .before .before .before .before .next-at .result) (c .before .before .before .before .before .before .before .before .before .before .before .before .before .before .before .before .before .before .before .before .before .pre))
+    omega (arith, c .before .before .before .before .before .before .before .before .before .before .before .before .store-be .ensures .0, c .before .before .before .before .before .before .before .put-records .ensures .stored .place, records-room (c .before .before .before .before .before .before .before .before .before .widths-of .result) thin (c .before .before .before .before .before .before .before .before .before .before .before .before .before .before .before .before .before .before .before .args .f .now) (c .before .before .before .before .before .before .before .before .before .before .before .before .before .before .before .before .next-at .result) (c .before .before .before .before .before .before .before .before .before .before .before .before .before .before .before .before .before .before .before .pre))
 
 same-length : tie.Need-same-length
 same-length c = search needs
 
 returns : tie.Need-returns
-returns c = let f = c .before .before .before .before .before .before .before .before .before .before .before .before .before .before .before .before .before .before .before .before .before .before .before .before .args .f .now in
-    let body = body-part f 0 (c .before .before .before .before .before .before .before .before .before .before .before .before .before .before .before .before .before .before .before .before .clipped .result) (c .before .before .before .before .before .before .before .before .before .before .before .before .before .before .before .before .before .before .before .clipped2 .result) (c .before .before .before .before .before .before .before .before .before .before .before .before .before .before .before .before .before .before .before .before .clipped .ensures) (c .before .before .before .before .before .before .before .before .before .before .before .before .before .before .before .before .before .before .before .clipped2 .ensures ∙ ap (λ (n : ℕ). min n (length f)) (c .before .before .before .before .before .before .before .before .before .before .before .before .before .before .before .before .before .before .before .before .before .next-at .ensures)) in
-    let codec = c .before .before .before .before .before .before .before .before .before .before .before .before .before .before .before .before .before .byte-or-zero .ensures ∙ ap (λ (b : List ℕ). getD b 0 0) body in
+returns c = let codec = c .before .before .before .before .before .before .before .before .before .before .before .before .before .before .before .before .before .byte-or-zero .ensures ∙ ap (λ (b : List ℕ). getD b 0 0) (c .before .before .before .before .before .before .before .before .before .before .before .before .before .before .before .before .before .before .entry-body .ensures) in
     let counted = goes-before (c .before .before .before .before .before .before .store-be2 .ensures .1) (c .before .before .before .before .before .before .store-be2 .ensures .0) (c .before .before .before .before .before .before .before .before .before .before .put-records .ensures) in
-    let done = stored-as (data-at f (c .before .before .before .before .before .before .before .before .before .before .before .before .before .before .before .before .before .byte-or-zero .result) (c .before .before .before .before .before .before .before .before .before .before .before .before .before .before .before .before .before .before .before .before .before .next-at .result) (c .before .before .before .before .before .before .before .before .before .before .put-records .result .count) (c .before .before .before .before .before .before .before .before .before .before .before .before .widths-of .result) codec (c .before .before .before .before .before .before .before .before .before .before .before .before .before .before .before .before .before .before .before .before .before .next-at .ensures) (c .before .before .before .before .before .before .before .before .before .before .before .before .widths-of .ensures) (c .before .before .before .before .before .before .before .before .before .before .put-records .ensures .told))
+    let done = stored-as (data-at (c .before .before .before .before .before .before .before .before .before .before .before .before .before .before .before .before .before .before .before .before .before .before .args .f .now) (c .before .before .before .before .before .before .before .before .before .before .before .before .before .before .before .before .before .byte-or-zero .result) (c .before .before .before .before .before .before .before .before .before .before .before .before .before .before .before .before .before .before .before .next-at .result) (c .before .before .before .before .before .before .before .before .before .before .put-records .result .count) (c .before .before .before .before .before .before .before .before .before .before .before .before .widths-of .result) codec (c .before .before .before .before .before .before .before .before .before .before .before .before .before .before .before .before .before .before .before .next-at .ensures) (c .before .before .before .before .before .before .before .before .before .before .before .before .widths-of .ensures) (c .before .before .before .before .before .before .before .before .before .before .put-records .ensures .told))
     (stored-then (c .before .before .before .before .before .before .before .before .before .before .before .before .before .before .before .store-be .ensures .1) (stored-then (counted .stored) (c .before .before .store-be3 .ensures .1))) in
     (omega (arith, done .place), done .buffer)
 
@@ -75,11 +60,7 @@ decode-form-spec =
     tie.close
     (tie.spec
     next-at-requires
-    clipped-requires
-    clipped-requires-2
-    sub-byte-or-zero
-    part-byte-or-zero-start
-    part-byte-or-zero-end
+    entry-body-requires
     byte-or-zero-requires
     cast-store-be
     store-be-requires

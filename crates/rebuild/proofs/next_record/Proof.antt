@@ -1,5 +1,5 @@
 use Rattle.rebuild.proofs.OffsetLaws.{records-other}
-use Rattle.rebuild.specs.FormPlaces.{entriesAt}
+use Rattle.store.specs.Entries.{entriesAt}
 use Rattle.tlv.specs.Decoding.{recordsOf}
 use lib.ListN.{length}
 use mathlib.Core.List.{List}

@@ -1,5 +1,5 @@
 use borrow.Author.Needs.{needs}
-use Rattle.rebuild.proofs.StoredLaws.{stored-then, stored-length, stored-as}
+use Rattle.store.proofs.StoredLaws.{stored-then, stored-length, stored-as}
 use Rattle.rebuild.proofs.LayoutLaws.{element-plain, element-variable}
 use Rattle.rebuild.proofs.put_element.Statement.{statement}
 use Rattle.rebuild.proofs.put_element.Tie as tie

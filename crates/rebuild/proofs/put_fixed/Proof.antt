@@ -2,7 +2,7 @@ use native.Mathlib.Omega.{arith}
 use borrow.Author.Needs.{needs}
 use Rattle.avl.specs.Records.{fixedBytes}
 use Rattle.tlv.specs.Decoding.{fixedOf}
-use Rattle.rebuild.proofs.StoredLaws.{stored-then, stored-length}
+use Rattle.store.proofs.StoredLaws.{stored-then, stored-length}
 use Rattle.rebuild.proofs.put_fixed.Statement.{statement}
 use Rattle.rebuild.proofs.put_fixed.Tie as tie
 

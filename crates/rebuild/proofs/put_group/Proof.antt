@@ -1,6 +1,6 @@
 use Rattle.rebuild.proofs.RunLaws.{goes-before}
-use Rattle.rebuild.proofs.StoredLaws.{stored-as}
-use Rattle.rebuild.specs.FormPlaces.{entriesAt}
+use Rattle.store.proofs.StoredLaws.{stored-as}
+use Rattle.store.specs.Entries.{entriesAt}
 use Rattle.tlv.specs.Decoding.{run}
 use Rattle.avl.specs.Records.{elementBytes, groupBytes}
 use Rattle.wire.proofs.Widths.{length-digits}

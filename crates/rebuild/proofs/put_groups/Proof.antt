@@ -1,5 +1,5 @@
 use Rattle.rebuild.proofs.RunLaws.{Grouping, grouping-start, grouping-room, grouping-fits, grouping-on, grouping-done}
-use Rattle.rebuild.proofs.StoredLaws.{left-length}
+use Rattle.store.proofs.StoredLaws.{left-length}
 use Rattle.rebuild.proofs.Bounds.{few}
 use Rattle.walk.proofs.KindLaws.{kinds-few, kind-known}
 use Rattle.avl.specs.Codecs.{kinds}

@@ -1,5 +1,5 @@
 use Rattle.rebuild.proofs.RunLaws.{Recording, recording-start, recording-room, recording-on, recording-done}
-use Rattle.rebuild.proofs.StoredLaws.{left-length}
+use Rattle.store.proofs.StoredLaws.{left-length}
 use lib.ListN.{length}
 use native.Mathlib.Omega.{arith}
 use Prim.Native.Nat.{_^_, _-_}

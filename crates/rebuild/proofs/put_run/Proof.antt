@@ -1,5 +1,5 @@
 use Rattle.rebuild.proofs.RunLaws.{Running, running-start, running-on, running-done}
-use Rattle.rebuild.proofs.StoredLaws.{left-length}
+use Rattle.store.proofs.StoredLaws.{left-length}
 use Rattle.rebuild.proofs.OffsetLaws.{run-stop, run-end}
 use lib.ListN.{length}
 use mathlib.Core.Path.{sym, _∙_}

@@ -1,5 +1,5 @@
 use borrow.Author.Needs.{needs}
-use Rattle.rebuild.proofs.StoredLaws.{stored-length}
+use Rattle.store.proofs.StoredLaws.{stored-length}
 use Rattle.rebuild.proofs.turned.Statement.{statement}
 use Rattle.rebuild.proofs.turned.Tie as tie
 

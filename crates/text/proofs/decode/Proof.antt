@@ -29,14 +29,14 @@ mark-of-requires c κs = search needs
 enum-known-d : tie.Need-enum-known-d Inv-loop μ-loop
 enum-known-d c = search needs
 
-mul-store : tie.Need-mul-store Inv-loop μ-loop
-mul-store c = search needs
+mul-store-byte : tie.Need-mul-store-byte Inv-loop μ-loop
+mul-store-byte c = search needs
 
-add-store : tie.Need-add-store Inv-loop μ-loop
-add-store c = omega (arith, digit-small _ (sym (c .before .before .before .before .before .mark-of .ensures) ∙ c .before .before .before .d .given .1))
+add-store-byte : tie.Need-add-store-byte Inv-loop μ-loop
+add-store-byte c = omega (arith, digit-small _ (sym (c .before .before .before .before .before .mark-of .ensures) ∙ c .before .before .before .d .given .1))
 
-store-requires : tie.Need-store-requires Inv-loop μ-loop
-store-requires c κs = search needs
+store-byte-requires : tie.Need-store-byte-requires Inv-loop μ-loop
+store-byte-requires c κs = search needs
 
 add-to : tie.Need-add-to Inv-loop μ-loop
 add-to c = search needs
@@ -45,7 +45,7 @@ loop-less : tie.Need-loop-less Inv-loop μ-loop
 loop-less c = search needs
 
 loop-again : tie.Need-loop-again Inv-loop μ-loop
-loop-again c = rw (c .before .before .store .ensures) (decode-pair (c .before .before .before .before .before .before .before .before .before .before .before .loop .inv) (c .before .before .before .before .before .before .before .before .before .before .loop-test .taken) (c .before .before .before .before .if1 .taken) (sym (c .before .before .before .before .before .before .before .before .mark-of .ensures) ∙ c .before .before .before .before .before .before .d .given .1))
+loop-again c = rw (c .before .before .store-byte .ensures) (decode-pair (c .before .before .before .before .before .before .before .before .before .before .before .loop .inv) (c .before .before .before .before .before .before .before .before .before .before .loop-test .taken) (c .before .before .before .before .if1 .taken) (sym (c .before .before .before .before .before .before .before .before .mark-of .ensures) ∙ c .before .before .before .before .before .before .d .given .1))
 
 loop-less-2 : tie.Need-loop-less-2 Inv-loop μ-loop
 loop-less-2 c = search needs
@@ -88,9 +88,9 @@ decode-spec =
     add-i
     mark-of-requires
     enum-known-d
-    mul-store
-    add-store
-    store-requires
+    mul-store-byte
+    add-store-byte
+    store-byte-requires
     add-to
     loop-less
     loop-again

@@ -20,26 +20,26 @@ loop-holds c = encode-first _ _
 shared-slice-read-b : tie.Need-shared-slice-read-b Inv-loop μ-loop
 shared-slice-read-b c = search needs
 
-mul-store : tie.Need-mul-store Inv-loop μ-loop
-mul-store c = search needs
+mul-store-byte : tie.Need-mul-store-byte Inv-loop μ-loop
+mul-store-byte c = search needs
 
 glyph-of-requires : tie.Need-glyph-of-requires Inv-loop μ-loop
 glyph-of-requires c κs = omega (arith, c .before .shared-slice-known2 .given (c .before .before .before .loop .i))
 
-store-requires : tie.Need-store-requires Inv-loop μ-loop
-store-requires c κs = search needs
+store-byte-requires : tie.Need-store-byte-requires Inv-loop μ-loop
+store-byte-requires c κs = search needs
 
-mul-store-2 : tie.Need-mul-store-2 Inv-loop μ-loop
-mul-store-2 c = search needs
+mul-store-byte-2 : tie.Need-mul-store-byte-2 Inv-loop μ-loop
+mul-store-byte-2 c = search needs
 
-add-store : tie.Need-add-store Inv-loop μ-loop
-add-store c = search needs
+add-store-byte : tie.Need-add-store-byte Inv-loop μ-loop
+add-store-byte c = search needs
 
 glyph-of-requires-2 : tie.Need-glyph-of-requires-2 Inv-loop μ-loop
 glyph-of-requires-2 c κs = search needs
 
-store-requires-2 : tie.Need-store-requires-2 Inv-loop μ-loop
-store-requires-2 c κs = search needs
+store-byte-requires-2 : tie.Need-store-byte-requires-2 Inv-loop μ-loop
+store-byte-requires-2 c κs = search needs
 
 add-i : tie.Need-add-i Inv-loop μ-loop
 add-i c = search needs
@@ -48,7 +48,7 @@ loop-less : tie.Need-loop-less Inv-loop μ-loop
 loop-less c = search needs
 
 loop-again : tie.Need-loop-again Inv-loop μ-loop
-loop-again c = rw (c .before .before .store2 .ensures, c .before .before .before .before .before .before .before .store .ensures, c .before .before .before .glyph-of2 .ensures, c .before .before .before .before .before .before .before .before .glyph-of .ensures) (encode-turn (c .before .before .before .before .before .before .before .before .before .before .before .before .loop .inv) (c .before .before .before .before .before .before .before .before .before .before .before .loop-test .taken))
+loop-again c = rw (c .before .before .store-byte2 .ensures, c .before .before .before .before .before .before .before .store-byte .ensures, c .before .before .before .glyph-of2 .ensures, c .before .before .before .before .before .before .before .before .glyph-of .ensures) (encode-turn (c .before .before .before .before .before .before .before .before .before .before .before .before .loop .inv) (c .before .before .before .before .before .before .before .before .before .before .before .loop-test .taken))
 
 mul-result : tie.Need-mul-result Inv-loop μ-loop
 mul-result c = search needs
@@ -67,13 +67,13 @@ encode-spec =
     μ-loop
     loop-holds
     shared-slice-read-b
-    mul-store
+    mul-store-byte
     glyph-of-requires
-    store-requires
-    mul-store-2
-    add-store
+    store-byte-requires
+    mul-store-byte-2
+    add-store-byte
     glyph-of-requires-2
-    store-requires-2
+    store-byte-requires-2
     add-i
     loop-less
     loop-again

@@ -9,7 +9,7 @@ use lib.Seq.{take-at, drop-at, drop-drop}
 use Rattle.wire.specs.Numbers.{littleAt, le}
 use Rattle.wire.specs.Sequences.{fields, joined, All}
 use Rattle.wire.proofs.Widths.{little-le}
-use Rattle.tlv.specs.Entries.{Entry, entryBytes, entriesFrom, entriesOf}
+use Rattle.store.specs.Entries.{Entry, entryBytes, entriesFrom, entriesOf}
 
 -- an entry's kind and length fit their two bytes
 pub record EntryFits (e : Entry) : Type 0 where

@@ -1,8 +1,8 @@
-use Rattle.rebuild.proofs.StoredLaws.{stored-be}
+use Rattle.store.proofs.StoredLaws.{stored-be}
 use mathlib.Core.Path.{refl}
 use borrow.Author.Needs.{needs}
-use Rattle.rebuild.proofs.store_be.Statement.{statement}
-use Rattle.rebuild.proofs.store_be.Tie as tie
+use Rattle.store.proofs.store_be.Statement.{statement}
+use Rattle.store.proofs.store_be.Tie as tie
 
 add-end : tie.Need-add-end
 add-end c = search needs

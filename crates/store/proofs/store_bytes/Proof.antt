@@ -1,15 +1,16 @@
 use Prim.Native.Nat.{ℕ, _-_}
 use native.Mathlib.Omega.{arith}
-use mathlib.Core.Path.{ap, _∙_, _≡_}
+use mathlib.Core.Path.{_≡_, ap, _∙_}
 use lib.Seq.{sets}
 use lib.ListN.{length, take}
-use Rattle.form.proofs.Stores.{sets-cut}
+use Rattle.store.proofs.StoredLaws.{stored-of}
+use Rattle.store.proofs.CutLaws.{sets-cut}
 use borrow.Author.Needs.{needs}
-use Rattle.form.proofs.store_bytes.Statement.{statement}
-use Rattle.form.proofs.store_bytes.Tie as tie
+use Rattle.store.proofs.store_bytes.Statement.{statement}
+use Rattle.store.proofs.store_bytes.Tie as tie
 
-add-if1 : tie.Need-add-if1
-add-if1 c = search needs
+add-end : tie.Need-add-end
+add-end c = search needs
 
 put-bytes-requires : tie.Need-put-bytes-requires
 put-bytes-requires c κs = search needs
@@ -41,18 +42,18 @@ same-length-2 c = search needs
 returns-2 : tie.Need-returns-2
 returns-2 c = let args = c .before .before .before .before .before .before .before .before .before .args in
     let out = args .out .now in
-    let room = length out - args .at in
+    let room = length out - args .to in
     let same : room - 0 ≡ room = omega arith in
-    c .before .before .put-bytes2 .ensures ∙ ap (λ (n : ℕ). sets out (args .at) (take n (args .src .now))) same ∙ sets-cut out (args .at) room (args .src .now) (omega arith)
+    stored-of (args .src .now) (c .before .before .put-bytes2 .ensures ∙ ap (λ (n : ℕ). sets out (args .to) (take n (args .src .now))) same ∙ sets-cut out (args .to) room (args .src .now) (omega arith))
 
 returns-3 : tie.Need-returns-3
-returns-3 c = let args = c .before .before .before .before .args in sets-cut (args .out .now) (args .at) 0 (args .src .now) (omega arith)
+returns-3 c = let args = c .before .before .before .before .args in stored-of (args .src .now) (sets-cut (args .out .now) (args .to) 0 (args .src .now) (omega arith))
 
 pub store-bytes-spec : {M : Type 1} → statement M
 store-bytes-spec =
     tie.close
     (tie.spec
-    add-if1
+    add-end
     put-bytes-requires
     same-length
     returns

@@ -1,8 +1,8 @@
 use mathlib.Core.Path.{sym}
 use lib.ListN.{List·getD-eq-default}
 use borrow.Author.Needs.{needs}
-use Rattle.rebuild.proofs.byte_or_zero.Statement.{statement}
-use Rattle.rebuild.proofs.byte_or_zero.Tie as tie
+use Rattle.store.proofs.byte_or_zero.Statement.{statement}
+use Rattle.store.proofs.byte_or_zero.Tie as tie
 
 shared-slice-read-result : tie.Need-shared-slice-read-result
 shared-slice-read-result c = search needs

@@ -1,4 +1,4 @@
-use Rattle.rebuild.proofs.OffsetLaws.{little-more, little-room}
+use Rattle.store.proofs.LittleLaws.{little-more, little-room}
 use Rattle.wire.specs.Numbers.{littleAt}
 use Rattle.wire.proofs.Widths.{getD-bytes}
 use lib.ListN.{getD}
@@ -7,8 +7,8 @@ use mathlib.Core.Path.{ap, ap₂, _≡_, _∙_}
 use native.Mathlib.Omega.{arith}
 use native.Mathlib.Nat.{add-zero, sub-zero}
 use Prim.Native.Nat.{ℕ, _*_, _+_, _-_, _≤_}
-use Rattle.rebuild.proofs.whole_little.Statement.{statement}
-use Rattle.rebuild.proofs.whole_little.Tie as tie
+use Rattle.store.proofs.whole_little.Statement.{statement}
+use Rattle.store.proofs.whole_little.Tie as tie
 
 abbrev Inv-loop : tie.InvT-loop
 Inv-loop f at w n₀ i₀ n i = (i ≤ w) × (n ≡ littleAt f (at + i) (w - i))

@@ -22,3 +22,21 @@ entriesFrom (suc n) (b ∷ s) =
 
 unfoldable pub entriesOf : List ℕ → List Entry
 entriesOf s = entriesFrom (length s) s
+
+-- ---- the entry at an offset; bytes past the end are 0
+
+abbrev pub kindAt : List ℕ → ℕ → ℕ
+kindAt f at = littleAt f (at + 2) 2
+
+abbrev pub bodyAt : List ℕ → ℕ → List ℕ
+bodyAt f at = take (littleAt f at 2) (drop (at + 4) f)
+
+abbrev pub nextAt : List ℕ → ℕ → ℕ
+nextAt f at = at + 4 + littleAt f at 2
+
+abbrev pub entryAt : List ℕ → ℕ → Entry
+entryAt f at = record { kind = kindAt f at; body = bodyAt f at }
+
+-- the entries from an offset on
+unfoldable pub entriesAt : List ℕ → ℕ → List Entry
+entriesAt f at = entriesOf (drop at f)

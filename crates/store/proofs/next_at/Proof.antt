@@ -1,9 +1,9 @@
 use native.Mathlib.Omega.{arith}
 use borrow.Author.Needs.{needs}
 use Rattle.wire.proofs.Widths.{getD-bytes}
-use Rattle.rebuild.proofs.OffsetLaws.{little-lt}
-use Rattle.rebuild.proofs.next_at.Statement.{statement}
-use Rattle.rebuild.proofs.next_at.Tie as tie
+use Rattle.store.proofs.LittleLaws.{little-lt}
+use Rattle.store.proofs.next_at.Statement.{statement}
+use Rattle.store.proofs.next_at.Tie as tie
 
 add-result : tie.Need-add-result
 add-result c = search needs

@@ -7,8 +7,8 @@ use lib.Seq.{sets}
 use borrow.Author.Needs.{needs}
 use Rattle.wire.specs.Numbers.{be, digits}
 use Rattle.wire.proofs.Storing.{be-left}
-use Rattle.rebuild.proofs.cut_be.Statement.{statement}
-use Rattle.rebuild.proofs.cut_be.Tie as tie
+use Rattle.store.proofs.cut_be.Statement.{statement}
+use Rattle.store.proofs.cut_be.Tie as tie
 
 abbrev Inv-loop : tie.InvT-loop
 Inv-loop out₀ to w n rest₀ left₀ out rest left = (left ≤ w) × (length out ≡ length out₀) × (sets out to (be left rest) ≡ sets out₀ to (be w n))
@@ -22,20 +22,20 @@ loop-holds c = search needs
 sub-left : tie.Need-sub-left Inv-loop μ-loop
 sub-left c = search needs
 
-add-put : tie.Need-add-put Inv-loop μ-loop
-add-put c = search needs
+add-store-byte : tie.Need-add-store-byte Inv-loop μ-loop
+add-store-byte c = search needs
 
-cast-put : tie.Need-cast-put Inv-loop μ-loop
-cast-put c = search needs
+cast-store-byte : tie.Need-cast-store-byte Inv-loop μ-loop
+cast-store-byte c = search needs
 
-put-requires : tie.Need-put-requires Inv-loop μ-loop
-put-requires c κs = search needs
+store-byte-requires : tie.Need-store-byte-requires Inv-loop μ-loop
+store-byte-requires c κs = search needs
 
 loop-less : tie.Need-loop-less Inv-loop μ-loop
 loop-less c = search needs
 
 loop-again : tie.Need-loop-again Inv-loop μ-loop
-loop-again c = (omega arith, ap length (c .before .before .put .ensures) ∙ simp length-set (c .before .before .before .before .before .loop .inv .1), ap (λ (l : List ℕ). sets l (c .before .before .before .before .before .before .before .args .to) (be (c .before .before .before .before .before .loop .left - 1) (c .before .before .before .before .before .loop .rest / 256))) (c .before .before .put .ensures) ∙ sym (be-left _ _ _ _ (c .before .before .before .before .loop-test .taken)) ∙ c .before .before .before .before .before .loop .inv .2)
+loop-again c = (omega arith, ap length (c .before .before .store-byte .ensures) ∙ simp length-set (c .before .before .before .before .before .loop .inv .1), ap (λ (l : List ℕ). sets l (c .before .before .before .before .before .before .before .args .to) (be (c .before .before .before .before .before .loop .left - 1) (c .before .before .before .before .before .loop .rest / 256))) (c .before .before .store-byte .ensures) ∙ sym (be-left _ _ _ _ (c .before .before .before .before .loop-test .taken)) ∙ c .before .before .before .before .before .loop .inv .2)
 
 same-length : tie.Need-same-length Inv-loop μ-loop
 same-length c = c .before .loop .inv .1
@@ -52,9 +52,9 @@ cut-be-spec =
     μ-loop
     loop-holds
     sub-left
-    add-put
-    cast-put
-    put-requires
+    add-store-byte
+    cast-store-byte
+    store-byte-requires
     loop-less
     loop-again
     same-length

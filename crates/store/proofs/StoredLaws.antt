@@ -1,23 +1,38 @@
 -- Blocks stored one behind another are one block.
-use Prim.Native.Nat.{ℕ, suc, _+_, _<_}
+use Prim.Native.Nat.{ℕ, zero, suc, _+_, _/_, _<_}
 use native.Mathlib.Omega.{arith}
 use mathlib.Core.Path.{_≡_, refl, sym, ap, ap₂, _∙_, subst}
 use mathlib.Core.List.{List, [], _∷_, _++_, append-nil, append-assoc}
 use lib.ListN.{length, length-append, set}
 use lib.Seq.{sets, length-sets, set-comm}
-use Rattle.wire.specs.Numbers.{be}
+use Rattle.wire.specs.Numbers.{be, le}
 use Rattle.wire.proofs.Widths.{length-digits}
 use Rattle.wire.proofs.Storing.{sets-append, sets-snoc}
-use Rattle.rebuild.specs.FormPlaces.{Stored}
+use Rattle.store.specs.Stores.{Stored}
+
+-- one block more, stored at the place behind the first
+pub stored-on : {a b l m n : List ℕ} {to mid at end : ℕ} → Stored a l m to mid → Stored b m n at end → at ≡ to + length a → Stored (a ++ b) l n to end
+stored-on {a} {b} {l} {m} {n} {to} {mid} {at} {end} s t e = record {
+  place = omega (arith, e, t .place, length-append a b);
+  buffer = t .buffer ∙ ap₂ (λ (k : List ℕ) (j : ℕ). sets k j b) (s .buffer) e ∙ sym (sets-append l to a b);
+}
 
 pub stored-then : {a b l m n : List ℕ} {to mid end : ℕ} → Stored a l m to mid → Stored b m n mid end → Stored (a ++ b) l n to end
-stored-then {a} {b} {l} {m} {n} {to} {mid} {end} s t = record {
-  place = omega (arith, s .place, t .place, length-append a b);
-  buffer = t .buffer ∙ ap₂ (λ (k : List ℕ) (j : ℕ). sets k j b) (s .buffer) (s .place) ∙ sym (sets-append l to a b);
-}
+stored-then s t = stored-on s t (s .place)
+
+pub stored-of : {l m : List ℕ} {to : ℕ} (a : List ℕ) → m ≡ sets l to a → Stored a l m to (to + length a)
+stored-of a e = record { place = refl; buffer = e }
+
+length-le : (w n : ℕ) → length (le w n) ≡ w
+unfolding le
+length-le zero n = refl
+length-le (suc w) n = ap suc (length-le w (n / 256))
 
 pub stored-be : (w n to : ℕ) {l m : List ℕ} {next : ℕ} → next ≡ to + w → m ≡ sets l to (be w n) → Stored (be w n) l m to next
 stored-be w n to e s = record { place = omega (arith, e, length-digits 256 w n); buffer = s }
+
+pub stored-le : (w n to : ℕ) {l m : List ℕ} {next : ℕ} → next ≡ to + w → m ≡ sets l to (le w n) → Stored (le w n) l m to next
+stored-le w n to e s = record { place = omega (arith, e, length-le w n); buffer = s }
 
 -- ---- a block in front of one that stands already
 

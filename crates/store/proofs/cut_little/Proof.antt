@@ -5,9 +5,9 @@ use mathlib.Core.Path.{ap₂, _≡_, _∙_}
 use borrow.Author.Needs.{needs}
 use Rattle.wire.proofs.Widths.{getD-bytes}
 use Rattle.wire.specs.Numbers.{littleAt}
-use Rattle.rebuild.proofs.OffsetLaws.{little-more, little-room}
-use Rattle.rebuild.proofs.cut_little.Statement.{statement}
-use Rattle.rebuild.proofs.cut_little.Tie as tie
+use Rattle.store.proofs.LittleLaws.{little-more, little-room}
+use Rattle.store.proofs.cut_little.Statement.{statement}
+use Rattle.store.proofs.cut_little.Tie as tie
 
 abbrev Inv-loop : tie.InvT-loop
 Inv-loop f at w n₀ i₀ n i = (i ≤ w) × (n ≡ littleAt f (at + i) (w - i))
