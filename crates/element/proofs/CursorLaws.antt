@@ -21,7 +21,7 @@ use Rattle.element.specs.Cursors.{kindOf, Remaining, Head, Stepped}
 use Rattle.element.proofs.ReadLaws.{repeat-nothing}
 use Rattle.element.proofs.SearchLaws.{parts, onward-inside, present-group, onward-on, onward-next, Run, present, run-parted, run-element, run-value, run-begins, run-behind, run-within, run-stands, run-onward, run-located}
 
--- the group with number `k`, before which all of `l` is left, is count-inside
+-- the group with number `k`, before which all of `l` is left, is entered
 pub enter : {w : Widths} {s : List ℕ} {at : ℕ} {l : List Located} (k : ℕ) → Onward w (drop k (kinds w)) s at (λ l. l) l → k < length (kinds w) → Bytes s
     → {left : ℕ} → left ≡ numberAt s at (w .count) → Remaining w s (record { group = k; left = left; next = at + w .count }) l
 enter {w} {s} {at} k h few b e =
