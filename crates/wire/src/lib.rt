@@ -138,7 +138,28 @@ fn unread(number: usize, place: usize) -> Decimal
     })
 }
 
-// The value of `n` ASCII digits, which are there, `skip` bytes behind `at`. A byte less 48 is a digit where that is below 10: one test for both ends.
+// The same, and where the first byte that is no digit stands.
+fn placed_number(n: usize, s: &[u8], at: usize, skip: usize) -> u64
+    requires { ⌜ (n ≤ 15) × (skip ≤ 2) × (at + skip + n ≤ length (now s)) ⌝ }
+    ensures { λ r. ⌜ imeiOf at (at + skip + n) r ≡ bind (repeat n textDigit) (λ ds. pure (valueFrom 10 0 ds)) (now (s .entry)) (at + skip) ⌝ }
+{
+    let mut value: u64 = 0;
+    let mut next = at + skip;
+    let mut left = n;
+    while 0 < left {
+        let c = s[next];
+        let digit = ((c as u64) + 208) % 256;
+        if 9 < digit {
+            return NO_IMEI + ((next - at) as u64);
+        }
+        value = value * 10 + digit;
+        next += 1;
+        left -= 1;
+    }
+    value
+}
+
+// The value of `n` ASCII digits, which are there, `skip` bytes behind `at`. A byte less 48 is a digit where that is below 10: one test for both ends. The place of one that is none is looked for anew: kept along, it costs a jump for each digit.
 pub fn text_number(n: usize, s: &[u8], at: usize, skip: usize) -> u64
     requires { ⌜ (n ≤ 15) × (skip ≤ 2) × (at + skip + n ≤ length (now s)) ⌝ }
     ensures { λ r. ⌜ imeiOf at (at + skip + n) r ≡ bind (repeat n textDigit) (λ ds. pure (valueFrom 10 0 ds)) (now (s .entry)) (at + skip) ⌝ }
@@ -150,7 +171,7 @@ pub fn text_number(n: usize, s: &[u8], at: usize, skip: usize) -> u64
         let c = s[next];
         let d = ((c as u64) + 208) % 256;
         if 9 < d {
-            return NO_IMEI + ((next - at) as u64);
+            return placed_number(n, s, at, skip);
         }
         value = value * 10 + d;
         next += 1;
