@@ -1,7 +1,7 @@
 -- What the contract of each call says, as a row: the inputs, and the answer that the code gives to them.
 use Prim.Native.Nat.{ℕ}
 use Prim.Native.String.{String}
-use mathlib.Core.Bool.{Bool}
+use mathlib.Core.Bool.{Bool, true, false}
 use mathlib.Core.List.{List}
 use Rattle.wire.specs.declared.Written.{Written}
 use Rattle.wire.specs.Limits.{baseLimits}
@@ -15,14 +15,14 @@ use Rattle.login.specs.declared.LoginAnswer.{LoginAnswer}
 use Rattle.login.specs.Login.{readLogin, loginAs, loginAnswer}
 use Rattle.command.specs.declared.CommandAnswer.{CommandAnswer}
 use Rattle.command.specs.declared.CommandFields.{CommandFields}
-use Rattle.command.specs.Commands.{readCommand, answerCommand, textView, commandAs}
+use Rattle.command.specs.Commands.{readCommand, answerCommand, textView, textOffset, commandAs}
 use Rattle.command.specs.Writing.{commandBytes}
 use Rattle.tlv.specs.PacketOf.{formOfPacket, formOfDatagram, packetOfForm}
 use Rattle.element.specs.declared.Value.{Value}
 use Rattle.lookup.specs.declared.RecordAnswer.{RecordAnswer}
 use Rattle.lookup.specs.declared.ValueAnswer.{ValueAnswer}
 use Rattle.lookup.specs.declared.KnownAnswer.{KnownAnswer}
-use Rattle.lookup.specs.Lookups.{Found, LastKnown, tcpSource, udpSource, recordByNumber, valueByNumber, valueById, lastKnown, view}
+use Rattle.lookup.specs.Lookups.{Found, LastKnown, tcpSource, udpSource, recordByNumber, valueByNumber, valueById, lastKnown, view, viewOffset, knownPlace}
 use Rattle.lookup.specs.Answers.{recordAs, answerValue, valueAs, KnownResult, answerKnown, knownAs, knownView}
 use Rattle.claims.specs.Rows.{Row, row}
 
@@ -37,11 +37,19 @@ read-datagram label p r = row label (answerDatagram baseLimits p) (datagramAs r)
 abbrev pub read-login : String → List ℕ → LoginAnswer → Row
 read-login label p r = row label (readLogin p) (loginAs r)
 
--- with command_text
-abbrev pub read-command : String → List ℕ → CommandAnswer → List ℕ → Row
-read-command label p r text = row {A = Answer CommandFields × List ℕ} label (answerCommand baseLimits p, textView (readCommand baseLimits p)) (commandAs r, text)
+-- a text begins where the answer says, an empty one of a refusal with the input
+abbrev pub textAt : CommandAnswer → ℕ
+textAt (CommandAnswer.Accepted f) = f .offset
+textAt (CommandAnswer.Refused r) = 0
 
--- ---- look-ups, each value with its view
+-- with command_text, and where it begins
+abbrev pub read-command : String → List ℕ → CommandAnswer → List ℕ → Row
+read-command label p r text =
+    row {A = Answer CommandFields × List ℕ × ℕ} label
+    (answerCommand baseLimits p, textView (readCommand baseLimits p), textOffset (answerCommand baseLimits p))
+    (commandAs r, text, textAt r)
+
+-- ---- look-ups, each value with its view and where that begins
 
 abbrev pub record-in-packet : String → List ℕ → ℕ → RecordAnswer → Row
 record-in-packet label p n r = row label (recordByNumber (tcpSource baseLimits p) n) (recordAs r)
@@ -49,8 +57,12 @@ record-in-packet label p n r = row label (recordByNumber (tcpSource baseLimits p
 abbrev pub record-in-datagram : String → List ℕ → ℕ → RecordAnswer → Row
 record-in-datagram label p n r = row label (recordByNumber (udpSource baseLimits p) n) (recordAs r)
 
+abbrev pub valueAt : ValueAnswer → ℕ
+valueAt (ValueAnswer.Found v) = v .offset
+valueAt (ValueAnswer.Refused r) = 0
+
 abbrev pub looked-up : String → Answer Found → ValueAnswer → List ℕ → Row
-looked-up label found r bytes = row {A = Answer Value × List ℕ} label (answerValue found, view found) (valueAs r, bytes)
+looked-up label found r bytes = row {A = Answer Value × List ℕ × ℕ} label (answerValue found, view found, viewOffset found) (valueAs r, bytes, valueAt r)
 
 abbrev pub value-in-packet : String → List ℕ → ℕ → ℕ → ValueAnswer → List ℕ → Row
 value-in-packet label p n k = looked-up label (valueByNumber (tcpSource baseLimits p) n k)
@@ -64,8 +76,14 @@ id-in-packet label p n id = looked-up label (valueById (tcpSource baseLimits p) 
 abbrev pub id-in-datagram : String → List ℕ → ℕ → ℕ → ValueAnswer → List ℕ → Row
 id-in-datagram label p n id = looked-up label (valueById (udpSource baseLimits p) n id)
 
+-- in the newer packet, which stands in block 1 here, or in the older, which stands in block 2
+abbrev pub knownAt : KnownAnswer → ℕ × ℕ
+knownAt (KnownAnswer.Found true v) = (2, v .offset)
+knownAt (KnownAnswer.Found false v) = (1, v .offset)
+knownAt (KnownAnswer.Refused r) = (1, 0)
+
 abbrev pub known : String → Answer LastKnown → KnownAnswer → List ℕ → Row
-known label k r bytes = row {A = Answer KnownResult × List ℕ} label (answerKnown k, knownView k) (knownAs r, bytes)
+known label k r bytes = row {A = Answer KnownResult × List ℕ × (ℕ × ℕ)} label (answerKnown k, knownView k, knownPlace k (1, 0) (2, 0)) (knownAs r, bytes, knownAt r)
 
 abbrev pub last-known : String → List ℕ → List ℕ → ℕ → KnownAnswer → List ℕ → Row
 last-known label newer older id = known label (lastKnown id (tcpSource baseLimits newer) (tcpSource baseLimits older))
