@@ -3,3 +3,4 @@ pub mod DataLaws
 pub mod ByteLaws
 pub mod Samples
 pub mod Inversion
+pub mod FieldLaws

@@ -20,7 +20,7 @@ use Rattle.avl.proofs.DataLaws.{data-exact}
 use Rattle.walk.proofs.KindLaws.{KindRange, kinds-range}
 use Rattle.store.specs.Entries.{entryBytes}
 use Rattle.tlv.specs.Form.{fixedEntry, elementEntry, groupEntries, groupsEntries, recordsEntries, formEntries, form}
-use Rattle.form.proofs.MoveLaws.{laid, length-laid}
+use Rattle.form.proofs.TextLaws.{laid, length-laid}
 
 pub length-fixedBytes : (w : Widths) (x : Fixed) → length (fixedBytes w x) ≡ 24 + w .event + w .generation
 unfolding fixedBytes

@@ -15,9 +15,11 @@ use Rattle.avl.specs.RecordReader.{valueSize, element, fixedFields}
 use Rattle.store.specs.Stores.{Stored}
 use Rattle.store.specs.Entries.{entryBytes}
 use Rattle.tlv.specs.Form.{fixedEntry, elementEntry}
-use Rattle.form.specs.Moves.{Ready, Copies, elementEntries, fixedEntries}
+use Rattle.traverse.specs.Texts.{elementText}
+use Rattle.traverse.specs.Copying.{Ready, Copies}
+use Rattle.traverse.proofs.CopyLaws.{moved, copies-of}
+use Rattle.form.specs.Moves.{entryText, fixedText}
 use Rattle.avl.proofs.Inversion.{fixedAt, fixed-read, ElementRead, element-read, size-read}
-use Rattle.form.proofs.MoveLaws.{moved, laid, copies-of}
 
 -- a place to store at is a small number, and so is one a little further on
 module _ {A : Type 0} {m : Reader A} {s : List ℕ} {from to : ℕ} (k : Ready m s from to) where
@@ -43,12 +45,12 @@ module _ (w : Widths) {s : List ℕ} {at to : ℕ} (k : Ready (fixedFields w) s 
   pub field-inside : (i w : ℕ) → i + w ≤ 24 → w ≤ 8 → (at + i + w ≤ length s) × (w ≤ 8) × (i ≤ 24) × (to ≤ 2 ^ 36)
   field-inside i w h l = (omega (arith, fixed-inside), l, omega arith, near k)
 
-  pub fixed-copied : {before after : List ℕ} {next : ℕ} → Stored (laid (fixedEntries (fixedAt w s at))) before after to next
-      → Copies (fixedFields w) fixedEntries s at to before after (moved (at + 24 + w .event + w .generation) (to + 31))
+  pub fixed-copied : {before after : List ℕ} {next : ℕ} → Stored (fixedText at (fixedAt w s at)) before after to next
+      → Copies (fixedFields w) fixedText s at to before after (moved (at + 24 + w .event + w .generation) (to + 31))
   unfolding entryBytes fixedEntry le
   fixed-copied {before} e =
       let f = fixed-read w s at .if-got _ _ (k .reads) in
-      copies-of (k .reads) (ap (λ (n : ℕ). moved n (to + 31)) (sym (f .end))) (e .buffer ∙ ap (λ x. sets before to (laid (fixedEntries x))) (sym (f .is)))
+      copies-of (k .reads) (ap (λ (n : ℕ). moved n (to + 31)) (sym (f .end))) (e .buffer ∙ ap (λ x. sets before to (fixedText at x)) (sym (f .is)))
 
 -- ---- an element
 
@@ -82,7 +84,7 @@ module _ (w : Widths) (kind : ℕ) {s : List ℕ} {at to : ℕ} (k : Ready (elem
     value-long = ap length value-is ∙ length-take-le size (drop start s) (simp length-drop (omega (arith, value-inside)))
 
     pub element-copied : {before after : List ℕ} {next : ℕ} → Stored (((le 2 (2 + size) ++ le 2 kind) ++ le 2 (numberAt s at (w .id))) ++ value) before after to next
-        → Copies (element w kind) (elementEntries kind) s at to before after (moved (start + size) (to + 6 + size))
+        → Copies (element w kind) (elementText entryText w kind) s at to before after (moved (start + size) (to + 6 + size))
     unfolding entryBytes elementEntry le
     element-copied {before} e =
         let x : Element = record { id = numberAt s at (w .id); value = value } in
@@ -92,7 +94,7 @@ module _ (w : Widths) (kind : ℕ) {s : List ℕ} {at to : ℕ} (k : Ready (elem
         ∙ ap (λ (v : List ℕ). record { id = numberAt s at (w .id); value = v }) (sym value-is)
         in
         let end : k .next ≡ start + size = omega (arith, parts .end, sizes .0, sizes .1) in
-        let entry : ((le 2 (2 + size) ++ le 2 kind) ++ le 2 (numberAt s at (w .id))) ++ value ≡ laid (elementEntries kind x) =
-        ap₂ (λ (n : ℕ) (v : List ℕ). le 2 n ++ (le 2 kind ++ (le 2 (numberAt s at (w .id)) ++ v))) (omega (arith, value-long)) (sym (append-nil value))
+        let entry : ((le 2 (2 + size) ++ le 2 kind) ++ le 2 (numberAt s at (w .id))) ++ value ≡ elementText entryText w kind at x =
+        ap (λ (n : ℕ). le 2 n ++ (le 2 kind ++ (le 2 (numberAt s at (w .id)) ++ value))) (omega (arith, value-long))
         in
-        copies-of (k .reads ∙ ap₂ got content end) (ap (moved (start + size)) (omega (arith, value-long, length-append value []))) (e .buffer ∙ ap (sets before to) entry)
+        copies-of (k .reads ∙ ap₂ got content end) (ap (moved (start + size)) (omega (arith, value-long))) (e .buffer ∙ ap (sets before to) entry)

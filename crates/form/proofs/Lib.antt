@@ -1,6 +1,6 @@
-pub mod MoveLaws
+pub mod TextLaws
 pub mod LeafLaws
-pub mod LoopLaws
+pub mod RecordLaws
 pub mod FormSize
 pub mod FieldLaws
 pub mod WholeLaws

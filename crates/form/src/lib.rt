@@ -1,5 +1,6 @@
 // The TLV form of packets and datagrams (the paper's house form), written into a lent buffer.
 use avl::Widths;
+use traverse::Moved;
 use walk::DataWalk;
 use wire::Refusal;
 use wire::Written;
@@ -14,16 +15,13 @@ ghost use Rattle.store.specs.Stores.{Stored};
 ghost use Rattle.avl.specs.RecordReader.{valueSize, element, group, groups, fixedFields, plainRecord};
 ghost use Rattle.avl.specs.Codecs.{widthsOf, kinds};
 ghost use Rattle.walk.specs.Walks.{Narrow};
-ghost use Rattle.tlv.specs.Form.{groupEntries, groupsEntries, recordsEntries};
+ghost use Rattle.tlv.specs.Form.{form};
 ghost use Rattle.tlv.specs.PacketOf.{formOfPacket, formOfDatagram};
 ghost use Rattle.wire.specs.Limits.{baseLimits};
-ghost use Rattle.form.specs.Moves.{Ready, Copies, elementEntries, fixedEntries, recordEntries, dataEntries, formOfField, Field, Writes};
-
-// Where reading and storing go on.
-struct Moved {
-    from: usize,
-    to: usize,
-}
+ghost use Rattle.traverse.specs.Texts.{elementText, groupText, groupsText, recordText, recordsText};
+ghost use Rattle.traverse.specs.Copying.{Ready, Copies};
+ghost use Rattle.traverse.specs.Fields.{fieldText, Field, Writes};
+ghost use Rattle.form.specs.Moves.{entryText, fixedText, headText, formOfField};
 
 // Reads a number of `w` bytes and stores it in `v`, the lowest first.
 fn store_number(s: &[u8], at: usize, w: usize, out: &mut [u8], to: usize, v: usize) -> usize
@@ -45,7 +43,7 @@ fn store_field(s: &[u8], at: usize, i: usize, w: usize, out: &mut [u8], to: usiz
 fn put_fixed(w: Widths, s: &[u8], at: usize, out: &mut [u8], to: usize) -> Moved
     requires { ⌜ Narrow w ⌝ }
     requires { ⌜ Ready (fixedFields w) (now s) at to ⌝ }
-    ensures { λ r. ⌜ Copies (fixedFields w) fixedEntries (now (s .entry)) at to (now (out .entry)) (now (out .exit)) r ⌝ }
+    ensures { λ r. ⌜ Copies (fixedFields w) fixedText (now (s .entry)) at to (now (out .entry)) (now (out .exit)) r ⌝ }
 {
     let event = w.event;
     let generation = w.generation;
@@ -112,7 +110,7 @@ fn put_element(w: Widths, kind: usize, s: &[u8], at: usize, out: &mut [u8], to: 
     requires { ⌜ Narrow w ⌝ }
     requires { ⌜ (1 ≤ kind) × (kind ≤ 9) ⌝ }
     requires { ⌜ Ready (element w kind) (now s) at to ⌝ }
-    ensures { λ r. ⌜ Copies (element w kind) (elementEntries kind) (now (s .entry)) at to (now (out .entry)) (now (out .exit)) r ⌝ }
+    ensures { λ r. ⌜ Copies (element w kind) (elementText entryText w kind) (now (s .entry)) at to (now (out .entry)) (now (out .exit)) r ⌝ }
 {
     let id = w.id;
     let value = value_at(kind, s, at + id);
@@ -133,7 +131,7 @@ fn put_group(w: Widths, kind: usize, s: &[u8], at: usize, out: &mut [u8], to: us
     requires { ⌜ Narrow w ⌝ }
     requires { ⌜ (1 ≤ kind) × (kind ≤ 9) ⌝ }
     requires { ⌜ Ready (group w kind) (now s) at to ⌝ }
-    ensures { λ r. ⌜ Copies (group w kind) (groupEntries kind) (now (s .entry)) at to (now (out .entry)) (now (out .exit)) r ⌝ }
+    ensures { λ r. ⌜ Copies (group w kind) (groupText entryText w kind) (now (s .entry)) at to (now (out .entry)) (now (out .exit)) r ⌝ }
 {
     let count = w.count;
     let mut left = wire::short_number(s, at, count);
@@ -152,7 +150,7 @@ fn put_group(w: Widths, kind: usize, s: &[u8], at: usize, out: &mut [u8], to: us
 fn put_groups(w: Widths, s: &[u8], at: usize, out: &mut [u8], to: usize) -> Moved
     requires { ⌜ Narrow w ⌝ }
     requires { ⌜ Ready (groups w (kinds w)) (now s) at to ⌝ }
-    ensures { λ r. ⌜ Copies (groups w (kinds w)) (groupsEntries (kinds w)) (now (s .entry)) at to (now (out .entry)) (now (out .exit)) r ⌝ }
+    ensures { λ r. ⌜ Copies (groups w (kinds w)) (groupsText entryText w (kinds w)) (now (s .entry)) at to (now (out .entry)) (now (out .exit)) r ⌝ }
 {
     let n = walk::kind_count(w);
     let mut from = at;
@@ -172,7 +170,7 @@ fn put_groups(w: Widths, s: &[u8], at: usize, out: &mut [u8], to: usize) -> Move
 fn put_record(w: Widths, s: &[u8], at: usize, out: &mut [u8], to: usize) -> Moved
     requires { ⌜ Narrow w ⌝ }
     requires { ⌜ Ready (plainRecord w) (now s) at to ⌝ }
-    ensures { λ r. ⌜ Copies (plainRecord w) (recordEntries (kinds w)) (now (s .entry)) at to (now (out .entry)) (now (out .exit)) r ⌝ }
+    ensures { λ r. ⌜ Copies (plainRecord w) (recordText entryText w headText) (now (s .entry)) at to (now (out .entry)) (now (out .exit)) r ⌝ }
 {
     let count = w.count;
     let fixed = put_fixed(w, s, at, out, to);
@@ -183,7 +181,7 @@ fn put_record(w: Widths, s: &[u8], at: usize, out: &mut [u8], to: usize) -> Move
 fn put_records(w: Widths, count: usize, s: &[u8], out: &mut [u8], to: usize) -> Moved
     requires { ⌜ Narrow w ⌝ }
     requires { ⌜ Ready (repeat count (plainRecord w)) (now s) 0 to ⌝ }
-    ensures { λ r. ⌜ Copies (repeat count (plainRecord w)) (recordsEntries (kinds w)) (now (s .entry)) 0 to (now (out .entry)) (now (out .exit)) r ⌝ }
+    ensures { λ r. ⌜ Copies (repeat count (plainRecord w)) (recordsText (recordText entryText w headText) w) (now (s .entry)) 0 to (now (out .entry)) (now (out .exit)) r ⌝ }
 {
     let mut from: usize = 0;
     let mut dest = to;
@@ -200,7 +198,7 @@ fn put_records(w: Widths, count: usize, s: &[u8], out: &mut [u8], to: usize) -> 
 // The form of the records in `s`: the entry of the codec, then theirs.
 fn put_form(codec: u8, count: usize, s: &[u8], out: &mut [u8]) -> Moved
     requires { ⌜ Ready (repeat count (plainRecord (widthsOf codec))) (now s) 0 5 ⌝ }
-    ensures { λ r. ⌜ Copies (repeat count (plainRecord (widthsOf codec))) (dataEntries codec) (now (s .entry)) 0 0 (now (out .entry)) (now (out .exit)) r ⌝ }
+    ensures { λ r. ⌜ Copies (repeat count (plainRecord (widthsOf codec))) (fieldText form codec) (now (s .entry)) 0 0 (now (out .entry)) (now (out .exit)) r ⌝ }
 {
     let head: [u8; 5] = [1, 0, 100, 0, codec];
     store::store_bytes(out, 0, &head);
@@ -210,7 +208,7 @@ fn put_form(codec: u8, count: usize, s: &[u8], out: &mut [u8]) -> Moved
 // The form of the data field `d`, which is at most four times as long. Where `out` is shorter than that, a run over no buffer gives the form's length first: 18 where it is longer than `out`.
 fn write_field(d: &[u8], out: &mut [u8]) -> Written
     requires { ⌜ Field (now d) ⌝ }
-    ensures { λ r. ⌜ Writes (now (d .entry)) (now (out .entry)) (now (out .exit)) r ⌝ }
+    ensures { λ r. ⌜ Writes form (now (d .entry)) (now (out .entry)) (now (out .exit)) r ⌝ }
 {
     let codec = d[0];
     let count = d[1] as usize;

@@ -1,2 +1,3 @@
 pub mod PacketLaws
 pub mod WalkLaws
+pub mod FieldLaws

@@ -36,7 +36,7 @@ use Rattle.tlv.proofs.DecodedBytes.{bytes-field, bytes-decoded}
 use Rattle.tlv.proofs.FormLaws.{form-decoded}
 use Rattle.tlv.proofs.PacketOfLaws.{form-exact, form-refusal}
 use Rattle.form.specs.Moves.{formOfField}
-use Rattle.form.proofs.WholeLaws.{Answers, refused-whole}
+use Rattle.traverse.proofs.FieldLaws.{Answers, refused-whole}
 use Rattle.form.proofs.FormSize.{form-size}
 use Rattle.rebuild.specs.Candidates.{Roomy, formWithin, hasForm}
 

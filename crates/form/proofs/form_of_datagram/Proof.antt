@@ -3,7 +3,9 @@ use Rattle.wire.proofs.Widths.{getD-bytes}
 use mathlib.Core.Path.{sym, _∙_}
 use Rattle.datagram.specs.Datagrams.{readDatagram}
 use Rattle.datagram.proofs.WalkLaws.{carried, not-carried}
-use Rattle.form.proofs.WholeLaws.{field-of, datagram-field, datagram-long, datagram-written, datagram-refused}
+use Rattle.datagram.proofs.FieldLaws.{datagram-field, datagram-long}
+use Rattle.traverse.proofs.FieldLaws.{field-of}
+use Rattle.form.proofs.WholeLaws.{datagram-written, datagram-refused}
 use borrow.Author.Needs.{needs}
 use Rattle.form.proofs.form_of_datagram.Statement.{statement}
 use Rattle.form.proofs.form_of_datagram.Tie as tie

@@ -1,4 +1,5 @@
-use Rattle.form.proofs.WholeLaws.{field-of, field-taken, field-written, field-refused}
+use Rattle.traverse.proofs.FieldLaws.{field-of}
+use Rattle.form.proofs.WholeLaws.{field-taken, field-written, field-refused}
 use Rattle.walk.proofs.TakenLaws.{taken, not-taken}
 use Rattle.avl.specs.DataField.{readData}
 use mathlib.Core.Path.{sym, _∙_}

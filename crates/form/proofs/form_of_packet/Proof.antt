@@ -4,7 +4,9 @@ use Rattle.wire.specs.Limits.{baseLimits}
 use Rattle.wire.proofs.Widths.{getD-bytes}
 use Rattle.packet.specs.DataPackets.{readPacket}
 use Rattle.walk.proofs.TakenLaws.{taken, not-taken}
-use Rattle.form.proofs.WholeLaws.{field-of, packet-field, packet-long, packet-written, packet-refused}
+use Rattle.packet.proofs.FieldLaws.{packet-field, packet-long}
+use Rattle.traverse.proofs.FieldLaws.{field-of}
+use Rattle.form.proofs.WholeLaws.{packet-written, packet-refused}
 use borrow.Author.Needs.{needs}
 use Rattle.form.proofs.form_of_packet.Statement.{statement}
 use Rattle.form.proofs.form_of_packet.Tie as tie

@@ -2,8 +2,7 @@ use Rattle.store.specs.Stores.{Stored}
 use Rattle.store.proofs.StoredLaws.{stored-on, stored-length}
 use Rattle.form.proofs.LeafLaws.{near, near-on, near-fits, fixed-inside, fixed-fits, field-inside, fixed-copied}
 use Rattle.avl.proofs.Inversion.{fixedAt}
-use Rattle.form.specs.Moves.{fixedEntries}
-use Rattle.form.proofs.MoveLaws.{laid}
+use Rattle.form.specs.Moves.{fixedText}
 use Rattle.store.specs.Entries.{entryBytes}
 use Rattle.tlv.specs.Form.{fixedEntry}
 use Rattle.wire.specs.Numbers.{le}
@@ -17,7 +16,7 @@ use Rattle.form.proofs.put_fixed.Tie as tie
 -- the whole entry stands in the buffer
 written : (c : tie.After-slice-known12)
     → let start = c .before .before .before .before .before .before .before .before .before .before .before .before .before .before .before .before .before .before .before .before .before .before .before .before .before .before .before .before .before .before .before .before .before .before .before .before .before .before .before .before .before .before .before .before .before .before in
-    Stored (laid (fixedEntries (fixedAt (start .args .w) (start .args .s .now) (start .args .at)))) (start .args .out .now) (c .before .before .store-number2 .last .1 .1 .1 .0) (start .args .to) (c .before .before .store-number2 .result)
+    Stored (fixedText (start .args .at) (fixedAt (start .args .w) (start .args .s .now) (start .args .at))) (start .args .out .now) (c .before .before .store-number2 .last .1 .1 .1 .0) (start .args .to) (c .before .before .store-number2 .result)
 unfolding le entryBytes fixedEntry
 written c =
     let o₁ = stored-on (c .before .before .before .before .before .before .before .before .before .before .before .before .before .before .before .before .before .before .before .before .before .before .before .before .before .before .before .before .before .before .before .before .before .before .before .before .before .before .before .before .before .before .store-head .ensures .1) (c .before .before .before .before .before .before .before .before .before .before .before .before .before .before .before .before .before .before .before .before .before .before .before .before .before .before .before .before .before .before .before .before .before .before .before .before .before .before .store-field .ensures) (omega arith) in

@@ -4,7 +4,7 @@ use Rattle.wire.specs.Reading.{repeat}
 use Rattle.avl.specs.declared.Widths.{Widths}
 use Rattle.walk.proofs.WalkLaws.{narrow}
 use Rattle.walk.specs.Walks.{Narrow}
-use Rattle.form.specs.Moves.{Ready}
+use Rattle.traverse.specs.Copying.{Ready}
 use Rattle.form.proofs.FieldLaws.{form-copied}
 use borrow.Author.Needs.{needs}
 use Rattle.form.proofs.put_form.Statement.{statement}

@@ -5,12 +5,14 @@ use lib.ListN.{length}
 use mathlib.Core.Path.{_∙_}
 use Prim.Native.Nat.{_-_, _<_}
 use Rattle.walk.proofs.KindLaws.{kinds-few, kind-range, kind-known}
-use Rattle.form.proofs.LoopLaws.{GroupsLeft, left-start, groups-first, groups-on, groups-done}
+use Rattle.traverse.proofs.LoopLaws.{GroupsLeft, left-start, groups-first, groups-on, groups-done}
+use Rattle.form.specs.Moves.{entryText}
+use Rattle.form.proofs.TextLaws.{paced-element}
 use Rattle.form.proofs.put_groups.Statement.{statement}
 use Rattle.form.proofs.put_groups.Tie as tie
 
 abbrev Inv-loop : tie.InvT-loop
-Inv-loop w s at out₀ to n from₀ dest₀ k₀ out from dest k = GroupsLeft w s at to out₀ from dest out k
+Inv-loop w s at out₀ to n from₀ dest₀ k₀ out from dest k = GroupsLeft entryText w s at to out₀ from dest out k
 
 abbrev μ-loop : tie.MeasureT-loop
 μ-loop w s at out₀ to n from₀ dest₀ k₀ out from dest k = n - k
@@ -27,7 +29,7 @@ kind-at-requires c κs = omega (arith, kinds-few (c .before .before .before .bef
 put-group-requires : tie.Need-put-group-requires Inv-loop μ-loop
 put-group-requires c κs = let h : c .before .before .before .loop .k < length (kinds (c .before .before .before .before .before .before .before .args .w)) = omega (arith, c .before .before .loop-test .taken, c .before .before .before .before .kind-count .ensures) in
     let e = c .before .kind-at .ensures ∙ kind-known (c .before .before .before .before .before .before .before .args .w) (c .before .before .before .loop .k) h in
-    (c .before .before .before .before .before .before .before .pre .0, (kind-range (c .before .before .before .before .before .before .before .args .w) (c .before .before .before .loop .k) h e, groups-first (c .before .before .before .before .before .before .before .args .w) (c .before .before .before .loop .k) (c .before .before .before .loop .inv) h e))
+    (c .before .before .before .before .before .before .before .pre .0, (kind-range (c .before .before .before .before .before .before .before .args .w) (c .before .before .before .loop .k) h e, groups-first entryText (c .before .before .before .before .before .before .before .args .w) (c .before .before .before .loop .k) (c .before .before .before .loop .inv) h e))
 
 add-k : tie.Need-add-k Inv-loop μ-loop
 add-k c = search needs
@@ -38,13 +40,13 @@ loop-less c = search needs
 loop-again : tie.Need-loop-again Inv-loop μ-loop
 loop-again c = let h : c .before .before .before .before .before .before .loop .k < length (kinds (c .before .before .before .before .before .before .before .before .before .before .args .w)) = omega (arith, c .before .before .before .before .before .loop-test .taken, c .before .before .before .before .before .before .before .kind-count .ensures) in
     let e = c .before .before .before .before .kind-at .ensures ∙ kind-known (c .before .before .before .before .before .before .before .before .before .before .args .w) (c .before .before .before .before .before .before .loop .k) h in
-    groups-on (c .before .before .before .before .before .before .before .before .before .before .args .w) (c .before .before .before .before .before .before .loop .k) (c .before .before .before .before .before .before .loop .inv) h e (kind-range (c .before .before .before .before .before .before .before .before .before .before .args .w) (c .before .before .before .before .before .before .loop .k) h e .0) (c .before .before .put-group .ensures) (c .before .before .put-group .kept .1 .1 .1 .1 .0)
+    groups-on entryText (c .before .before .before .before .before .before .before .before .before .before .args .w) (c .before .before .before .before .before .before .loop .k) (c .before .before .before .before .before .before .loop .inv) h e (paced-element (c .before .before .before .before .before .before .before .before .before .before .args .w)) (kind-range (c .before .before .before .before .before .before .before .before .before .before .args .w) (c .before .before .before .before .before .before .loop .k) h e .0) (c .before .before .put-group .ensures) (c .before .before .put-group .kept .1 .1 .1 .1 .0)
 
 same-length : tie.Need-same-length Inv-loop μ-loop
 same-length c = c .before .loop .inv .long
 
 returns : tie.Need-returns Inv-loop μ-loop
-returns c = groups-done (c .before .before .before .before .before .args .w) (c .before .loop .k) (c .before .loop .inv) (omega (arith, c .loop-test .left, c .before .before .kind-count .ensures))
+returns c = groups-done entryText (c .before .before .before .before .before .args .w) (c .before .loop .k) (c .before .loop .inv) (omega (arith, c .loop-test .left, c .before .before .kind-count .ensures))
 
 pub put-groups-spec : {M : Type 1} → statement M
 put-groups-spec =

@@ -1,5 +1,5 @@
 use native.Mathlib.Omega.{arith}
-use Rattle.form.proofs.LoopLaws.{record-fixed, record-groups, record-copied}
+use Rattle.form.proofs.RecordLaws.{record-fixed, record-groups, record-copied}
 use borrow.Author.Needs.{needs}
 use Rattle.form.proofs.put_record.Statement.{statement}
 use Rattle.form.proofs.put_record.Tie as tie

@@ -1,20 +1,23 @@
 use borrow.Author.Needs.{needs}
 use Prim.Native.Nat.{_-_}
-use Rattle.form.proofs.LoopLaws.{RecordsLeft, records-start, records-first, records-on, records-done}
+use Rattle.traverse.specs.Texts.{recordText}
+use Rattle.traverse.proofs.LoopLaws.{RecordsLeft, records-start, records-first, records-on, records-done}
+use Rattle.form.specs.Moves.{entryText, headText}
+use Rattle.form.proofs.TextLaws.{paced-entries}
 use Rattle.form.proofs.put_records.Statement.{statement}
 use Rattle.form.proofs.put_records.Tie as tie
 
 abbrev Inv-loop : tie.InvT-loop
-Inv-loop w count s out₀ to from₀ dest₀ i₀ out from dest i = RecordsLeft w count s to out₀ from dest out i
+Inv-loop w count s out₀ to from₀ dest₀ i₀ out from dest i = RecordsLeft (recordText entryText w headText) w count s to out₀ from dest out i
 
 abbrev μ-loop : tie.MeasureT-loop
 μ-loop w count s out₀ to from₀ dest₀ i₀ out from dest i = count - i
 
 loop-holds : tie.Need-loop-holds Inv-loop μ-loop
-loop-holds c = records-start (c .before .before .args .w) (c .before .before .args .count) (c .before .before .pre .1)
+loop-holds c = records-start (recordText entryText (c .before .before .args .w) headText) (c .before .before .args .w) (c .before .before .args .count) (c .before .before .pre .1)
 
 put-record-requires : tie.Need-put-record-requires Inv-loop μ-loop
-put-record-requires c κs = (c .before .before .before .before .before .pre .0, records-first (c .before .before .before .before .before .args .w) (c .before .before .before .before .before .args .count) (c .before .before .loop .i) (c .before .before .loop .inv) (c .before .loop-test .taken))
+put-record-requires c κs = (c .before .before .before .before .before .pre .0, records-first (recordText entryText (c .before .before .before .before .before .args .w) headText) (c .before .before .before .before .before .args .w) (c .before .before .before .before .before .args .count) (c .before .before .loop .i) (c .before .before .loop .inv) (c .before .loop-test .taken))
 
 add-i : tie.Need-add-i Inv-loop μ-loop
 add-i c = search needs
@@ -23,13 +26,13 @@ loop-less : tie.Need-loop-less Inv-loop μ-loop
 loop-less c = search needs
 
 loop-again : tie.Need-loop-again Inv-loop μ-loop
-loop-again c = records-on (c .before .before .before .before .before .before .before .before .args .w) (c .before .before .before .before .before .before .before .before .args .count) (c .before .before .before .before .before .loop .i) (c .before .before .before .before .before .loop .inv) (c .before .before .before .before .loop-test .taken) (c .before .before .put-record .ensures) (c .before .before .put-record .kept .1 .1 .1 .0)
+loop-again c = records-on (recordText entryText (c .before .before .before .before .before .before .before .before .args .w) headText) (c .before .before .before .before .before .before .before .before .args .w) (c .before .before .before .before .before .before .before .before .args .count) (c .before .before .before .before .before .loop .i) (c .before .before .before .before .before .loop .inv) (paced-entries (c .before .before .before .before .before .before .before .before .args .w)) (c .before .before .before .before .loop-test .taken) (c .before .before .put-record .ensures) (c .before .before .put-record .kept .1 .1 .1 .0)
 
 same-length : tie.Need-same-length Inv-loop μ-loop
 same-length c = c .before .loop .inv .long
 
 returns : tie.Need-returns Inv-loop μ-loop
-returns c = records-done (c .before .before .before .before .args .w) (c .before .before .before .before .args .count) (c .before .loop .i) (c .before .loop .inv) (c .loop-test .left)
+returns c = records-done (recordText entryText (c .before .before .before .before .args .w) headText) (c .before .before .before .before .args .w) (c .before .before .before .before .args .count) (c .before .loop .i) (c .before .loop .inv) (c .loop-test .left)
 
 pub put-records-spec : {M : Type 1} → statement M
 put-records-spec =

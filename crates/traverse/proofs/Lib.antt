@@ -1,0 +1,4 @@
+pub mod CopyLaws
+pub mod PaceLaws
+pub mod LoopLaws
+pub mod FieldLaws
