@@ -18,6 +18,7 @@ ghost use Rattle.command.specs.Writing.{commandBytes};
 ghost use Rattle.capi.specs.Flat.{flatWritten, flatPacket, flatDatagram, flatLogin, flatCommand, flatRecord, flatValue, flatKnown};
 ghost use Rattle.tlv.specs.PacketOf.{formOfPacket, formOfDatagram, packetOfForm};
 ghost use Rattle.lookup.specs.Lookups.{tcpSource, udpSource, recordByNumber, valueByNumber, valueById, lastKnown};
+ghost use Rattle.contents.specs.Contents.{contentsOfPacket, contentsOfDatagram};
 ghost use Rattle.wire.specs.Limits.{baseLimits};
 ghost use Rattle.lookup.specs.Answers.{recordAs, valueAs, answerValue, answerKnown};
 
@@ -383,6 +384,24 @@ pub extern "C" fn brundilope_last_known(newer: &[u8], older: &[u8], id: u16) -> 
             size: 0,
         },
     }
+}
+
+// ---- whole packets: the lent buffer is of words, and words are counted
+
+#[no_mangle]
+pub extern "C" fn brundilope_contents_of_packet(p: &[u8], out: &mut [u64]) -> WrittenC
+    ensures answer { λ r. ⌜ r ≡ flatWritten (writing (contentsOfPacket baseLimits (now (p .entry))) (now (out .entry))) ⌝ }
+    ensures buffer { λ r. ⌜ now (out .exit) ≡ leaving (contentsOfPacket baseLimits (now (p .entry))) (now (out .entry)) ⌝ }
+{
+    flat_written(contents::contents_of_packet(p, out))
+}
+
+#[no_mangle]
+pub extern "C" fn brundilope_contents_of_datagram(p: &[u8], out: &mut [u64]) -> WrittenC
+    ensures answer { λ r. ⌜ r ≡ flatWritten (writing (contentsOfDatagram baseLimits (now (p .entry))) (now (out .entry))) ⌝ }
+    ensures buffer { λ r. ⌜ now (out .exit) ≡ leaving (contentsOfDatagram baseLimits (now (p .entry))) (now (out .entry)) ⌝ }
+{
+    flat_written(contents::contents_of_datagram(p, out))
 }
 
 // ---- TLV forms

@@ -36,3 +36,6 @@ module _ (limits : Limits) (p : List ℕ) {g : Datagram} (e : readDatagram limit
 
   pub datagram-long : 23 ≤ length p
   datagram-long = omega (arith, datagram-field .long, length-take (length p - 23) (drop 23 p))
+
+  pub datagram-most : length p ≤ limits .largest
+  datagram-most = let rules = datagram-exact limits p g b .0 e in omega (arith, rules .most, ap length (rules .whole))

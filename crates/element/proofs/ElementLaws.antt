@@ -3,7 +3,7 @@ use Prim.Native.Nat.{ℕ, suc, _+_}
 use native.Mathlib.Omega.{arith}
 use mathlib.Core.Path.{_≡_, refl, ap, ap₂, _∙_}
 use mathlib.Core.Bool.{Bool, true, false}
-use mathlib.Core.List.{List, [], _∷_}
+use mathlib.Core.List.{List, [], _∷_, _++_}
 use lib.ListN.{length, length-append}
 use lib.Dec.{eqb}
 use Rattle.wire.specs.Numbers.{be, pick}
@@ -52,9 +52,16 @@ groups-inside w (k ∷ ks) s at (g ∷ gs) next f =
     (group-inside w k s _ g _ (between-moved (ap (λ (n : ℕ). at + n) (length-digits 256 (w .count) (length g))) refl (b .1)))
     (groups-inside w ks s _ gs next (a .1))
 
-length-fixed : (w : Widths) (f : Fixed) → length (fixedBytes w f) + w .count ≡ fixedSize w
+pub length-fixed : (w : Widths) (f : Fixed) → length (fixedBytes w f) + w .count ≡ fixedSize w
 unfolding fixedBytes fixedSize
 length-fixed w f = simp (length-append, length-digits) (omega arith)
+
+pub length-record : (w : Widths) (r : AvlRecord) → length (recordBytes w r) ≡ fixedSize w + length (groupsBytes w (kinds w) (r .groups))
+unfolding recordBytes
+length-record w r =
+    let sum = be (w .count) (total (r .groups)) in
+    let rest = groupsBytes w (kinds w) (r .groups) in
+    omega (arith, length-append (fixedBytes w (r .fixed)) (sum ++ rest), length-append sum rest, length-digits 256 (w .count) (total (r .groups)), length-fixed w (r .fixed))
 
 pub elements-inside : (w : Widths) (r : AvlRecord) → All (λ e. Inside e (recordBytes w r)) (elements w r)
 unfolding elements recordBytes
@@ -72,7 +79,7 @@ unfolding locateGroup
 length-group w kind at [] = refl
 length-group w kind at (e ∷ g) = ap suc (length-group w kind _ g)
 
-length-groups : (w : Widths) (ks : List ℕ) (at : ℕ) (gs : List (List Element)) → GroupsRules w ks gs → length (locateGroups w ks at gs) ≡ elementCount gs
+pub length-groups : (w : Widths) (ks : List ℕ) (at : ℕ) (gs : List (List Element)) → GroupsRules w ks gs → length (locateGroups w ks at gs) ≡ elementCount gs
 unfolding locateGroups elementCount
 length-groups w [] at [] h = refl
 length-groups w [] at (g ∷ gs) h = absurd h

@@ -61,7 +61,7 @@ enum Search {
 }
 
 // How many bytes of a record stand before its groups.
-fn fixed_size(w: Widths) -> usize
+pub fn fixed_size(w: Widths) -> usize
     requires { ⌜ Narrow w ⌝ }
     ensures { λ r. ⌜ r ≡ fixedSize w ⌝ }
 {
@@ -96,7 +96,7 @@ pub fn fields_of(w: Widths, part: &[u8], elements: usize) -> RecordFields
 }
 
 // The element of a kind at `at`, its place counted from the record's start.
-fn element_value(w: Widths, kind: usize, part: &[u8], at: usize) -> Value
+pub fn element_value(w: Widths, kind: usize, part: &[u8], at: usize) -> Value
     requires { ⌜ Narrow w ⌝ }
     requires { ⌜ kind ≤ 9 ⌝ }
     requires { ⌜ ReadableElement w kind (now part) at ⌝ }

@@ -5,30 +5,24 @@ use mathlib.Core.Path.{_≡_, ap}
 use mathlib.Core.Bool.{Bool, true, false}
 use mathlib.Core.List.{List, [], _∷_}
 use lib.ListN.{length, length-append}
-use lib.Dec.{eqb, lit≤}
+use lib.Dec.{eqb}
 use Rattle.wire.specs.Numbers.{Bytes, be, le, pick}
 use Rattle.wire.specs.Sequences.{joined, All}
 use Rattle.wire.specs.Answers.{accepted}
 use Rattle.wire.proofs.Widths.{length-digits}
-use Rattle.wire.proofs.Accepting.{pick-either}
 use Rattle.wire.proofs.Enclosed.{length-enclosed}
 use Rattle.avl.specs.declared.Widths.{Widths}
-use Rattle.avl.specs.Codecs.{widthsOf, kinds, codec8, codec8E, codec16}
-use Rattle.avl.specs.Records.{Element, Fixed, AvlRecord, ElementRules, GroupsRules, RecordRules, lengthBytes, elementBytes, groupBytes, groupsBytes, fixedBytes, recordBytes}
+use Rattle.avl.specs.Codecs.{widthsOf, kinds}
+use Rattle.avl.specs.Records.{Element, AvlRecord, ElementRules, GroupsRules, RecordRules, lengthBytes, elementBytes, groupBytes, groupsBytes, recordBytes}
 use Rattle.avl.specs.DataField.{AvlData, dataBytes, readData}
 use Rattle.avl.proofs.DataLaws.{data-exact}
 use Rattle.walk.proofs.KindLaws.{KindRange, kinds-range}
+use Rattle.walk.proofs.WalkLaws.{narrow}
+use Rattle.element.specs.Elements.{fixedSize}
+use Rattle.element.proofs.ElementLaws.{length-record}
 use Rattle.store.specs.Entries.{entryBytes}
 use Rattle.tlv.specs.Form.{fixedEntry, elementEntry, groupEntries, groupsEntries, recordsEntries, formEntries, form}
 use Rattle.form.proofs.TextLaws.{laid, length-laid}
-
-pub length-fixedBytes : (w : Widths) (x : Fixed) → length (fixedBytes w x) ≡ 24 + w .event + w .generation
-unfolding fixedBytes
-length-fixedBytes w x = simp (length-append, length-digits) (omega arith)
-
-pub length-recordBytes : (w : Widths) (r : AvlRecord) → length (recordBytes w r) ≡ 24 + w .event + w .generation + w .count + length (groupsBytes w (kinds w) (r .groups))
-unfolding recordBytes
-length-recordBytes w r = simp (length-append, length-digits, length-fixedBytes) (omega arith)
 
 module _ (w : Widths) (named : 1 ≤ w .id) where
   -- an ID and a value of at least a byte, or the length of a variable one
@@ -63,7 +57,7 @@ module _ (w : Widths) (named : 1 ≤ w .id) where
       )
 
   records-size : (longest : ℕ) (rs : List AvlRecord) → All (RecordRules longest w) rs → length (laid (recordsEntries (kinds w) rs)) ≤ 4 * length (joined (recordBytes w) rs)
-  unfolding recordsEntries fixedEntry entryBytes le
+  unfolding recordsEntries fixedEntry entryBytes fixedSize le
   records-size longest [] h = omega arith
   records-size longest (r ∷ rs) h =
       omega (
@@ -71,15 +65,9 @@ module _ (w : Widths) (named : 1 ≤ w .id) where
         length-laid (groupsEntries (kinds w) (r .groups)) (recordsEntries (kinds w) rs),
         groups-size (kinds w) (r .groups) (kinds-range w) (h .0 .groupsKeep),
         records-size longest rs (h .1),
-        length-recordBytes w r,
+        length-record w r,
         length-append (recordBytes w r) (joined (recordBytes w) rs),
       )
-
-named : (codec : ℕ) → 1 ≤ widthsOf codec .id
-unfolding widthsOf
-named codec =
-    pick-either (λ (w : Widths). 1 ≤ w .id) (eqb codec 0x08) codec8 (pick (eqb codec 0x8E) codec8E codec16) (lit≤ tt)
-    (pick-either (λ (w : Widths). 1 ≤ w .id) (eqb codec 0x8E) codec8E codec16 (lit≤ tt) (lit≤ tt))
 
 pub form-size : (longest : ℕ) (d : List ℕ) (a : AvlData) → Bytes d → 3 ≤ length d → readData longest d ≡ accepted a → length (form a) ≤ 4 * length d
 unfolding form formEntries entryBytes dataBytes le
@@ -88,7 +76,7 @@ form-size longest d a b l e =
     let w = widthsOf (a .codec) in
     omega (
       arith,
-      records-size w (named (a .codec)) longest (a .records) (k .0 .each),
+      records-size w (narrow (a .codec) .named) longest (a .records) (k .0 .each),
       length-enclosed (a .codec) (length (a .records)) (joined (recordBytes w) (a .records)),
       ap length (k .1),
     )

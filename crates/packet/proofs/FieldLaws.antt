@@ -30,3 +30,11 @@ module _ (limits : Limits) (p : List ℕ) {a : AvlData} (e : readPacket limits p
 
   pub packet-long : 12 ≤ length p
   packet-long = omega (arith, packet-field .long, length-take (length p - 4 - 8) (drop 8 p))
+
+  pub packet-most : length p ≤ limits .largest
+  unfolding readPacket framing
+  packet-most =
+      let i = onAccepted-accepted (unframe (limits .largest) p) (readData (limits .longest)) e in
+      let rules = frame-exact (limits .largest) p (i .0) b .0 (i .1) .0 in
+      let f = framing-field (limits .largest) p (length (i .0)) (ap framing (i .1)) b in
+      omega (arith, f .1, rules .most)

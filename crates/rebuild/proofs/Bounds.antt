@@ -16,7 +16,8 @@ use Rattle.walk.specs.Walks.{Narrow}
 use Rattle.walk.proofs.KindLaws.{kinds-few}
 use Rattle.store.specs.Entries.{Entry, entriesFrom, entriesOf, entriesAt}
 use Rattle.tlv.specs.Decoding.{entryElement, run, behind, groupsOf, fixedOf, recordsOf}
-use Rattle.form.proofs.FormSize.{length-recordBytes}
+use Rattle.element.specs.Elements.{fixedSize}
+use Rattle.element.proofs.ElementLaws.{length-record}
 
 -- ---- the bytes that entries take
 
@@ -94,14 +95,14 @@ module _ (w : Widths) (narrow : Narrow w) where
   length-groups (k ∷ ks) es = simp (length-append, length-digits) (omega (arith, narrow .count, length-run k es, length-groups ks (behind k es)))
 
   length-records : (es : List Entry) → weight es ≤ 262144 → length (joined (recordBytes w) (recordsOf (kinds w) es)) ≤ 300000 * length es
-  unfolding recordsOf
+  unfolding recordsOf fixedSize
   length-records [] h = omega arith
   length-records (e ∷ es) h =
       let r : AvlRecord = record { fixed = fixedOf (e .body); groups = groupsOf (kinds w) es } in
       let rs = recordsOf (kinds w) es in
       let rest = length-records es (omega (arith, h)) in
       pick-either (λ l. length (joined (recordBytes w) l) ≤ 300000 * length (e ∷ es)) (eqb (e .kind) 101) (r ∷ rs) rs
-      (omega (arith, h, length-append (recordBytes w r) (joined (recordBytes w) rs), narrow .event, narrow .generation, narrow .count, length-recordBytes w r, length-groups (kinds w) es, kinds-few w)) (omega arith)
+      (omega (arith, h, length-append (recordBytes w r) (joined (recordBytes w) rs), narrow .event, narrow .generation, narrow .count, length-record w r, length-groups (kinds w) es, kinds-few w)) (omega arith)
 
   pub records-room : (f : List ℕ) (at : ℕ) → length f ≤ 65536 → length (joined (recordBytes w) (recordsOf (kinds w) (entriesAt f at))) ≤ 2 ^ 39
   records-room f at h = let es = entriesAt f at in omega (arith, length-records es (weight-at f at h), length-weight es, weight-at f at h)

@@ -17,7 +17,8 @@ use Rattle.walk.proofs.KindLaws.{next-kind}
 use Rattle.walk.proofs.WalkLaws.{share-consed}
 use Rattle.store.specs.Entries.{Entry, kindAt, bodyAt, nextAt, entryAt, entriesAt}
 use Rattle.tlv.specs.Decoding.{entryElement, run, behind, groupsOf, fixedOf, recordsOf}
-use Rattle.form.proofs.FormSize.{length-fixedBytes, length-recordBytes}
+use Rattle.element.specs.Elements.{fixedSize}
+use Rattle.element.proofs.ElementLaws.{length-fixed, length-record}
 use Rattle.rebuild.specs.declared.Run.{Run}
 use Rattle.store.specs.Stores.{Stored}
 use Rattle.rebuild.specs.FormPlaces.{behindAll, recordAt, RecordFrom, Goes}
@@ -149,9 +150,10 @@ module _ (w : Widths) (f : List ℕ) (from : ℕ) where
 module _ (w : Widths) (f : List ℕ) (at : ℕ) where
   pub record-room : (x : Fixed) (to : ℕ) {from mid : ℕ} → from ≡ nextAt f at → mid ≡ to + length (fixedBytes w x) → to + length (recordBytes w (recordAt (kinds w) f at)) ≤ 2 ^ 40
       → mid + w .count + length (groupsBytes w (kinds w) (groupsOf (kinds w) (entriesAt f from))) ≤ 2 ^ 40
+  unfolding fixedSize
   record-room x to e m h =
       let same = ap (λ (n : ℕ). length (groupsBytes w (kinds w) (groupsOf (kinds w) (entriesAt f n)))) e in
-      omega (arith, same, m, h, length-fixedBytes w x, length-recordBytes w (recordAt (kinds w) f at))
+      omega (arith, same, m, h, length-fixed w x, length-record w (recordAt (kinds w) f at))
 
   pub record-goes : {from to mid end start : ℕ} {b before fixed groups after : List ℕ} {r : Run} → from ≡ nextAt f at → b ≡ bodyAt f at
       → Stored (fixedBytes w (fixedOf b)) before fixed to mid

@@ -19,6 +19,15 @@ pub fn store_byte(out: &mut [u8], at: usize, b: u8)
     }
 }
 
+// Stores a word.
+pub fn store_word(out: &mut [u64], at: usize, n: u64)
+    ensures { λ _. ⌜ now (out .exit) ≡ set (now (out .entry)) at n ⌝ }
+{
+    if at < out.len() {
+        out[at] = n;
+    }
+}
+
 // The `w` lowest bytes of `n`, the highest first, where the buffer ends before them.
 fn cut_be(out: &mut [u8], to: usize, w: usize, n: u64)
     requires { ⌜ to + w < 2 ^ 64 ⌝ }

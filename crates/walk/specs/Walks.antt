@@ -18,12 +18,13 @@ use Rattle.avl.specs.Codecs.{widthsOf}
 use Rattle.avl.specs.Records.{Element, AvlRecord, elementCount, total, recordBytes}
 use Rattle.avl.specs.DataField.{AvlData}
 
--- every width set is this narrow
+-- every width set is this narrow, and has room for an ID
 pub record Narrow (w : Widths) : Type 0 where
   pub event : w .event ≤ 2
   pub generation : w .generation ≤ 1
   pub count : w .count ≤ 2
   pub id : w .id ≤ 2
+  pub named : 1 ≤ w .id
 
 -- how many elements a group or a record has
 unfoldable pub counted : {A : Type 0} → (A → ℕ) → Read A → Counted

@@ -1,0 +1,4 @@
+pub mod ListLaws
+pub mod SizeLaws
+pub mod RecordLaws
+pub mod TableLaws

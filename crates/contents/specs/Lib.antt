@@ -1,0 +1,4 @@
+pub mod Words
+pub mod Contents
+pub mod Rows
+pub mod Listing
