@@ -1,13 +1,16 @@
 //! The answers of all sides compared, on whole and damaged inputs of every kind.
 
 use crate::input::{self, Random};
+use crate::library::Sum;
 use crate::{combinator, hand, library, CODECS, SIZES};
+use brundilope::Contents;
 use std::fmt::Debug;
 
 #[derive(Default)]
 pub struct Check {
     pub compared: usize,
     pub refusals: [usize; 19],
+    room: Contents,
 }
 
 impl Check {
@@ -28,10 +31,13 @@ impl Check {
     }
 }
 
-/// Compares a call that reads, on all sides.
+/// Compares a call that reads, on all sides; the library's call may have arguments of its own.
 macro_rules! same {
-    ($check:expr, $call:ident($($arg:expr),*)) => {{
-        let library = library::$call($($arg),*);
+    ($check:expr, $call:ident($($arg:expr),*)) => {
+        same!($check, $call($($arg),*), library::$call($($arg),*))
+    };
+    ($check:expr, $call:ident($($arg:expr),*), $library:expr) => {{
+        let library = $library;
         let name = stringify!($call);
         $check.note(library.number);
         $check.same(name, "hand", &library, &hand::$call($($arg),*).into(), &[$(&$arg),*]);
@@ -73,6 +79,7 @@ macro_rules! written {
 fn check_tcp(c: &mut Check, random: &mut Random, p: &[u8]) {
     same!(c, read_packet(p));
     same!(c, read_command(p));
+    same!(c, sum_of_packet(p), Sum::from(library::sum_of_packet(p, &mut c.room)));
     written!(c, acknowledge_packet(p), random.below(9), hand);
     let record = random.below(6).wrapping_sub(random.below(20) / 19);
     let element = random.below(30).wrapping_sub(random.below(20) / 19);
@@ -94,6 +101,7 @@ fn check_tcp(c: &mut Check, random: &mut Random, p: &[u8]) {
 /// All calls on one datagram.
 fn check_udp(c: &mut Check, random: &mut Random, p: &[u8]) {
     same!(c, read_datagram(p));
+    same!(c, sum_of_datagram(p), Sum::from(library::sum_of_datagram(p, &mut c.room)));
     written!(c, acknowledge_datagram(p), random.below(12), hand);
     let (record, element) = (random.below(6), random.below(30));
     let id = random.below(260) as u16;

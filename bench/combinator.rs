@@ -1,14 +1,15 @@
 //! The library's readers and look-ups with the parser combinators of nom: no allocation, one pass over the packet.
-//! TLV forms are read so too; writing is the same as by hand.
+//! TLV forms are read so too; writing is the same as by hand. Where everything in a packet is asked for, it is parsed
+//! into owned records, as nom's users write it.
 
 use crate::hand::{
-    crc, fixed_entries, no, record_entry, variable_entry, write_packet, Answer, Codec, Codec16, Codec8, Codec8E,
-    Command, Datagram, FormSums, Packet, Record, Refusal, Value,
+    crc, fixed_entries, no, record_entry, sum_of_bytes, sum_of_fields, variable_entry, write_packet, Answer, Codec,
+    Codec16, Codec8, Codec8E, Command, Datagram, FormSums, Packet, Record, Refusal, Value,
 };
 use nom::bytes::complete::{tag, take};
 use nom::combinator::{all_consuming, iterator, map, recognize, verify};
 use nom::error::{ErrorKind, ParseError};
-use nom::multi::{fold_many_m_n, length_data};
+use nom::multi::{fold_many_m_n, length_count, length_data};
 use nom::number::complete::{be_i16, be_i32, be_u16, be_u32, be_u64, be_u8, le_u16};
 use nom::sequence::{pair, preceded, tuple};
 use nom::{Err, IResult, Offset, Parser};
@@ -112,6 +113,7 @@ struct Judged<'a> {
     id: usize,
 }
 
+#[inline(always)]
 fn fields<C: Codec>(i: &[u8]) -> Read<'_, Record> {
     let priority = ruled(10, be_u8, |&n| n <= 2);
     let (rest, head) = tuple((be_u64, priority, be_i32, be_i32, be_i16, be_u16, be_u8, be_u16))(i)?;
@@ -161,21 +163,39 @@ fn record<C: Codec>(i: &[u8]) -> Read<'_, Judged<'_>> {
     let none = Group { count: 0, bytes: &[] };
     let (rest, variable) = if C::VARIABLE { variable::<C>(rest)? } else { (rest, none) };
     let count: usize = fixed.iter().map(|g| g.count).sum();
-    if count != total {
-        return Err(Err::Error(no(9)));
-    }
-    if i.offset(rest) > 255 {
-        return Err(Err::Error(no(12)));
-    }
+    ended(i.offset(rest), count, total)?;
     fields.elements = count + variable.count;
     Ok((rest, Judged { fields, fixed, variable, id: C::ID }))
 }
 
-fn records<'a, C: Codec>(body: &'a [u8], count: u8, mut visit: impl FnMut(usize, Judged<'a>)) -> Answer<()> {
+/// The rules at a record's end: so many bytes, so many fixed values, and so many by its total.
+fn ended(size: usize, count: usize, total: usize) -> Result<(), Err<Refusal>> {
+    if count != total {
+        return Err(Err::Error(no(9)));
+    }
+    if size > 255 {
+        return Err(Err::Error(no(12)));
+    }
+    Ok(())
+}
+
+/// What a record is parsed into.
+trait Parsed<'a>: Sized {
+    fn parse<C: Codec>(i: &'a [u8]) -> Read<'a, Self>;
+}
+
+impl<'a> Parsed<'a> for Judged<'a> {
+    #[inline]
+    fn parse<C: Codec>(i: &'a [u8]) -> Read<'a, Self> {
+        record::<C>(i)
+    }
+}
+
+fn records<'a, C: Codec, R: Parsed<'a>>(body: &'a [u8], count: u8, mut visit: impl FnMut(usize, R)) -> Answer<()> {
     let mut rest = body;
     for index in 0..usize::from(count) {
-        let (after, judged) = record::<C>(rest).map_err(|e| Refusal { index, ..e.into() })?;
-        visit(index, judged);
+        let (after, record) = R::parse::<C>(rest).map_err(|e| Refusal { index, ..e.into() })?;
+        visit(index, record);
         rest = after;
     }
     if !rest.is_empty() {
@@ -185,15 +205,15 @@ fn records<'a, C: Codec>(body: &'a [u8], count: u8, mut visit: impl FnMut(usize,
 }
 
 /// Judges a data field of at least three bytes.
-fn judge<'a>(data: &'a [u8], visit: impl FnMut(usize, Judged<'a>)) -> Answer<Packet> {
+fn judge<'a, R: Parsed<'a>>(data: &'a [u8], visit: impl FnMut(usize, R)) -> Answer<Packet> {
     let (rest, codec) = ruled(6, be_u8, |c| matches!(c, 0x08 | 0x8E | 0x10))(data)?;
     let (rest, count): (_, u8) = ruled(7, be_u8, |&n| n != 0)(rest)?;
     let (last, body) = take::<_, _, Refusal>(rest.len() - 1)(rest)?;
     ruled(7, be_u8, |&n| n == count)(last)?;
     match codec {
-        0x08 => records::<Codec8>(body, count, visit)?,
-        0x8E => records::<Codec8E>(body, count, visit)?,
-        _ => records::<Codec16>(body, count, visit)?,
+        0x08 => records::<Codec8, R>(body, count, visit)?,
+        0x8E => records::<Codec8E, R>(body, count, visit)?,
+        _ => records::<Codec16, R>(body, count, visit)?,
     }
     Ok(Packet { codec, count })
 }
@@ -202,13 +222,13 @@ fn judge<'a>(data: &'a [u8], visit: impl FnMut(usize, Judged<'a>)) -> Answer<Pac
 
 #[inline(never)]
 pub fn read_packet(p: &[u8]) -> Answer<Packet> {
-    judge(frame(p)?.1, |_, _| {})
+    judge::<Judged>(frame(p)?.1, |_, _| {})
 }
 
 #[inline(never)]
 pub fn read_datagram(p: &[u8]) -> Answer<Datagram> {
     let (data, head) = datagram(p)?;
-    let Packet { codec, count } = judge(data, |_, _| {})?;
+    let Packet { codec, count } = judge::<Judged>(data, |_, _| {})?;
     Ok(Datagram { codec, count, ..head })
 }
 
@@ -342,6 +362,80 @@ pub fn last_known(newer: &[u8], older: &[u8], id: u16) -> Answer<(bool, Value)> 
         return Ok((false, placed(newer, element)));
     }
     Ok((true, placed(older, by_id(&last(older)?, id)?)))
+}
+
+// ---- all values, in owned records
+
+enum OwnedValue {
+    Number(u64),
+    Bytes(Vec<u8>),
+}
+
+struct OwnedElement {
+    id: u16,
+    value: OwnedValue,
+}
+
+struct OwnedRecord {
+    fields: Record,
+    elements: Vec<OwnedElement>,
+}
+
+/// A group of fixed values.
+fn owned_group<'a, C: Codec>(
+    value: impl Parser<&'a [u8], u64, Refusal>,
+) -> impl FnMut(&'a [u8]) -> Read<'a, Vec<OwnedElement>> {
+    let element = map(pair(number(C::ID), value), |(id, n)| OwnedElement { id, value: OwnedValue::Number(n) });
+    length_count(number(C::COUNT), element)
+}
+
+fn owned_variable<C: Codec>(i: &[u8]) -> Read<'_, Vec<OwnedElement>> {
+    let owned = |(id, bytes): (u16, &[u8])| OwnedElement { id, value: OwnedValue::Bytes(bytes.to_vec()) };
+    length_count(number(C::COUNT), map(variable_element(C::ID), owned))(i)
+}
+
+impl<'a> Parsed<'a> for OwnedRecord {
+    fn parse<C: Codec>(i: &'a [u8]) -> Read<'a, Self> {
+        let (rest, fields) = fields::<C>(i)?;
+        let (rest, total) = map(number(C::COUNT), usize::from)(rest)?;
+        let (rest, (one, two, four, eight)) = tuple((
+            owned_group::<C>(map(be_u8, u64::from)),
+            owned_group::<C>(map(be_u16, u64::from)),
+            owned_group::<C>(map(be_u32, u64::from)),
+            owned_group::<C>(be_u64),
+        ))(rest)?;
+        let (rest, variable) = if C::VARIABLE { owned_variable::<C>(rest)? } else { (rest, vec![]) };
+        ended(i.offset(rest), one.len() + two.len() + four.len() + eight.len(), total)?;
+        let elements = [one, two, four, eight, variable].into_iter().flatten().collect();
+        Ok((rest, OwnedRecord { fields, elements }))
+    }
+}
+
+fn sum_of(data: &[u8]) -> Answer<u64> {
+    let mut records: Vec<OwnedRecord> = vec![];
+    judge(data, |_, r| records.push(r))?;
+    let mut sum = 0u64;
+    for r in &records {
+        sum = sum.wrapping_add(sum_of_fields(r.fields.timestamp, r.fields.longitude, r.fields.latitude));
+        for e in &r.elements {
+            let value = match &e.value {
+                OwnedValue::Number(n) => *n,
+                OwnedValue::Bytes(bytes) => sum_of_bytes(bytes),
+            };
+            sum = sum.wrapping_add(u64::from(e.id)).wrapping_add(value);
+        }
+    }
+    Ok(sum)
+}
+
+#[inline(never)]
+pub fn sum_of_packet(p: &[u8]) -> Answer<u64> {
+    sum_of(frame(p)?.1)
+}
+
+#[inline(never)]
+pub fn sum_of_datagram(p: &[u8]) -> Answer<u64> {
+    sum_of(datagram(p)?.0)
 }
 
 // ---- TLV forms

@@ -195,9 +195,27 @@ struct Span {
     variable: usize,
 }
 
+/// What a walk does with the elements that it meets; `None` where their bytes are not all there.
+trait Elements {
+    /// So many values of one size; their pairs begin at `at`.
+    #[inline(always)]
+    fn fixed<C: Codec>(&mut self, _b: &[u8], _at: usize, _count: usize, _size: usize) -> Option<()> {
+        Some(())
+    }
+    /// A variable element, which begins at `at`.
+    #[inline(always)]
+    fn variable<C: Codec>(&mut self, _b: &[u8], _at: usize) -> Option<()> {
+        Some(())
+    }
+}
+
+/// Steps over them.
+struct Skip;
+impl Elements for Skip {}
+
 /// Judges the record at the start of `b`.
 #[inline]
-fn step<C: Codec>(b: &[u8]) -> Result<Span, u8> {
+fn step<C: Codec>(b: &[u8], elements: &mut impl Elements) -> Result<Span, u8> {
     if *b.get(8).ok_or(8)? > 2 {
         return Err(10);
     }
@@ -210,13 +228,16 @@ fn step<C: Codec>(b: &[u8]) -> Result<Span, u8> {
     for size in [1, 2, 4, 8] {
         let count = number(b, at, C::COUNT).ok_or(8)?;
         fixed += count;
-        at += C::COUNT + count * (C::ID + size);
+        at += C::COUNT;
+        elements.fixed::<C>(b, at, count, size).ok_or(8)?;
+        at += count * (C::ID + size);
     }
     let mut variable = 0;
     if C::VARIABLE {
         variable = number(b, at, C::COUNT).ok_or(8)?;
         at += C::COUNT;
         for _ in 0..variable {
+            elements.variable::<C>(b, at).ok_or(8)?;
             at += C::ID + 2 + number(b, at + C::ID, 2).ok_or(8)?;
         }
     }
@@ -232,11 +253,16 @@ fn step<C: Codec>(b: &[u8]) -> Result<Span, u8> {
     Ok(Span { start: 0, len: at, fixed, variable })
 }
 
-fn walk<C: Codec>(data: &[u8], count: u8, mut visit: impl FnMut(usize, Span)) -> Answer<()> {
+fn walk<C: Codec>(
+    data: &[u8],
+    count: u8,
+    elements: &mut impl Elements,
+    mut visit: impl FnMut(usize, Span),
+) -> Answer<()> {
     let body = &data[..data.len() - 1];
     let mut at = 2;
     for index in 0..usize::from(count) {
-        match step::<C>(&body[at..]) {
+        match step::<C>(&body[at..], elements) {
             Ok(span) => {
                 visit(index, Span { start: at, ..span });
                 at += span.len;
@@ -252,6 +278,10 @@ fn walk<C: Codec>(data: &[u8], count: u8, mut visit: impl FnMut(usize, Span)) ->
 
 /// Judges a data field of at least three bytes.
 fn judge(data: &[u8], visit: impl FnMut(usize, Span)) -> Answer<Packet> {
+    judge_with(data, &mut Skip, visit)
+}
+
+fn judge_with(data: &[u8], elements: &mut impl Elements, visit: impl FnMut(usize, Span)) -> Answer<Packet> {
     let (codec, count) = (data[0], data[1]);
     if !matches!(codec, 0x08 | 0x8E | 0x10) {
         return Err(no(6));
@@ -260,9 +290,9 @@ fn judge(data: &[u8], visit: impl FnMut(usize, Span)) -> Answer<Packet> {
         return Err(no(7));
     }
     match codec {
-        0x08 => walk::<Codec8>(data, count, visit)?,
-        0x8E => walk::<Codec8E>(data, count, visit)?,
-        _ => walk::<Codec16>(data, count, visit)?,
+        0x08 => walk::<Codec8>(data, count, elements, visit)?,
+        0x8E => walk::<Codec8E>(data, count, elements, visit)?,
+        _ => walk::<Codec16>(data, count, elements, visit)?,
     }
     Ok(Packet { codec, count })
 }
@@ -607,6 +637,77 @@ pub fn last_known(newer: &[u8], older: &[u8], id: u16) -> Answer<(bool, Value)> 
     let data = frame(older)?;
     let (codec, span) = find_last(data)?;
     Ok((true, id_in(data, 8, codec, span, id)?))
+}
+
+// ---- all values
+
+/// What the caller makes of a record's fixed fields.
+pub fn sum_of_fields(timestamp: u64, longitude: i32, latitude: i32) -> u64 {
+    timestamp.wrapping_add(longitude as u64).wrapping_add(latitude as u64)
+}
+
+/// What it makes of a variable value.
+pub fn sum_of_bytes(value: &[u8]) -> u64 {
+    value.len() as u64 + value.iter().map(|&b| u64::from(b)).sum::<u64>()
+}
+
+/// The sum of the elements that the walk has met.
+struct Sum(u64);
+
+impl Elements for Sum {
+    #[inline]
+    fn fixed<C: Codec>(&mut self, b: &[u8], at: usize, count: usize, size: usize) -> Option<()> {
+        let pairs = b.get(at..at + count * (C::ID + size))?;
+        self.0 = self.0.wrapping_add(match size {
+            1 => sum_of_pairs::<C, 1>(pairs),
+            2 => sum_of_pairs::<C, 2>(pairs),
+            4 => sum_of_pairs::<C, 4>(pairs),
+            _ => sum_of_pairs::<C, 8>(pairs),
+        });
+        Some(())
+    }
+    #[inline]
+    fn variable<C: Codec>(&mut self, b: &[u8], at: usize) -> Option<()> {
+        let (id, size) = (number(b, at, C::ID)?, number(b, at + C::ID, 2)?);
+        let value = b.get(at + C::ID + 2..at + C::ID + 2 + size)?;
+        self.0 = self.0.wrapping_add(id as u64 + sum_of_bytes(value));
+        Some(())
+    }
+}
+
+/// The sum of IDs and values in a fixed group.
+#[inline]
+fn sum_of_pairs<C: Codec, const SIZE: usize>(pairs: &[u8]) -> u64 {
+    let mut sum = 0u64;
+    for pair in pairs.chunks_exact(C::ID + SIZE) {
+        let mut value = [0; 8];
+        value[8 - SIZE..].copy_from_slice(&pair[C::ID..]);
+        let id = number(pair, 0, C::ID).unwrap_or(0) as u64;
+        sum = sum.wrapping_add(id).wrapping_add(u64::from_be_bytes(value));
+    }
+    sum
+}
+
+/// Judges the data field, and adds up what is in it.
+fn sum_of(data: &[u8]) -> Answer<u64> {
+    let (mut sum, mut elements) = (0u64, Sum(0));
+    judge_with(data, &mut elements, |_, span| {
+        // time and place stand alike in every codec
+        if let Some(r) = fields::<Codec8>(&data[span.start..], 0) {
+            sum = sum.wrapping_add(sum_of_fields(r.timestamp, r.longitude, r.latitude));
+        }
+    })?;
+    Ok(sum.wrapping_add(elements.0))
+}
+
+#[inline(never)]
+pub fn sum_of_packet(p: &[u8]) -> Answer<u64> {
+    sum_of(frame(p)?)
+}
+
+#[inline(never)]
+pub fn sum_of_datagram(p: &[u8]) -> Answer<u64> {
+    sum_of(datagram(p)?.1)
 }
 
 // ---- TLV forms

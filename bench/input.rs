@@ -130,6 +130,17 @@ pub fn data(random: &mut Random, codec: u8, from: usize, to: usize, most: usize)
     out
 }
 
+/// A data field of codec 8 whose records are alike: so many values of one byte in each.
+pub fn alike(random: &mut Random, records: usize, values: usize) -> Vec<u8> {
+    let mut b = vec![0x08, records as u8];
+    for _ in 0..records {
+        let elements: Vec<Element> = (0..values).map(|id| (1, id as u16, random.bytes(1))).collect();
+        record(random, &mut b, 0x08, 1, 1, &elements);
+    }
+    b.push(records as u8);
+    b
+}
+
 /// The data field of a command.
 pub fn command(random: &mut Random, codec: u8, text: usize) -> Vec<u8> {
     let imei = if codec == 0x0E { 8 } else { 0 };

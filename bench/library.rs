@@ -1,6 +1,8 @@
-//! The library's C calls, and the hand-written answers in the same shape.
+//! The library's C calls, its Rust crate where everything in a packet is asked for, and the hand-written answers in the
+//! same shape.
 
-use crate::hand::{self, Answer};
+use crate::hand::{self, sum_of_bytes, sum_of_fields, Answer};
+use brundilope::{Contents, DataDatagram, DataPacket, Records};
 
 macro_rules! answer {
     ($name:ident { $($field:ident: $type:ty),* }) => {
@@ -18,6 +20,7 @@ answer!(Written { written: usize });
 answer!(Packet { codec: u8, count: u8 });
 answer!(Datagram { codec: u8, count: u8, packet_id: u16, unused: u8, avl_packet_id: u8, imei: u64 });
 answer!(Login { imei: u64 });
+answer!(Sum { sum: u64 });
 answer!(Command { codec: u8, kind: u8, imei: u64, offset: usize, size: usize });
 answer!(Record {
     timestamp: u64,
@@ -83,6 +86,38 @@ calls! {
     packet_of_form = brundilope_packet_of_form(form: bytes, out: buffer) -> Written;
 }
 
+// ---- all values, by the Rust crate
+
+impl From<brundilope::Refusal> for hand::Refusal {
+    fn from(r: brundilope::Refusal) -> Self {
+        hand::Refusal { number: r.number as u8, index: r.record.unwrap_or(0) }
+    }
+}
+
+fn sum_of(records: Records) -> u64 {
+    let mut sum = 0u64;
+    for r in records {
+        sum = sum.wrapping_add(sum_of_fields(r.timestamp(), r.longitude(), r.latitude()));
+        for v in r.values() {
+            let value = v.number.unwrap_or_else(|| sum_of_bytes(v.bytes));
+            sum = sum.wrapping_add(u64::from(v.id)).wrapping_add(value);
+        }
+    }
+    sum
+}
+
+#[inline(never)]
+pub fn sum_of_packet(p: &[u8], room: &mut Contents) -> Answer<u64> {
+    Ok(sum_of(DataPacket::read(p, room)?.records()))
+}
+
+#[inline(never)]
+pub fn sum_of_datagram(p: &[u8], room: &mut Contents) -> Answer<u64> {
+    Ok(sum_of(DataDatagram::read(p, room)?.records()))
+}
+
+// ---- shapes
+
 /// A hand-written answer as the library would give it.
 macro_rules! shape {
     ($from:ty, $value:ident => $answer:ident { $($field:ident: $e:expr),* }) => {
@@ -104,6 +139,7 @@ shape!(hand::Datagram, a => Datagram {
     imei: a.imei
 });
 shape!(u64, imei => Login { imei: imei });
+shape!(u64, sum => Sum { sum: sum });
 shape!(hand::Command, a => Command {
     codec: a.codec, kind: a.kind, imei: a.imei, offset: a.offset, size: a.size
 });

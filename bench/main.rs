@@ -1,4 +1,4 @@
-//! The library's C calls beside the same work by hand and with nom: first the answers, then the times.
+//! The library's C calls and its Rust crate beside the same work by hand and with nom: first answers, then times.
 
 mod check;
 mod combinator;
@@ -7,8 +7,9 @@ mod input;
 mod library;
 mod measure;
 
+use brundilope::Contents;
 use input::{Data, Random};
-use measure::{line, Side, HEAD, POOL};
+use measure::{line, time, Side, HEAD, POOL};
 use std::cell::RefCell;
 use std::hint::black_box;
 use std::ops::Range;
@@ -27,12 +28,12 @@ macro_rules! side {
     };
 }
 
-/// All sides of a call: by hand, the library, nom.
+/// All sides of a call: by hand, the library, perhaps with a room of its own, nom.
 macro_rules! sides {
-    ($call:ident(|$i:ident| $($arg:expr),*)) => {
+    ($call:ident(|$i:ident| $($arg:expr),*) $(, $room:expr)?) => {
         [
             side!(hand::$call(|$i| $($arg),*)),
-            side!(library::$call(|$i| $($arg),*)),
+            side!(library::$call(|$i| $($arg),* $(, &mut *$room.borrow_mut())?)),
             side!(combinator::$call(|$i| $($arg),*)),
         ]
     };
@@ -44,6 +45,7 @@ struct Table {
     random: Random,
     budget: Duration,
     out: RefCell<[u8; 6000]>,
+    room: RefCell<Contents>,
 }
 
 impl Table {
@@ -60,6 +62,7 @@ impl Table {
         places.sort_by_key(|&i| calls.iter().position(|call| *call == calls[i]));
         println!("{HEAD}");
         places.iter().for_each(|&i| println!("{}", lines[i].1));
+        println!("\nAll values: the library is its Rust crate here, and nom makes owned records.");
     }
 
     /// Look-ups of any record, and of each packet's last value.
@@ -91,16 +94,49 @@ impl Table {
         self.row("packet_of_form", codecs, &forms, &sides);
     }
 
-    /// The lines of data packets and datagrams of one size, their codecs mixed.
-    fn data_rows(&mut self, codecs: &[u8], name: &str, (from, to): (usize, usize)) {
+    /// The lines of everything in a packet or datagram: all records, all values.
+    fn sum_rows(&self, codecs: &str, tcp: &[Vec<u8>], udp: &[Vec<u8>]) {
+        let room = &self.room;
+        self.row("all values of a packet", codecs, tcp, &sides!(sum_of_packet(|i| &tcp[i][..]), room));
+        let sides = sides!(sum_of_datagram(|i| &udp[i][..]), room);
+        self.row("all values of a datagram (no CRC)", codecs, udp, &sides);
+    }
+
+    /// How the library's time for all values grows with their number.
+    fn growth(&mut self) {
+        let [few, many] = [12, 24].map(|records| {
+            let random = &mut self.random;
+            let data: Vec<_> = (0..POOL).map(|_| input::alike(random, records, 10)).collect();
+            let udp: Vec<_> = data.iter().map(|d| input::udp(random, d)).collect();
+            let side = side!(library::sum_of_datagram(|i| &udp[i][..], &mut *self.room.borrow_mut()));
+            time(self.budget, &udp, side)
+        });
+        let (ratio, least) = (many.0 / few.0, many.1 / few.1);
+        println!("In datagrams of codec 8, by the library, with 10 values of one byte in each record:");
+        println!("12 records {:.1} ({:.1}) ns, 24 records {:.1} ({:.1}) ns,", few.0, few.1, many.0, many.1);
+        println!("which is {ratio:.2} ({least:.2}) times as long.");
+    }
+
+    /// Data fields of one size, their codecs mixed, and packets of them; and datagrams of that size.
+    fn inputs(&mut self, codecs: &[u8], (from, to): (usize, usize)) -> (Vec<Data>, Vec<Vec<u8>>, Vec<Vec<u8>>) {
         let mut field = |from: usize, to: usize| {
             let codec = codecs[self.random.below(codecs.len())];
             input::data(&mut self.random, codec, from, to, 160)
         };
         let data: Vec<_> = (0..POOL).map(|_| field(from - 12, to - 12)).collect();
-        let tcp: Vec<_> = data.iter().map(|d| input::tcp(&d.bytes)).collect();
+        let tcp = data.iter().map(|d| input::tcp(&d.bytes)).collect();
         let small: Vec<_> = (0..POOL).map(|_| field(from.max(70) - 23, to.max(75) - 23)).collect();
-        let udp: Vec<_> = small.iter().map(|d| input::udp(&mut self.random, &d.bytes)).collect();
+        let udp = small.iter().map(|d| input::udp(&mut self.random, &d.bytes)).collect();
+        (data, tcp, udp)
+    }
+
+    /// The lines of data packets and datagrams of one size: all, or only those of everything in them.
+    fn data_rows(&mut self, codecs: &[u8], name: &str, size: (usize, usize), all: bool) {
+        let (data, tcp, udp) = self.inputs(codecs, size);
+        self.sum_rows(name, &tcp, &udp);
+        if !all {
+            return;
+        }
         self.row("read_packet", name, &tcp, &sides!(read_packet(|i| &tcp[i][..])));
         self.row("read_datagram (no CRC)", name, &udp, &sides!(read_datagram(|i| &udp[i][..])));
         self.lookup_rows(name, &data, &tcp);
@@ -138,7 +174,7 @@ fn main() {
         None => false,
         Some("--full") => true,
         Some(word) => {
-            eprintln!("bench: unknown word {word}; there is --full: every codec by itself, and a middle size");
+            eprintln!("bench: unknown word {word}; there is --full: every codec by itself, and all lines at all sizes");
             std::process::exit(2);
         }
     };
@@ -150,18 +186,20 @@ fn main() {
 
     let before = load();
     let budget = Duration::from_millis(if full { 1200 } else { 4000 });
-    let mut table = Table { lines: RefCell::default(), random, budget, out: RefCell::new([0; 6000]) };
+    let mut table =
+        Table { lines: RefCell::default(), random, budget, out: RefCell::new([0; 6000]), room: RefCell::default() };
     for size in SIZES {
         if full {
-            CODECS.iter().for_each(|&(codec, name)| table.data_rows(&[codec], name, size));
-        } else if size != SIZES[1] {
-            table.data_rows(&CODECS.map(|c| c.0), "all", size);
+            CODECS.iter().for_each(|&(codec, name)| table.data_rows(&[codec], name, size, true));
+        } else {
+            table.data_rows(&CODECS.map(|c| c.0), "all", size, size != SIZES[1]);
         }
     }
     table.command_rows(10);
     table.command_rows(1000);
     table.login_row();
     table.print();
+    table.growth();
     let cores = std::thread::available_parallelism().map_or(0, usize::from);
     println!("\n{cores} cores; load average {before} at the start and {} at the end.", load());
 }

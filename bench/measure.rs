@@ -55,6 +55,11 @@ fn figures(mut t: Vec<f64>) -> (f64, f64) {
     (t[t.len() / 2], t[0])
 }
 
+/// Measures one side by itself: the median and the least.
+pub fn time(budget: Duration, inputs: &[Vec<u8>], side: Side) -> (f64, f64) {
+    figures(measure(budget, inputs, &[side]).remove(0))
+}
+
 /// The head of the table.
 pub const HEAD: &str = "\
 | call | codecs | bytes | by hand, ns | library, ns | library / hand | nom, ns | nom / hand |

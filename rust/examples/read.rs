@@ -1,13 +1,15 @@
 //! Reads a TCP data packet from standard input and prints what is in it: `cargo run --example read <FILE`
 use std::io::Read;
 
-use brundilope::{read_packet, records_in_packet, Refusal};
+use brundilope::{Contents, DataPacket, Refusal};
 
 fn show(bytes: &[u8]) -> Result<(), Refusal> {
-    let packet = read_packet(bytes)?;
-    println!("codec {:02X}, records {}", packet.codec, packet.count);
-    for r in records_in_packet(bytes)? {
-        println!("time {}, longitude {}, latitude {}, values {}", r.timestamp, r.longitude, r.latitude, r.elements);
+    let mut room = Contents::new();
+    let packet = DataPacket::read(bytes, &mut room)?;
+    println!("codec {:02X}, records {}", packet.codec(), packet.count());
+    for r in packet.records() {
+        let (time, longitude, latitude) = (r.timestamp(), r.longitude(), r.latitude());
+        println!("time {time}, longitude {longitude}, latitude {latitude}, values {}", r.values().len());
     }
     Ok(())
 }

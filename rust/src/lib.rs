@@ -3,23 +3,27 @@
 //!
 //! The work is done by a library in Rattle, whose every call is proved against definitions of the protocol. This crate
 //! is a safe face of it: functions take slices and give structs, or a [`Refusal`] with its number, meaning and record.
-//! Every call judges its whole input anew, every input gets an answer, and nothing is allocated.
+//! Every input gets an answer, and nothing is allocated unless an owned copy is asked for.
+//!
+//! A [`DataPacket`] or [`DataDatagram`] is judged once and then has all its records and values at hand:
 //!
 //! ```
-//! use brundilope::{acknowledge_packet, records_in_packet, samples, values_in_packet};
+//! use brundilope::{samples, Contents, DataPacket};
 //!
-//! let packet = samples::CODEC16;
-//! for (n, record) in records_in_packet(packet)?.enumerate() {
-//!     println!("{} {} {}", record.timestamp, record.longitude, record.latitude);
-//!     for value in values_in_packet(packet, n)? {
+//! let mut room = Contents::new();
+//! let packet = DataPacket::read(samples::CODEC16, &mut room)?;
+//! for record in packet.records() {
+//!     println!("{} {} {}", record.timestamp(), record.longitude(), record.latitude());
+//!     for value in record.values() {
 //!         println!("  ID {}: {:02X?}", value.id, value.bytes);
 //!     }
 //! }
-//! let mut answer = [0; 4];
-//! acknowledge_packet(packet, &mut answer)?;
-//! assert_eq!(answer, [0, 0, 0, 2]);
+//! assert_eq!(packet.ack(), [0, 0, 0, 2]);
 //! # Ok::<(), brundilope::Refusal>(())
 //! ```
+//!
+//! The functions are for one thing at a time, such as a value by its ID ([`id_in_packet`]): each call judges its whole
+//! input anew.
 //!
 //! # Buffers
 //!
@@ -41,22 +45,28 @@ pub const LARGEST: usize = 1280;
 /// The most bytes of a TLV form: it has at most four times as many as its packet.
 pub const LARGEST_FORM: usize = 4 * LARGEST;
 
+/// The most words of a table of contents: it has at most one for every two bytes of its packet or datagram.
+pub const LARGEST_CONTENTS: usize = LARGEST / 2;
+
+mod contents;
 #[cfg(test)]
 mod layouts;
 mod lookup;
 #[allow(unsafe_code)]
 mod raw;
 mod reading;
+mod records;
 mod refusal;
 pub mod samples;
 mod writing;
 
+pub use contents::{Contents, DataDatagram, DataPacket, OwnedDatagram, OwnedPacket};
 pub use lookup::{
-    id_in_datagram, id_in_packet, last_known, record_in_datagram, record_in_packet, records_in_datagram,
-    records_in_packet, value_in_datagram, value_in_packet, values_in_datagram, values_in_packet, LastKnown, Record,
-    Source, Value,
+    id_in_datagram, id_in_packet, last_known, record_in_datagram, record_in_packet, value_in_datagram, value_in_packet,
+    LastKnown, Record, Source, Value,
 };
 pub use reading::{read_command, read_datagram, read_login, read_packet, Command, Datagram, Login, Packet};
+pub use records::{DataRecord, Records, Values};
 pub use refusal::Refusal;
 pub use writing::{
     acknowledge_datagram, acknowledge_packet, answer_login, form_of_datagram, form_of_packet, packet_of_form,

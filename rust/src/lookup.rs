@@ -1,6 +1,7 @@
 //! Records and values, by number and by ID.
+use std::fmt::{Display, Formatter, Result as Printed};
+
 use crate::raw;
-use crate::reading::{read_datagram, read_packet, view};
 use crate::refusal::{data_judged, Refusal};
 
 /// A record's fixed fields, and the number of its elements.
@@ -31,6 +32,20 @@ pub struct Record {
 }
 
 /// An element and its value.
+///
+/// It prints its ID, and the value as a number or, where the length is variable, as hexadecimal bytes:
+///
+/// ```
+/// use brundilope::{id_in_packet, samples, Value};
+///
+/// let voltage = id_in_packet(samples::CODEC8, 0, 66)?;
+/// assert_eq!(voltage, Value { id: 66, kind: 2, offset: 43, bytes: &[0x5E, 0x0F], number: Some(24_079) });
+/// assert_eq!(voltage.to_string(), "ID 66: 24079");
+///
+/// let tag = Value { id: 385, kind: 9, offset: 43, bytes: &[0x5E, 0x0F], number: None };
+/// assert_eq!(tag.to_string(), "ID 385: 5E0F");
+/// # Ok::<(), brundilope::Refusal>(())
+/// ```
 #[derive(Clone, Copy, Debug, PartialEq, Eq, Hash)]
 pub struct Value<'a> {
     /// The IO ID.
@@ -41,6 +56,32 @@ pub struct Value<'a> {
     pub offset: usize,
     /// The value's bytes, which lie within its record.
     pub bytes: &'a [u8],
+    /// The unsigned number in a value of 1, 2, 4 or 8 bytes; none in one of variable length.
+    pub number: Option<u64>,
+}
+
+impl<'a> Value<'a> {
+    /// The element whose value is `size` bytes of an input.
+    #[inline]
+    pub(crate) fn new(input: &'a [u8], id: u16, kind: u8, offset: usize, size: usize) -> Self {
+        let end = offset + size;
+        // The number is cut from the eight bytes that end with the value, which are there: the record's fixed fields
+        // stand before it. So no jump depends on the width; elements of all widths follow one another.
+        let last = input[..end].last_chunk().map_or(0, |bytes| u64::from_be_bytes(*bytes));
+        let before = 64_u32.wrapping_sub(8 * u32::from(kind)) % 64;
+        let number = (kind <= 8).then_some(last << before >> before);
+        Value { id, kind, offset, bytes: &input[offset..end], number }
+    }
+}
+
+impl Display for Value<'_> {
+    fn fmt(&self, f: &mut Formatter<'_>) -> Printed {
+        write!(f, "ID {}: ", self.id)?;
+        match self.number {
+            Some(number) => write!(f, "{number}"),
+            None => self.bytes.iter().try_for_each(|byte| write!(f, "{byte:02X}")),
+        }
+    }
 }
 
 /// Which of two packets holds the last known value.
@@ -80,12 +121,7 @@ fn record(a: raw::Record) -> Result<Record, Refusal> {
 
 fn value(a: raw::Value, input: &[u8]) -> Result<Value<'_>, Refusal> {
     data_judged(a.number, a.index)?;
-    Ok(Value { id: a.id, kind: a.kind, offset: a.offset, bytes: view(input, a.offset, a.size) })
-}
-
-/// All answers of a look-up by number.
-fn all<T>(count: usize, look_up: impl Fn(usize) -> Result<T, Refusal>) -> impl ExactSizeIterator<Item = T> {
-    (0..count).map(move |n| look_up(n).expect("an accepted packet has what it counts"))
+    Ok(Value::new(input, a.id, a.kind, a.offset, a.size))
 }
 
 /// A record of a TCP data packet by its number, from 0. Refusals 1 to 12, then 16.
@@ -184,60 +220,5 @@ pub fn last_known<'a>(newer: &'a [u8], older: &'a [u8], id: u16) -> Result<LastK
     let a = raw::last_known(newer, older, id);
     data_judged(a.number, a.index)?;
     let (source, input) = if a.older { (Source::Older, older) } else { (Source::Newer, newer) };
-    let bytes = view(input, a.offset, a.size);
-    Ok(LastKnown { source, value: Value { id: a.id, kind: a.kind, offset: a.offset, bytes } })
-}
-
-/// All records of a TCP data packet in order. Refusals 1 to 12. Each step judges the whole packet anew.
-///
-/// ```
-/// let records = brundilope::records_in_packet(brundilope::samples::CODEC16)?;
-/// let times: Vec<u64> = records.map(|record| record.timestamp).collect();
-/// assert_eq!(times, [1_562_760_414_000, 1_562_760_415_000]);
-/// # Ok::<(), brundilope::Refusal>(())
-/// ```
-pub fn records_in_packet(packet: &[u8]) -> Result<impl ExactSizeIterator<Item = Record> + '_, Refusal> {
-    let count = usize::from(read_packet(packet)?.count);
-    Ok(all(count, move |n| record_in_packet(packet, n)))
-}
-
-/// All records of a datagram in order. Refusals 1, 3, 4, 15, 6 to 12. Each step judges the whole datagram anew.
-///
-/// ```
-/// let mut records = brundilope::records_in_datagram(brundilope::samples::UDP_CODEC8E)?;
-/// assert_eq!(records.next().map(|record| record.elements), Some(5));
-/// assert_eq!(records.next(), None);
-/// # Ok::<(), brundilope::Refusal>(())
-/// ```
-pub fn records_in_datagram(datagram: &[u8]) -> Result<impl ExactSizeIterator<Item = Record> + '_, Refusal> {
-    let count = usize::from(read_datagram(datagram)?.count);
-    Ok(all(count, move |n| record_in_datagram(datagram, n)))
-}
-
-/// All values of a record of a TCP data packet in order. Refusals 1 to 12, then 16. Each step judges the whole packet
-/// anew.
-///
-/// ```
-/// let values = brundilope::values_in_packet(brundilope::samples::CODEC8, 0)?;
-/// let ids: Vec<u16> = values.map(|value| value.id).collect();
-/// assert_eq!(ids, [21, 1, 66, 241, 78]);
-/// # Ok::<(), brundilope::Refusal>(())
-/// ```
-pub fn values_in_packet(packet: &[u8], record: usize) -> Result<impl ExactSizeIterator<Item = Value<'_>>, Refusal> {
-    let count = record_in_packet(packet, record)?.elements;
-    Ok(all(count, move |k| value_in_packet(packet, record, k)))
-}
-
-/// All values of a record of a datagram in order. Refusals 1, 3, 4, 15, 6 to 12, then 16. Each step judges the whole
-/// datagram anew.
-///
-/// ```
-/// let values = brundilope::values_in_datagram(brundilope::samples::UDP_CODEC8, 0)?;
-/// let sizes: Vec<usize> = values.map(|value| value.bytes.len()).collect();
-/// assert_eq!(sizes, [1, 1, 2]);
-/// # Ok::<(), brundilope::Refusal>(())
-/// ```
-pub fn values_in_datagram(datagram: &[u8], record: usize) -> Result<impl ExactSizeIterator<Item = Value<'_>>, Refusal> {
-    let count = record_in_datagram(datagram, record)?.elements;
-    Ok(all(count, move |k| value_in_datagram(datagram, record, k)))
+    Ok(LastKnown { source, value: Value::new(input, a.id, a.kind, a.offset, a.size) })
 }

@@ -1,4 +1,6 @@
 //! The archive's calls, declared as in include/brundilope.h, each behind a safe function. All `unsafe` is here.
+use core::mem::MaybeUninit;
+use core::slice;
 
 #[repr(C)]
 pub struct Packet {
@@ -130,6 +132,30 @@ into_buffer! {
     form_of_packet, brundilope_form_of_packet();
     form_of_datagram, brundilope_form_of_datagram();
     packet_of_form, brundilope_packet_of_form();
+}
+
+/// Declares calls that write the table of contents of one input into lent words; they give the words written, too.
+macro_rules! into_words {
+    ($($safe:ident, $call:ident;)*) => {
+        extern "C" {
+            $(fn $call(p: *const u8, p_len: usize, out: *mut u64, out_len: usize) -> Written;)*
+        }
+        $(#[inline]
+        pub fn $safe<'a>(p: &[u8], out: &'a mut [MaybeUninit<u64>]) -> (Written, &'a [u64]) {
+            // SAFETY: pointers and lengths are those of two slices, which do not overlap since one is `&mut`; the call
+            // writes only within the second, does not read it and keeps none of them.
+            let answer = unsafe { $call(p.as_ptr(), p.len(), out.as_mut_ptr().cast(), out.len()) };
+            let written = &out[..answer.written];
+            // SAFETY: the call has written the first `answer.written` words of `out`, and these are they.
+            let words = unsafe { slice::from_raw_parts(written.as_ptr().cast(), written.len()) };
+            (answer, words)
+        })*
+    };
+}
+
+into_words! {
+    contents_of_packet, brundilope_contents_of_packet;
+    contents_of_datagram, brundilope_contents_of_datagram;
 }
 
 extern "C" {

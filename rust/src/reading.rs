@@ -50,10 +50,10 @@ pub struct Command<'a> {
     pub text: &'a [u8],
 }
 
-/// The `size` bytes of an input from `offset` on.
+/// The `size` bytes of an input from `offset` on: the library's views lie within their input.
+#[inline]
 pub(crate) fn view(input: &[u8], offset: usize, size: usize) -> &[u8] {
-    let place = input.get(offset..).and_then(|rest| rest.get(..size));
-    place.expect("the library's views lie within their input")
+    &input[offset..offset + size]
 }
 
 /// Reads a TCP data packet. Refusals 1 to 12.

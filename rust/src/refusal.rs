@@ -72,6 +72,7 @@ impl Display for Refusal {
 impl Error for Refusal {}
 
 /// The judgement of a login, command or form, which have no records: `number` is 0 where it is accepted.
+#[inline]
 pub(crate) fn judged(number: usize) -> Result<(), Refusal> {
     match number {
         0 => Ok(()),
@@ -80,6 +81,7 @@ pub(crate) fn judged(number: usize) -> Result<(), Refusal> {
 }
 
 /// The judgement of a data packet or datagram, with the record's index.
+#[inline]
 pub(crate) fn data_judged(number: usize, index: usize) -> Result<(), Refusal> {
     let record = (8..=12).contains(&number).then_some(index);
     judged(number).map_err(|refusal| Refusal { record, ..refusal })

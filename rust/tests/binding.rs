@@ -1,74 +1,13 @@
 //! What a wrong binding would get wrong: fields in another's place, offsets, records of refusals, lent buffers.
 use brundilope::*;
+use inputs::{datagram, long_form, packet, with, DATA, RECORD, VALUES};
 
-/// Codec 8 Extended, two records; in the second no two fields are alike.
-const DATA: [u8; 113] = [
-    0x8E, 2, // codec, count
-    0, 0, 0, 0, 0, 0, 0x03, 0xE8, 0, 0, 0, 0, 0, 0, 0, 0, 0, 0, 0, 0, 0, 0, 0, 0, // record 0
-    0, 0, 0, 0, 0, 0, 0, 0, 0, 0, 0, 0, 0, 0, // no elements
-    0x01, 0x02, 0x03, 0x04, 0x05, 0x06, 0x07, 0x08, 2, // record 1: timestamp, priority
-    0xFF, 0xFF, 0xFF, 0xFF, 0x20, 0x9C, 0xCA, 0x80, 0xFE, 0xD4, // longitude, latitude, altitude
-    0x01, 0x67, 7, 0x00, 0x5A, 0x01, 0xFF, 0, 4, // angle, satellites, speed, event ID, total
-    0, 1, 0x00, 0x15, 0x03, // a value of one byte
-    0, 1, 0x01, 0x02, 0x11, 0x12, // of two
-    0, 1, 0x02, 0x03, 0x21, 0x22, 0x23, 0x24, // of four
-    0, 1, 0x03, 0x04, 0x31, 0x32, 0x33, 0x34, 0x35, 0x36, 0x37, 0x38, // of eight
-    0, 2, 0x04, 0x05, 0, 3, b't', b'a', b'g', 0x05, 0x06, 0, 0, // two of variable length
-    2, // count again
-];
+mod inputs;
 
 const PRIORITY: usize = 48;
 const TOTAL: usize = 67;
 const VARIABLE_COUNT: usize = 100;
 const TAG: usize = 103;
-
-const RECORD: Record = Record {
-    timestamp: 0x0102_0304_0506_0708,
-    priority: 2,
-    longitude: -1,
-    latitude: 547_146_368,
-    altitude: -300,
-    angle: 359,
-    satellites: 7,
-    speed: 90,
-    event: 511,
-    generation: 0,
-    elements: 6,
-};
-
-/// The elements of record 1, with offsets in the data field.
-const VALUES: [Value; 6] = [
-    Value { id: 0x0015, kind: 1, offset: 72, bytes: &[0x03] },
-    Value { id: 0x0102, kind: 2, offset: 77, bytes: &[0x11, 0x12] },
-    Value { id: 0x0203, kind: 4, offset: 83, bytes: &[0x21, 0x22, 0x23, 0x24] },
-    Value { id: 0x0304, kind: 8, offset: 91, bytes: &[0x31, 0x32, 0x33, 0x34, 0x35, 0x36, 0x37, 0x38] },
-    Value { id: 0x0405, kind: 9, offset: 105, bytes: b"tag" },
-    Value { id: 0x0506, kind: 9, offset: 112, bytes: b"" },
-];
-
-fn crc(data: &[u8]) -> u16 {
-    data.iter().fold(0, |crc, byte| {
-        (0..8).fold(crc ^ u16::from(*byte), |c, _| if c & 1 == 1 { c >> 1 ^ 0xA001 } else { c >> 1 })
-    })
-}
-
-/// The TCP packet around a data field. Its block has its exact size, so that a tool sees a read past it.
-fn packet(data: &[u8]) -> Vec<u8> {
-    let length = u32::try_from(data.len()).unwrap();
-    [&[0; 4], &length.to_be_bytes()[..], data, &[0; 2], &crc(data).to_be_bytes()].concat()
-}
-
-/// The datagram around a data field: packet ID 0x1234, unused byte 0x56, AVL packet ID 0x78.
-fn datagram(data: &[u8]) -> Vec<u8> {
-    let length = u16::try_from(data.len() + 21).unwrap();
-    [&length.to_be_bytes()[..], b"\x12\x34\x56\x78\x00\x0F001020304050607", data].concat()
-}
-
-fn with(data: &[u8], place: usize, byte: u8) -> Vec<u8> {
-    let mut changed = data.to_vec();
-    changed[place] = byte;
-    changed
-}
 
 #[test]
 fn fields_stand_in_their_places() {
@@ -84,8 +23,6 @@ fn fields_stand_in_their_places() {
     assert_eq!(read_datagram(&datagram(&DATA)), Ok(read));
     assert_eq!(record_in_packet(&packet(&DATA), 1), Ok(RECORD));
     assert_eq!(record_in_datagram(&datagram(&DATA), 1), Ok(RECORD));
-    assert_eq!(records_in_packet(&packet(&DATA)).unwrap().last(), Some(RECORD));
-    assert_eq!(records_in_datagram(&datagram(&DATA)).unwrap().last(), Some(RECORD));
     assert_eq!(record_in_packet(samples::CODEC16, 0).map(|r| (r.event, r.generation)), Ok((11, 5)));
 }
 
@@ -93,14 +30,13 @@ fn fields_stand_in_their_places() {
 fn values_are_views_of_the_input() {
     let (packet, datagram) = (packet(&DATA), datagram(&DATA));
     let moved = |by| VALUES.map(|v| Value { offset: v.offset + by, ..v });
-    assert_eq!(values_in_packet(&packet, 1).unwrap().collect::<Vec<_>>(), moved(8));
-    assert_eq!(values_in_datagram(&datagram, 1).unwrap().collect::<Vec<_>>(), moved(23));
-    assert_eq!(values_in_packet(&packet, 0).unwrap().len(), 0);
-    for value in moved(8) {
+    for (n, value) in moved(8).into_iter().enumerate() {
         assert_eq!(packet[value.offset..][..value.bytes.len()], *value.bytes);
+        assert_eq!(value_in_packet(&packet, 1, n), Ok(value));
         assert_eq!(id_in_packet(&packet, 1, value.id), Ok(value));
     }
-    for value in moved(23) {
+    for (n, value) in moved(23).into_iter().enumerate() {
+        assert_eq!(value_in_datagram(&datagram, 1, n), Ok(value));
         assert_eq!(id_in_datagram(&datagram, 1, value.id), Ok(value));
     }
 }
@@ -111,7 +47,7 @@ fn the_last_known_value_says_its_packet() {
     let found = |source, id| last_known(&newer, samples::CODEC8, id).map(|k| (k.source == source, k.value));
     let tag = Value { offset: 113, ..VALUES[4] };
     assert_eq!(found(Source::Newer, 0x0405), Ok((true, tag)));
-    let voltage = Value { id: 66, kind: 2, offset: 43, bytes: &[0x5E, 0x0F] };
+    let voltage = Value { id: 66, kind: 2, offset: 43, bytes: &[0x5E, 0x0F], number: Some(24_079) };
     assert_eq!(found(Source::Older, 66), Ok((true, voltage)));
     assert_eq!(found(Source::Older, 67), Err(Refusal { number: 16, record: None }));
 }
@@ -130,10 +66,8 @@ fn a_refusal_says_its_record() {
     assert_eq!(value_in_datagram(d, 1, 0).err(), Some(refusal));
     assert_eq!(id_in_packet(p, 1, 21).err(), Some(refusal));
     assert_eq!(id_in_datagram(d, 1, 21).err(), Some(refusal));
-    assert_eq!(records_in_packet(p).err(), Some(refusal));
-    assert_eq!(records_in_datagram(d).err(), Some(refusal));
-    assert_eq!(values_in_packet(p, 0).err(), Some(refusal));
-    assert_eq!(values_in_datagram(d, 0).err(), Some(refusal));
+    assert_eq!(DataPacket::read(p, &mut Contents::new()).err(), Some(refusal));
+    assert_eq!(DataDatagram::read(d, &mut Contents::new()).err(), Some(refusal));
     assert_eq!(last_known(p, samples::CODEC8, 21).err(), Some(refusal));
     assert_eq!(last_known(samples::CODEC8, p, 67).err(), Some(refusal));
     assert_eq!(form_of_packet(p, out), Err(refusal));
@@ -204,19 +138,6 @@ fn writers_keep_to_their_result() {
     }
 }
 
-/// The TLV form of codec 8 with five records: the last with so many values of one byte and one of two bytes, the others
-/// with as many of one byte as a record has room for.
-fn long_form(last: usize) -> Vec<u8> {
-    let mut form = vec![1, 0, 100, 0, 0x08];
-    for count in [112, 112, 112, 112, last] {
-        form.extend([27, 0, 101, 0]);
-        form.extend([0; 27]);
-        form.extend([3, 0, 1, 0, 9, 0, 5].repeat(count));
-    }
-    form.extend([4, 0, 2, 0, 9, 0, 5, 6]);
-    form
-}
-
 #[test]
 fn the_longest_form_fits_its_buffer() {
     // Values of one byte in codec 8 grow most; this packet has no room for a byte more.
@@ -272,6 +193,8 @@ fn sizes_are_those_of_the_header_and_the_library() {
     assert!(header.contains(&format!("\n#define BRUNDILOPE_LARGEST {LARGEST}\n")));
     assert!(header.contains("\n#define BRUNDILOPE_LARGEST_FORM (4 * BRUNDILOPE_LARGEST)\n"));
     assert_eq!(LARGEST_FORM, 4 * LARGEST);
+    assert!(header.contains("\n#define BRUNDILOPE_LARGEST_CONTENTS (BRUNDILOPE_LARGEST / 2)\n"));
+    assert_eq!(LARGEST_CONTENTS, LARGEST / 2);
     let text = [0; LARGEST - 19]; // one byte too many: 20 bytes of a packet are not text
     let mut out = [0; LARGEST];
     assert_eq!(write_command(0x0C, 0x05, b"", &text[1..], &mut out), Ok(LARGEST));

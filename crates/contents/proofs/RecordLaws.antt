@@ -7,6 +7,7 @@ use lib.ListN.{length, set, length-append}
 use lib.Seq.{sets}
 use Rattle.wire.specs.Numbers.{Bytes, numberAt}
 use Rattle.wire.specs.Reading.{got}
+use Rattle.wire.proofs.Shifts.{number-add}
 use Rattle.avl.specs.declared.Widths.{Widths}
 use Rattle.avl.specs.Codecs.{kinds}
 use Rattle.avl.specs.Records.{Fixed, AvlRecord, elementCount, recordBytes, GroupsRules, FixedRules}
@@ -58,22 +59,50 @@ module _ (w : Widths) {s : List ℕ} {at to : ℕ} (k : Ready (plainRecord w) s 
       let rules = fixed-exact w .sound s at (k .bytes) (k .inside) .if-got _ _ (whole .fixed) .1 in
       (omega (arith, rules .priorityRange, ap (λ (f : Fixed). f .priority) (fixed .is)), omega (arith, rules .generationRange, ap (λ (f : Fixed). f .generation) (fixed .is)))
 
-  -- the four words, as they are made of the bytes
-  abbrev laterWords : ℕ → ℕ → ℕ → List ℕ
-  laterWords start size count =
-      (numberAt s (at + 9) 4 + 2 ^ 32 * numberAt s (at + 13) 4)
-      ∷ quad (numberAt s (at + 17) 2) (numberAt s (at + 19) 2) (numberAt s (at + 22) 2) (numberAt s (at + 21) 1 + 2 ^ 8 * numberAt s (at + 8) 1 + 2 ^ 12 * numberAt s (at + 24 + w .event) (w .generation))
-      ∷ quad (numberAt s (at + 24) (w .event)) start size count
-      ∷ []
+  -- coordinates, and what follows them, are read at once
+  coordinates-are : numberAt s (at + 9) 8 ≡ numberAt s (at + 13) 4 + 2 ^ 32 * numberAt s (at + 9) 4
+  coordinates-are =
+      let second : at + 9 + 4 ≡ at + 13 = omega arith in
+      omega (arith, number-add s (at + 9) 4 4, ap (λ (n : ℕ). numberAt s n 4) second)
 
-  pub head-stored : (start size count : ℕ) (before : List ℕ) {after : List ℕ} → after ≡ sets before to (numberAt s at 8 ∷ laterWords start size count)
+  motion-are : numberAt s (at + 17) 7
+      ≡ numberAt s (at + 22) 2 + 2 ^ 16 * numberAt s (at + 21) 1 + 2 ^ 24 * numberAt s (at + 19) 2 + 2 ^ 40 * numberAt s (at + 17) 2
+  motion-are =
+      let angle : at + 17 + 2 ≡ at + 19 = omega arith in
+      let satellites : at + 19 + 2 ≡ at + 21 = omega arith in
+      let speed : at + 21 + 1 ≡ at + 22 = omega arith in
+      omega (
+        arith,
+        number-add s (at + 17) 2 5,
+        number-add s (at + 19) 2 3,
+        number-add s (at + 21) 1 2,
+        ap (λ (n : ℕ). numberAt s n 5) angle,
+        ap (λ (n : ℕ). numberAt s n 3) satellites,
+        ap (λ (n : ℕ). numberAt s n 2) speed,
+      )
+
+  -- the four words, as they are made of the bytes
+  abbrev lastWords : ℕ → ℕ → ℕ → List ℕ
+  lastWords start size count = quad (numberAt s (at + 24) (w .event)) start size count ∷ []
+
+  pub head-stored : (start size count : ℕ) (before : List ℕ) {after : List ℕ}
+      → after
+      ≡ sets before to
+      (numberAt s at 8
+      ∷ numberAt s (at + 9) 8
+      ∷ (numberAt s (at + 17) 7 + 2 ^ 56 * numberAt s (at + 8) 1 + 2 ^ 60 * numberAt s (at + 24 + w .event) (w .generation))
+      ∷ lastWords start size count)
       → (r : AvlRecord) (n : ℕ) → plainRecord w s at ≡ got r n → after ≡ sets before to (recordWords (r .fixed) start size count)
   unfolding recordWords
   head-stored start size count before e r n i =
-      let first : at ≡ at + 0 = omega arith in
+      let front : at ≡ at + 0 = omega arith in
+      let first = ap (λ (j : ℕ). numberAt s j 8) front in
+      let third : numberAt s (at + 17) 7 + 2 ^ 56 * numberAt s (at + 8) 1 + 2 ^ 60 * numberAt s (at + 24 + w .event) (w .generation)
+      ≡ numberAt s (at + 22) 2 + 2 ^ 16 * numberAt s (at + 21) 1 + 2 ^ 24 * numberAt s (at + 19) 2 + 2 ^ 40 * numberAt s (at + 17) 2 + 2 ^ 56 * numberAt s (at + 8) 1
+      + 2 ^ 60 * numberAt s (at + 24 + w .event) (w .generation) = omega (arith, motion-are) in
       let same : fixedAt w s at ≡ r .fixed = sym (fixed .is) ∙ ap (λ (x : AvlRecord). x .fixed) (got-same (k .reads) i .0) in
       e
-      ∙ ap (λ (j : ℕ). sets before to (numberAt s j 8 ∷ laterWords start size count)) first
+      ∙ (λ j. sets before to (first j ∷ coordinates-are j ∷ third j ∷ lastWords start size count))
       ∙ ap (λ (f : Fixed). sets before to (recordWords f start size count)) same
 
   -- ---- the elements behind them

@@ -19,12 +19,12 @@ quad a b c d = a + 2 ^ 16 * b + 2 ^ 32 * c + 2 ^ 48 * d
 unfoldable pub titleWords : DataResult → Header → List ℕ
 titleWords d h = quad (d .codec) (d .count) (h .packet) (h .unused + 2 ^ 8 * h .avl) ∷ h .imei ∷ []
 
--- a record's fixed fields, where it starts in the input, how many bytes and how many elements it has
+-- a record's fixed fields, the coordinates and what follows them in the order of their bytes; where the record starts in the input, how many bytes and how many elements it has
 unfoldable pub recordWords : Fixed → ℕ → ℕ → ℕ → List ℕ
 recordWords f start size elements =
     f .timestamp
-    ∷ (f .longitude + 2 ^ 32 * f .latitude)
-    ∷ quad (f .altitude) (f .angle) (f .speed) (f .satellites + 2 ^ 8 * f .priority + 2 ^ 12 * f .generation)
+    ∷ (f .latitude + 2 ^ 32 * f .longitude)
+    ∷ (f .speed + 2 ^ 16 * f .satellites + 2 ^ 24 * f .angle + 2 ^ 40 * f .altitude + 2 ^ 56 * f .priority + 2 ^ 60 * f .generation)
     ∷ quad (f .event) start size elements
     ∷ []
 
@@ -49,12 +49,12 @@ unfoldable pub recordOf : List ℕ → RecordFields
 recordOf t =
     record {
       timestamp = getD t 0 0;
-      longitude = signed 4 (bits (getD t 1 0) 0 32);
-      latitude = signed 4 (bits (getD t 1 0) 32 32);
-      altitude = signed 2 (bits (getD t 2 0) 0 16);
-      angle = bits (getD t 2 0) 16 16;
-      speed = bits (getD t 2 0) 32 16;
-      satellites = bits (getD t 2 0) 48 8;
+      latitude = signed 4 (bits (getD t 1 0) 0 32);
+      longitude = signed 4 (bits (getD t 1 0) 32 32);
+      speed = bits (getD t 2 0) 0 16;
+      satellites = bits (getD t 2 0) 16 8;
+      angle = bits (getD t 2 0) 24 16;
+      altitude = signed 2 (bits (getD t 2 0) 40 16);
       priority = bits (getD t 2 0) 56 4;
       generation = bits (getD t 2 0) 60 4;
       event = bits (getD t 3 0) 0 16;

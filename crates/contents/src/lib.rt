@@ -1,7 +1,6 @@
 // A packet's table of contents: judged once, then all its records and values in a lent buffer of words.
 use avl::Widths;
 use datagram::DatagramAnswer;
-use datagram::Header;
 use traverse::Moved;
 use walk::DataWalk;
 use wire::Refusal;
@@ -114,32 +113,19 @@ fn put_groups(w: Widths, base: usize, s: &[u8], at: usize, out: &mut [u64], to: 
 
 // ---- the words of a record
 
-// Longitude and latitude.
-fn coordinates(s: &[u8], at: usize) -> u64
-    requires { ⌜ at + 24 ≤ length (now s) ⌝ }
-    ensures { λ r. ⌜ r ≡ numberAt (now (s .entry)) (at + 9) 4 + 2 ^ 32 * numberAt (now (s .entry)) (at + 13) 4 ⌝ }
-{
-    (wire::be32(s, at + 9) as u64) + 0x1_0000_0000 * (wire::be32(s, at + 13) as u64)
-}
-
-// Altitude, angle and speed; satellites, priority and generation type.
+// Altitude, angle, satellites and speed as they stand, below priority and generation type.
 fn motion(w: Widths, s: &[u8], at: usize) -> u64
     requires { ⌜ Narrow w ⌝ }
     requires { ⌜ at + 24 + w .event + w .generation ≤ length (now s) ⌝ }
     requires { ⌜ (numberAt (now s) (at + 8) 1 ≤ 2) × (numberAt (now s) (at + 24 + w .event) (w .generation) ≤ 7) ⌝ }
-    ensures { λ r. ⌜ r ≡ quad (numberAt (now (s .entry)) (at + 17) 2) (numberAt (now (s .entry)) (at + 19) 2) (numberAt (now (s .entry)) (at + 22) 2) (numberAt (now (s .entry)) (at + 21) 1 + 2 ^ 8 * numberAt (now (s .entry)) (at + 8) 1 + 2 ^ 12 * numberAt (now (s .entry)) (at + 24 + w .event) (w .generation)) ⌝ }
+    ensures { λ r. ⌜ r ≡ numberAt (now (s .entry)) (at + 17) 7 + 2 ^ 56 * numberAt (now (s .entry)) (at + 8) 1 + 2 ^ 60 * numberAt (now (s .entry)) (at + 24 + w .event) (w .generation) ⌝ }
 {
     let event = w.event;
     let generation = w.generation;
-    let satellites = wire::short_number(s, at + 21, 1);
+    let low = wire::be64(s, at + 16) % 0x100_0000_0000_0000;
     let priority = wire::short_number(s, at + 8, 1);
     let reason = wire::short_number(s, at + 24 + event, generation);
-    quad_word(
-        wire::be16(s, at + 17) as u64,
-        wire::be16(s, at + 19) as u64,
-        wire::be16(s, at + 22) as u64,
-        satellites + 0x100 * priority + 0x1000 * reason,
-    )
+    low + 0x100_0000_0000_0000 * priority + 0x1000_0000_0000_0000 * reason
 }
 
 // Event ID; where the record starts in the input, its bytes, its elements.
@@ -172,7 +158,7 @@ fn put_head(
     ensures { λ _. ⌜ ((r : AvlRecord) (n : ℕ) → plainRecord w (now (s .entry)) at ≡ got r n → now (out .exit) ≡ sets (now (out .entry)) to (recordWords (r .fixed) (base + at) size elements)) ⌝ }
 {
     store::store_word(out, to, wire::be64(s, at));
-    store::store_word(out, to + 1, coordinates(s, at));
+    store::store_word(out, to + 1, wire::be64(s, at + 9));
     store::store_word(out, to + 2, motion(w, s, at));
     store::store_word(out, to + 3, extent(w, s, at, base + at, size, elements));
 }
@@ -209,9 +195,12 @@ fn put_records(w: Widths, count: usize, base: usize, s: &[u8], out: &mut [u64], 
     Moved { from, to: dest }
 }
 
-// The table of the records in `s`: the packet's words, then theirs.
+// The table of the records in `s`: the packet's words, then theirs. A datagram's header goes by its fields: a struct of mixed widths is slow to copy.
 fn put_contents(
-    header: Header,
+    packet: u16,
+    unused: u8,
+    avl: u8,
+    imei: u64,
     codec: u8,
     count: usize,
     base: usize,
@@ -221,39 +210,77 @@ fn put_contents(
     requires { ⌜ count < 2 ^ 16 ⌝ }
     requires { ⌜ base + length (now s) < 2 ^ 16 ⌝ }
     requires { ⌜ Ready (repeat count (plainRecord (widthsOf codec))) (now s) 0 2 ⌝ }
-    ensures { λ r. ⌜ Copies (repeat count (plainRecord (widthsOf codec))) (fieldText (fieldContents header base) codec) (now (s .entry)) 0 0 (now (out .entry)) (now (out .exit)) r ⌝ }
+    ensures { λ r. ⌜ Copies (repeat count (plainRecord (widthsOf codec))) (fieldText (fieldContents (record { packet = packet; unused = unused; avl = avl; imei = imei }) base) codec) (now (s .entry)) 0 0 (now (out .entry)) (now (out .exit)) r ⌝ }
 {
-    let marks = (header.unused as u64) + 0x100 * (header.avl as u64);
+    let marks = (unused as u64) + 0x100 * (avl as u64);
     store::store_word(
         out,
         0,
-        quad_word(codec as u64, count as u64, header.packet as u64, marks),
+        quad_word(codec as u64, count as u64, packet as u64, marks),
     );
-    store::store_word(out, 1, header.imei);
+    store::store_word(out, 1, imei);
     put_records(walk::widths_of(codec), count, base, s, out, 2)
 }
 
 // The table of the data field `d`, which has at most a word for every two bytes. Where `out` is shorter than that, a run over no buffer gives the table's length first: 18 where it is longer than `out`.
-fn write_field(header: Header, base: usize, d: &[u8], out: &mut [u64]) -> Written
+fn write_field(
+    packet: u16,
+    unused: u8,
+    avl: u8,
+    imei: u64,
+    base: usize,
+    d: &[u8],
+    out: &mut [u64],
+) -> Written
     requires { ⌜ Field (now d) ⌝ }
     requires { ⌜ base + length (now d) < 2 ^ 16 ⌝ }
-    ensures { λ r. ⌜ Writes (fieldContents header base) (now (d .entry)) (now (out .entry)) (now (out .exit)) r ⌝ }
+    ensures { λ r. ⌜ Writes (fieldContents (record { packet = packet; unused = unused; avl = avl; imei = imei }) base) (now (d .entry)) (now (out .entry)) (now (out .exit)) r ⌝ }
 {
     let codec = d[0];
     let count = d[1] as usize;
     let last = d.len() - 1;
     if d.len() / 2 < out.len() {
-        let done = put_contents(header, codec, count, base, &d[2..last], out);
+        let done = put_contents(
+            packet,
+            unused,
+            avl,
+            imei,
+            codec,
+            count,
+            base,
+            &d[2..last],
+            out,
+        );
         return Written::Bytes(done.to);
     }
-    let size = put_contents(header, codec, count, base, &d[2..last], &mut out[0..0]).to;
+    let size = put_contents(
+        packet,
+        unused,
+        avl,
+        imei,
+        codec,
+        count,
+        base,
+        &d[2..last],
+        &mut out[0..0],
+    ).to;
     if out.len() < size {
         return Written::Refused(Refusal {
             number: 18,
             index: 0,
         });
     }
-    put_contents(header, codec, count, base, &d[2..last], out);
+    put_contents(
+        packet,
+        unused,
+        avl,
+        imei,
+        codec,
+        count,
+        base,
+        &d[2..last],
+        out,
+    );
     Written::Bytes(size)
 }
 
@@ -269,14 +296,8 @@ pub fn contents_of_packet(p: &[u8], out: &mut [u64]) -> Written
             count: _,
             span: _,
         } => {
-            let none = Header {
-                packet: 0,
-                unused: 0,
-                avl: 0,
-                imei: 0,
-            };
             let end = p.len() - 4;
-            write_field(none, 10, &p[8..end], out)
+            write_field(0, 0, 0, 0, 10, &p[8..end], out)
         }
     }
 }
@@ -292,6 +313,14 @@ pub fn contents_of_datagram(p: &[u8], out: &mut [u64]) -> Written
             codec: _,
             count: _,
             header,
-        } => write_field(header, 25, &p[23..], out),
+        } => write_field(
+            header.packet,
+            header.unused,
+            header.avl,
+            header.imei,
+            25,
+            &p[23..],
+            out,
+        ),
     }
 }

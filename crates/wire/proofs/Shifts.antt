@@ -18,7 +18,7 @@ bits-of : (w : ℕ) → 256 ^ w ≡ 2 ^ (8 * w)
 bits-of zero = refl
 bits-of (suc w) = pow-suc 256 w ∙ ap (λ (n : ℕ). n * 256) (bits-of w) ∙ sym (pow-add 2 (8 * w) 8) ∙ ap (λ (k : ℕ). 2 ^ k) (omega arith)
 
-number-add : (s : List ℕ) (at v w : ℕ) → numberAt s at (v + w) ≡ numberAt s at v * 256 ^ w + numberAt s (at + v) w
+pub number-add : (s : List ℕ) (at v w : ℕ) → numberAt s at (v + w) ≡ numberAt s at v * 256 ^ w + numberAt s (at + v) w
 unfolding numberAt
 number-add s at v zero = simp (add-zero, mul-one)
 number-add s at v (suc w) = rw (add-suc, number-add s at v w, ← add-assoc at v w, pow-suc) (omega arith)

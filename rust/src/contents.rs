@@ -1,0 +1,414 @@
+//! Data packets and datagrams, each judged once: a table of contents leads to all their records and values.
+use std::fmt::{Debug, Display, Formatter, Result as Printed};
+use std::mem::MaybeUninit;
+
+use crate::raw;
+use crate::records::{getters, Records};
+use crate::refusal::{data_judged, Refusal};
+use crate::LARGEST_CONTENTS;
+
+/// Room for the table of contents of any packet or datagram.
+///
+/// One room serves one input after another, and nothing in it is ever cleared.
+///
+/// ```
+/// use brundilope::{samples, Contents, DataPacket};
+///
+/// let mut room = Contents::new();
+/// for packet in [samples::CODEC8, samples::CODEC16] {
+///     println!("{}", DataPacket::read(packet, &mut room)?);
+/// }
+/// # Ok::<(), brundilope::Refusal>(())
+/// ```
+pub struct Contents([MaybeUninit<u64>; LARGEST_CONTENTS]);
+
+impl Contents {
+    /// An empty room.
+    ///
+    /// ```
+    /// let room = brundilope::Contents::new();
+    /// assert_eq!(std::mem::size_of_val(&room), 8 * brundilope::LARGEST_CONTENTS);
+    /// ```
+    #[must_use]
+    pub const fn new() -> Self {
+        Contents([MaybeUninit::uninit(); LARGEST_CONTENTS])
+    }
+}
+
+impl Default for Contents {
+    fn default() -> Self {
+        Contents::new()
+    }
+}
+
+impl Debug for Contents {
+    fn fmt(&self, f: &mut Formatter<'_>) -> Printed {
+        f.debug_struct("Contents").finish_non_exhaustive()
+    }
+}
+
+/// An accepted input, and the words of its table.
+#[derive(Clone, Copy, PartialEq, Eq, Hash)]
+struct Table<'a> {
+    input: &'a [u8],
+    words: &'a [u64],
+}
+
+impl<'a> Table<'a> {
+    #[inline]
+    fn judged(input: &'a [u8], (answer, words): (raw::Written, &'a [u64])) -> Result<Self, Refusal> {
+        data_judged(answer.number, answer.index)?;
+        Ok(Table { input, words })
+    }
+
+    /// So many records, behind the two words of the whole.
+    #[inline]
+    fn records(self, count: u8) -> Records<'a> {
+        Records::new(self.input, &self.words[2..], count)
+    }
+
+    fn to_owned(self) -> OwnedTable {
+        OwnedTable { input: self.input.into(), words: self.words.into() }
+    }
+}
+
+/// The same on the heap.
+#[derive(Clone, PartialEq, Eq, Hash)]
+struct OwnedTable {
+    input: Box<[u8]>,
+    words: Box<[u64]>,
+}
+
+impl OwnedTable {
+    fn lend(&self) -> Table<'_> {
+        Table { input: &self.input, words: &self.words }
+    }
+}
+
+/// A TCP data packet with its contents, judged once.
+///
+/// ```
+/// use brundilope::{samples, Contents, DataPacket};
+///
+/// let mut room = Contents::new();
+/// let packet = DataPacket::read(samples::CODEC16, &mut room)?;
+/// assert_eq!(packet.to_string(), "codec 10, records 2");
+/// for record in packet.records() {
+///     for value in record.values() {
+///         println!("{}: {value}", record.timestamp());
+///     }
+/// }
+/// # Ok::<(), brundilope::Refusal>(())
+/// ```
+#[derive(Clone, Copy, PartialEq, Eq, Hash)]
+pub struct DataPacket<'a>(Table<'a>);
+
+getters! {
+    DataPacket, "let it = DataPacket::read(samples::CODEC16, &mut room)?;":
+    /// The codec: 0x08, 0x8E or 0x10.
+    codec: u8 = |head| head[0], 0x10;
+    /// The number of records, 1 to 255.
+    count: u8 = |head| head[0] >> 16, 2;
+}
+
+impl<'a> DataPacket<'a> {
+    /// Reads a TCP data packet. Refusals 1 to 12.
+    ///
+    /// ```
+    /// use brundilope::{samples, Contents, DataPacket};
+    ///
+    /// let mut damaged = samples::CODEC8.to_vec();
+    /// damaged[20] ^= 1;
+    /// let mut room = Contents::new();
+    /// let refusal = DataPacket::read(&damaged, &mut room).unwrap_err();
+    /// assert_eq!(refusal.to_string(), "refusal 5: CRC field wrong");
+    /// ```
+    #[inline]
+    pub fn read(bytes: &'a [u8], room: &'a mut Contents) -> Result<Self, Refusal> {
+        Table::judged(bytes, raw::contents_of_packet(bytes, &mut room.0)).map(DataPacket)
+    }
+
+    #[inline]
+    fn head(&self) -> &'a [u64] {
+        self.0.words
+    }
+
+    /// The records in order.
+    ///
+    /// ```
+    /// use brundilope::{samples, Contents, DataPacket};
+    ///
+    /// let mut room = Contents::new();
+    /// let packet = DataPacket::read(samples::CODEC16, &mut room)?;
+    /// let times: Vec<u64> = packet.records().map(|record| record.timestamp()).collect();
+    /// assert_eq!(times, [1_562_760_414_000, 1_562_760_415_000]);
+    /// # Ok::<(), brundilope::Refusal>(())
+    /// ```
+    #[inline]
+    pub fn records(&self) -> Records<'a> {
+        self.0.records(self.count())
+    }
+
+    /// The acknowledgement: the number of records in four bytes. That of a refused packet is four zeros.
+    ///
+    /// ```
+    /// use brundilope::{samples, Contents, DataPacket};
+    ///
+    /// let mut room = Contents::new();
+    /// let packet = DataPacket::read(samples::CODEC16, &mut room);
+    /// let answer = packet.map_or([0; 4], |packet| packet.ack());
+    /// assert_eq!(answer, [0, 0, 0, 2]);
+    /// ```
+    #[must_use]
+    pub fn ack(&self) -> [u8; 4] {
+        u32::from(self.count()).to_be_bytes()
+    }
+
+    /// The packet's bytes.
+    ///
+    /// ```
+    /// use brundilope::{samples, Contents, DataPacket};
+    ///
+    /// let mut room = Contents::new();
+    /// let packet = DataPacket::read(samples::CODEC8, &mut room)?;
+    /// assert_eq!(packet.bytes(), samples::CODEC8);
+    /// # Ok::<(), brundilope::Refusal>(())
+    /// ```
+    pub fn bytes(&self) -> &'a [u8] {
+        self.0.input
+    }
+
+    /// A copy that borrows nothing: it allocates, and is not judged again.
+    ///
+    /// ```
+    /// use brundilope::{samples, Contents, DataPacket};
+    ///
+    /// let packet = DataPacket::read(samples::CODEC16, &mut Contents::new())?.to_owned();
+    /// let count = std::thread::spawn(move || packet.as_packet().count()).join();
+    /// assert_eq!(count.unwrap(), 2);
+    /// # Ok::<(), brundilope::Refusal>(())
+    /// ```
+    #[must_use]
+    pub fn to_owned(&self) -> OwnedPacket {
+        OwnedPacket(self.0.to_owned())
+    }
+}
+
+impl Debug for DataPacket<'_> {
+    fn fmt(&self, f: &mut Formatter<'_>) -> Printed {
+        f.debug_struct("DataPacket").field("codec", &self.codec()).field("records", &self.records()).finish()
+    }
+}
+
+impl Display for DataPacket<'_> {
+    fn fmt(&self, f: &mut Formatter<'_>) -> Printed {
+        write!(f, "codec {:02X}, records {}", self.codec(), self.count())
+    }
+}
+
+/// A [`DataPacket`] that borrows nothing, from [`DataPacket::to_owned`].
+///
+/// ```
+/// use brundilope::{samples, Contents, DataPacket, OwnedPacket};
+///
+/// let mut room = Contents::new();
+/// let mut kept: Vec<OwnedPacket> = Vec::new();
+/// for packet in [samples::CODEC8, samples::CODEC16] {
+///     kept.push(DataPacket::read(packet, &mut room)?.to_owned());
+/// }
+/// assert_eq!(kept[0].as_packet().bytes(), samples::CODEC8);
+/// # Ok::<(), brundilope::Refusal>(())
+/// ```
+#[derive(Clone, PartialEq, Eq, Hash)]
+pub struct OwnedPacket(OwnedTable);
+
+impl OwnedPacket {
+    /// The packet.
+    ///
+    /// ```
+    /// use brundilope::{samples, Contents, DataPacket};
+    ///
+    /// let packet = DataPacket::read(samples::CODEC8, &mut Contents::new())?.to_owned();
+    /// assert_eq!(packet.as_packet().codec(), 0x08);
+    /// # Ok::<(), brundilope::Refusal>(())
+    /// ```
+    pub fn as_packet(&self) -> DataPacket<'_> {
+        DataPacket(self.0.lend())
+    }
+}
+
+impl Debug for OwnedPacket {
+    fn fmt(&self, f: &mut Formatter<'_>) -> Printed {
+        f.debug_tuple("OwnedPacket").field(&self.as_packet()).finish()
+    }
+}
+
+/// A UDP datagram with its contents, judged once.
+///
+/// ```
+/// use brundilope::{samples, Contents, DataDatagram};
+///
+/// let mut room = Contents::new();
+/// let datagram = DataDatagram::read(samples::UDP_CODEC8E, &mut room)?;
+/// assert_eq!(datagram.to_string(), "IMEI 352093086403655, codec 8E, records 1");
+/// for record in datagram.records() {
+///     for value in record.values() {
+///         println!("{}: {value}", record.timestamp());
+///     }
+/// }
+/// # Ok::<(), brundilope::Refusal>(())
+/// ```
+#[derive(Clone, Copy, PartialEq, Eq, Hash)]
+pub struct DataDatagram<'a>(Table<'a>);
+
+getters! {
+    DataDatagram, "let it = DataDatagram::read(samples::UDP_CODEC8, &mut room)?;":
+    /// The codec: 0x08, 0x8E or 0x10.
+    codec: u8 = |head| head[0], 0x08;
+    /// The number of records, 1 to 255.
+    count: u8 = |head| head[0] >> 16, 1;
+    /// The unit's IMEI, below 10^15.
+    imei: u64 = |head| head[1], 352_093_086_403_655;
+    /// The packet ID.
+    packet_id: u16 = |head| head[0] >> 32, 0xCAFE;
+    /// The unused byte, as received.
+    unused: u8 = |head| head[0] >> 48, 1;
+    /// The AVL packet ID.
+    avl_packet_id: u8 = |head| head[0] >> 56, 5;
+}
+
+impl<'a> DataDatagram<'a> {
+    /// Reads a UDP datagram. Refusals 1, 3, 4, 15, 6 to 12.
+    ///
+    /// ```
+    /// use brundilope::{samples, Contents, DataDatagram};
+    ///
+    /// let mut room = Contents::new();
+    /// let refusal = DataDatagram::read(&samples::UDP_CODEC8[1..], &mut room).unwrap_err();
+    /// assert_eq!(refusal.number, 4);
+    /// ```
+    #[inline]
+    pub fn read(bytes: &'a [u8], room: &'a mut Contents) -> Result<Self, Refusal> {
+        Table::judged(bytes, raw::contents_of_datagram(bytes, &mut room.0)).map(DataDatagram)
+    }
+
+    #[inline]
+    fn head(&self) -> &'a [u64] {
+        self.0.words
+    }
+
+    /// The records in order.
+    ///
+    /// ```
+    /// use brundilope::{samples, Contents, DataDatagram};
+    ///
+    /// let mut room = Contents::new();
+    /// let datagram = DataDatagram::read(samples::UDP_CODEC8, &mut room)?;
+    /// let times: Vec<u64> = datagram.records().map(|record| record.timestamp()).collect();
+    /// assert_eq!(times, [1_560_407_006_000]);
+    /// # Ok::<(), brundilope::Refusal>(())
+    /// ```
+    #[inline]
+    pub fn records(&self) -> Records<'a> {
+        self.0.records(self.count())
+    }
+
+    /// The acknowledgement, seven bytes. A refused datagram has none.
+    ///
+    /// ```
+    /// use brundilope::{samples, Contents, DataDatagram};
+    ///
+    /// let mut room = Contents::new();
+    /// let datagram = DataDatagram::read(samples::UDP_CODEC8, &mut room)?;
+    /// assert_eq!(datagram.ack(), [0x00, 0x05, 0xCA, 0xFE, 0x01, 0x05, 0x01]);
+    /// # Ok::<(), brundilope::Refusal>(())
+    /// ```
+    #[must_use]
+    pub fn ack(&self) -> [u8; 7] {
+        let [high, low] = self.packet_id().to_be_bytes();
+        [0, 5, high, low, self.unused(), self.avl_packet_id(), self.count()]
+    }
+
+    /// The datagram's bytes.
+    ///
+    /// ```
+    /// use brundilope::{samples, Contents, DataDatagram};
+    ///
+    /// let mut room = Contents::new();
+    /// let datagram = DataDatagram::read(samples::UDP_CODEC8, &mut room)?;
+    /// assert_eq!(datagram.bytes(), samples::UDP_CODEC8);
+    /// # Ok::<(), brundilope::Refusal>(())
+    /// ```
+    pub fn bytes(&self) -> &'a [u8] {
+        self.0.input
+    }
+
+    /// A copy that borrows nothing: it allocates, and is not judged again.
+    ///
+    /// ```
+    /// use brundilope::{samples, Contents, DataDatagram};
+    ///
+    /// let datagram = DataDatagram::read(samples::UDP_CODEC8, &mut Contents::new())?.to_owned();
+    /// let imei = std::thread::spawn(move || datagram.as_datagram().imei()).join();
+    /// assert_eq!(imei.unwrap(), 352_093_086_403_655);
+    /// # Ok::<(), brundilope::Refusal>(())
+    /// ```
+    #[must_use]
+    pub fn to_owned(&self) -> OwnedDatagram {
+        OwnedDatagram(self.0.to_owned())
+    }
+}
+
+impl Debug for DataDatagram<'_> {
+    fn fmt(&self, f: &mut Formatter<'_>) -> Printed {
+        f.debug_struct("DataDatagram")
+            .field("codec", &self.codec())
+            .field("imei", &self.imei())
+            .field("packet_id", &self.packet_id())
+            .field("unused", &self.unused())
+            .field("avl_packet_id", &self.avl_packet_id())
+            .field("records", &self.records())
+            .finish()
+    }
+}
+
+impl Display for DataDatagram<'_> {
+    fn fmt(&self, f: &mut Formatter<'_>) -> Printed {
+        write!(f, "IMEI {:015}, codec {:02X}, records {}", self.imei(), self.codec(), self.count())
+    }
+}
+
+/// A [`DataDatagram`] that borrows nothing, from [`DataDatagram::to_owned`].
+///
+/// ```
+/// use brundilope::{samples, Contents, DataDatagram, OwnedDatagram};
+///
+/// let mut room = Contents::new();
+/// let kept: OwnedDatagram = DataDatagram::read(samples::UDP_CODEC8, &mut room)?.to_owned();
+/// let other = DataDatagram::read(samples::UDP_CODEC8E, &mut room)?;
+/// assert_eq!((kept.as_datagram().codec(), other.codec()), (0x08, 0x8E));
+/// # Ok::<(), brundilope::Refusal>(())
+/// ```
+#[derive(Clone, PartialEq, Eq, Hash)]
+pub struct OwnedDatagram(OwnedTable);
+
+impl OwnedDatagram {
+    /// The datagram.
+    ///
+    /// ```
+    /// use brundilope::{samples, Contents, DataDatagram};
+    ///
+    /// let datagram = DataDatagram::read(samples::UDP_CODEC8, &mut Contents::new())?.to_owned();
+    /// assert_eq!(datagram.as_datagram().packet_id(), 0xCAFE);
+    /// # Ok::<(), brundilope::Refusal>(())
+    /// ```
+    pub fn as_datagram(&self) -> DataDatagram<'_> {
+        DataDatagram(self.0.lend())
+    }
+}
+
+impl Debug for OwnedDatagram {
+    fn fmt(&self, f: &mut Formatter<'_>) -> Printed {
+        f.debug_tuple("OwnedDatagram").field(&self.as_datagram()).finish()
+    }
+}
