@@ -1,17 +1,15 @@
 -- The words of a record and of its elements, stored where they belong.
-use Prim.Native.Nat.{ℕ, _+_, _-_, _*_, _^_, _≤_, _<_}
+use Prim.Native.Nat.{ℕ, _+_, _-_, _≤_}
 use native.Mathlib.Omega.{arith}
-use mathlib.Core.Path.{_≡_, refl, sym, ap, ap₂, _∙_}
-use mathlib.Core.List.{List, [], _∷_, _++_}
+use mathlib.Core.Path.{_≡_, sym, ap, _∙_}
+use mathlib.Core.List.{List}
 use lib.ListN.{length, set}
-use lib.Seq.{sets}
 use Rattle.wire.specs.Reading.{got}
 use Rattle.wire.proofs.Exactness.{meets-weaken}
 use Rattle.avl.specs.declared.Widths.{Widths}
 use Rattle.avl.specs.Records.{Element}
 use Rattle.avl.specs.RecordReader.{element}
 use Rattle.element.specs.declared.Value.{Value}
-use Rattle.element.specs.Elements.{leadSize}
 use Rattle.element.specs.Search.{ReadableElement, valueAt}
 use Rattle.element.proofs.ReadLaws.{ElementRead, element-read}
 use Rattle.traverse.specs.Texts.{elementText}

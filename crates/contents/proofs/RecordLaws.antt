@@ -2,23 +2,22 @@
 use Prim.Native.Nat.{ℕ, suc, _+_, _-_, _*_, _^_, _≤_, _<_}
 use native.Mathlib.Omega.{arith}
 use mathlib.Core.Path.{_≡_, refl, sym, ap, ap₂, _∙_}
-use mathlib.Core.List.{List, [], _∷_, _++_}
+use mathlib.Core.List.{List, [], _∷_}
 use lib.ListN.{length, set, length-append}
 use lib.Seq.{sets}
-use Rattle.wire.specs.Numbers.{Bytes, numberAt}
+use Rattle.wire.specs.Numbers.{numberAt}
 use Rattle.wire.specs.Reading.{got}
 use Rattle.wire.proofs.Shifts.{number-add}
 use Rattle.avl.specs.declared.Widths.{Widths}
 use Rattle.avl.specs.Codecs.{kinds}
-use Rattle.avl.specs.Records.{Fixed, AvlRecord, elementCount, recordBytes, GroupsRules, FixedRules}
-use Rattle.avl.specs.RecordReader.{groups, fixedFields, plainRecord}
+use Rattle.avl.specs.Records.{Fixed, AvlRecord, elementCount, recordBytes, GroupsRules}
+use Rattle.avl.specs.RecordReader.{groups, plainRecord}
 use Rattle.avl.proofs.RecordLaws.{fixed-exact, groups-exact}
 use Rattle.avl.proofs.Inversion.{fixedAt, fixed-read, FixedRead, RecordRead, record-read, plain-size}
 use Rattle.walk.specs.Walks.{Narrow}
 use Rattle.element.specs.Elements.{Located, fixedSize, locateGroups}
 use Rattle.element.proofs.ElementLaws.{length-groups}
 use Rattle.element.proofs.ReadLaws.{got-same}
-use Rattle.store.specs.Stores.{Stored}
 use Rattle.store.proofs.StoredLaws.{stored-before, stored-of}
 use Rattle.traverse.specs.declared.Moved.{Moved}
 use Rattle.traverse.specs.Texts.{groupsText, recordText}

@@ -1,7 +1,7 @@
 -- A table has at most one word for every two bytes of its data field.
 use Prim.Native.Nat.{ℕ, _+_, _*_, _^_, _≤_, _<_}
 use native.Mathlib.Omega.{arith}
-use mathlib.Core.Path.{_≡_, refl, ap, _∙_}
+use mathlib.Core.Path.{_≡_, refl, ap}
 use mathlib.Core.Bool.{Bool, true, false}
 use mathlib.Core.List.{List, [], _∷_}
 use lib.ListN.{length, length-append}
@@ -14,7 +14,7 @@ use Rattle.wire.proofs.Enclosed.{length-enclosed}
 use Rattle.avl.specs.declared.Widths.{Widths}
 use Rattle.avl.specs.Codecs.{widthsOf, kinds}
 use Rattle.avl.specs.Records.{Element, AvlRecord, elementCount, ElementRules, GroupsRules, RecordRules, lengthBytes, elementBytes, groupBytes, groupsBytes, recordBytes}
-use Rattle.avl.specs.DataField.{AvlData, dataBytes, readData, dataResult}
+use Rattle.avl.specs.DataField.{AvlData, dataBytes, readData}
 use Rattle.avl.proofs.DataLaws.{data-exact}
 use Rattle.datagram.specs.declared.Header.{Header}
 use Rattle.walk.proofs.KindLaws.{KindRange, kinds-range}

@@ -1,6 +1,6 @@
 -- What is written along a data field is the table of its contents.
 use Prim.Native.Nat.{ℕ, zero, suc, _+_, _-_, _*_, _/_, _^_, _≤_, _<_}
-use native.Mathlib.Nat.{add-zero, add-assoc}
+use native.Mathlib.Nat.{add-zero}
 use native.Mathlib.Omega.{arith}
 use mathlib.Core.Path.{_≡_, refl, sym, ap, ap₂, _∙_, subst}
 use mathlib.Core.List.{List, [], _∷_, _++_}
@@ -13,6 +13,7 @@ use Rattle.wire.specs.Numbers.{Bytes}
 use Rattle.wire.specs.Sequences.{joined}
 use Rattle.wire.specs.Reading.{Reader, repeat}
 use Rattle.wire.specs.Answers.{Answer, accepted, refused, onAccepted}
+use Rattle.wire.proofs.Widths.{bytes-take, bytes-drop}
 use Rattle.wire.proofs.Storing.{sets-append}
 use Rattle.wire.proofs.Exactness.{Meets, meets-weaken, meets-pure}
 use Rattle.wire.proofs.Accepting.{onAccepted-accepted, onAccepted-passed, onAccepted-refused}
@@ -23,23 +24,24 @@ use Rattle.avl.specs.RecordReader.{plainRecord}
 use Rattle.avl.specs.DataField.{AvlData, readData, dataResult, DataResult}
 use Rattle.avl.proofs.Inversion.{list-read}
 use Rattle.packet.specs.DataPackets.{readPacket}
-use Rattle.packet.proofs.FieldLaws.{packet-field}
+use Rattle.avl.proofs.FieldLaws.{FieldOf}
+use Rattle.packet.proofs.FieldLaws.{packet-field, packet-long}
 use Rattle.datagram.specs.declared.Header.{Header}
 use Rattle.datagram.specs.Datagrams.{Datagram, DatagramResult, readDatagram, answerDatagram}
-use Rattle.datagram.proofs.FieldLaws.{datagram-field}
-use Rattle.element.specs.Elements.{Located, leadSize, fixedSize, locateGroup, locateGroups, elements}
-use Rattle.lookup.specs.Places.{Placed, placeRecords}
-use Rattle.lookup.specs.Lookups.{tcpSource, foundIn}
+use Rattle.datagram.proofs.FieldLaws.{datagram-field, datagram-long}
+use Rattle.element.specs.Elements.{leadSize, fixedSize, locateGroup, locateGroups, elements}
+use Rattle.lookup.specs.Places.{placeRecords}
+use Rattle.lookup.specs.Lookups.{Source, tcpSource, foundIn}
 use Rattle.lookup.specs.Answers.{valueResult}
 use Rattle.traverse.specs.declared.Moved.{Moved}
-use Rattle.traverse.specs.Texts.{groupsText, recordText, recordsText}
+use Rattle.traverse.specs.Texts.{recordText, recordsText}
 use Rattle.traverse.specs.Copying.{Copies}
 use Rattle.traverse.specs.Fields.{fieldText, Writes}
 use Rattle.traverse.proofs.CopyLaws.{moved}
 use Rattle.traverse.proofs.PaceLaws.{joined-append}
 use Rattle.traverse.proofs.FieldLaws.{Answers, written-field, refused-whole}
-use Rattle.contents.specs.Words.{quad, titleWords, recordWords, valueWord}
-use Rattle.contents.specs.Contents.{elementWord, recordContents, contents, noHeader, contentsOfPacket, contentsOfDatagram}
+use Rattle.contents.specs.Words.{quad, titleWords, valueWord}
+use Rattle.contents.specs.Contents.{recordContents, contents, noHeader, contentsOfPacket, contentsOfDatagram}
 use Rattle.contents.specs.Listing.{listedWord, headText, fieldContents}
 use Rattle.contents.proofs.SizeLaws.{contents-size}
 
@@ -165,3 +167,27 @@ module _ (limits : Limits) (p : List ℕ) where
   pub datagram-refused : {x : Refusal} {before : List ℕ} → readDatagram limits p ≡ refused x → Answers (contentsOfDatagram limits p) before before (Written.Refused x)
   unfolding contentsOfDatagram
   datagram-refused e = refused-whole (onAccepted-refused (readDatagram limits p) _ e)
+
+-- ---- how long a table can be: a word for every two bytes of the packet or the datagram
+
+field-room : {longest n : ℕ} (h : Header) (base : ℕ) {d t : List ℕ} {a : AvlData} → Bytes d → FieldOf longest d a → length d + 1 ≤ n → accepted (fieldContents h base a) ≡ accepted t → 2 * length t ≤ n
+field-room {longest} {n} h base {d} {t} {a} b k room e =
+    let same : fieldContents h base a ≡ t = cc in
+    omega (arith, ap length same, room, contents-size h base longest d a b (k .long) (k .accepts))
+
+module _ (limits : Limits) (p t : List ℕ) (b : Bytes p) where
+  pub packet-room : contentsOfPacket limits p ≡ accepted t → 2 * length t ≤ length p
+  unfolding contentsOfPacket tcpSource
+  packet-room e =
+      let i = onAccepted-accepted (tcpSource limits p) _ e in
+      let j = onAccepted-accepted (readPacket limits p) _ (i .1) in
+      let long = packet-long limits p (j .1) b in
+      let content : _≡_ {A = Source} (record { content = j .0; base = 10 }) (i .0) = cc (j .2) in
+      field-room noHeader 10 (bytes-take (length p - 4 - 8) (drop 8 p) (bytes-drop 8 p b)) (packet-field limits p (j .1) b) (simp (length-take, length-drop) (omega (arith, long))) (ap (λ (x : Source). accepted (contents noHeader x)) content ∙ i .2)
+
+  pub datagram-room : contentsOfDatagram limits p ≡ accepted t → 2 * length t ≤ length p
+  unfolding contentsOfDatagram
+  datagram-room e =
+      let i = onAccepted-accepted (readDatagram limits p) _ e in
+      let long = datagram-long limits p (i .1) b in
+      field-room (i .0 .header) 25 (bytes-take (length p - 23) (drop 23 p) (bytes-drop 23 p b)) (datagram-field limits p (i .1) b) (simp (length-take, length-drop) (omega (arith, long))) (i .2)

@@ -62,4 +62,4 @@ recordOf t =
     }
 
 unfoldable pub valueOf : ℕ → Value
-valueOf word = record { id = bits word 0 16; kind = bits word 16 16; offset = bits word 32 16; size = bits word 48 16 }
+valueOf word = record { id = bits word 0 16; kind = bits word 16 8; offset = bits word 32 16; size = bits word 48 16 }

@@ -1,13 +1,15 @@
 // A packet's table of contents: judged once, then all its records and values in a lent buffer of words.
 use avl::Widths;
 use datagram::DatagramAnswer;
+use element::RecordFields;
+use element::Value;
 use traverse::Moved;
 use walk::DataWalk;
 use wire::Refusal;
 use wire::Written;
 ghost use mathlib.Core.Path.{_≡_};
 ghost use Prim.Native.Nat.{ℕ, _+_, _*_, _^_, _≤_, _<_};
-ghost use lib.ListN.{length};
+ghost use lib.ListN.{length, drop};
 ghost use lib.Seq.{sets};
 ghost use Rattle.wire.specs.Limits.{baseLimits};
 ghost use Rattle.wire.specs.Numbers.{numberAt};
@@ -20,7 +22,7 @@ ghost use Rattle.walk.specs.Walks.{Narrow};
 ghost use Rattle.traverse.specs.Texts.{elementText, groupText, groupsText, recordText, recordsText};
 ghost use Rattle.traverse.specs.Copying.{Ready, Copies};
 ghost use Rattle.traverse.specs.Fields.{fieldText, Field, Writes};
-ghost use Rattle.contents.specs.Words.{quad, recordWords};
+ghost use Rattle.contents.specs.Words.{quad, recordWords, titleResult, recordOf, valueOf};
 ghost use Rattle.contents.specs.Contents.{contentsOfPacket, contentsOfDatagram};
 ghost use Rattle.contents.specs.Listing.{listedWord, headText, fieldContents};
 
@@ -322,5 +324,50 @@ pub fn contents_of_datagram(p: &[u8], out: &mut [u64]) -> Written
             &p[23..],
             out,
         ),
+    }
+}
+
+// ---- reading a table
+
+// How many records the packet has.
+pub fn record_count(t: &[u64]) -> usize
+    requires { ⌜ 1 ≤ length (now t) ⌝ }
+    ensures { λ r. ⌜ r ≡ titleResult (now (t .entry)) .count ⌝ }
+{
+    (t[0] / 0x1_0000 % 0x1_0000) as usize
+}
+
+// The record whose words begin at `at`.
+pub fn record_at(t: &[u64], at: usize) -> RecordFields
+    requires { ⌜ at + 4 ≤ length (now t) ⌝ }
+    ensures { λ r. ⌜ r ≡ recordOf (drop at (now (t .entry))) ⌝ }
+{
+    let place = t[at + 1];
+    let motion = t[at + 2];
+    let extent = t[at + 3];
+    RecordFields {
+        timestamp: t[at],
+        latitude: wire::signed32((place % 0x1_0000_0000) as u32),
+        longitude: wire::signed32((place / 0x1_0000_0000 % 0x1_0000_0000) as u32),
+        speed: (motion % 0x1_0000) as u16,
+        satellites: (motion / 0x1_0000 % 0x100) as u8,
+        angle: (motion / 0x100_0000 % 0x1_0000) as u16,
+        altitude: wire::signed16((motion / 0x100_0000_0000 % 0x1_0000) as u16),
+        priority: (motion / 0x100_0000_0000_0000 % 0x10) as u8,
+        generation: (motion / 0x1000_0000_0000_0000 % 0x10) as u8,
+        event: (extent % 0x1_0000) as u16,
+        elements: (extent / 0x1_0000_0000_0000 % 0x1_0000) as usize,
+    }
+}
+
+// The value of an element's word.
+pub fn value_of(word: u64) -> Value
+    ensures { λ r. ⌜ r ≡ valueOf word ⌝ }
+{
+    Value {
+        id: (word % 0x1_0000) as u16,
+        kind: (word / 0x1_0000 % 0x100) as u8,
+        offset: (word / 0x1_0000_0000 % 0x1_0000) as usize,
+        size: (word / 0x1_0000_0000_0000 % 0x1_0000) as usize,
     }
 }

@@ -129,7 +129,7 @@ pub record Kept (longest : ℕ) (w : Widths) (p : List ℕ) (r : Placed) : Type 
   pub rules : RecordRules longest w (r .content)
   pub stands : Between p (r .start) (recordBytes w (r .content)) (r .start + length (recordBytes w (r .content)))
 
-all-kept : (longest : ℕ) (w : Widths) (p : List ℕ) (rs : List AvlRecord) (from to : ℕ) → All (RecordRules longest w) rs
+pub all-kept : (longest : ℕ) (w : Widths) (p : List ℕ) (rs : List AvlRecord) (from to : ℕ) → All (RecordRules longest w) rs
     → Tiles w p from to (placeRecords w from rs) → All (Kept longest w p) (placeRecords w from rs)
 unfolding placeRecords part
 all-kept longest w p [] from to h k = tt

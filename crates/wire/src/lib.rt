@@ -24,6 +24,9 @@ pub const LONGEST: usize = 255;
 // A TLV form has at most four times the bytes of its packet.
 pub const LARGEST_FORM: usize = 4 * LARGEST;
 
+// A table of contents has at most a word for every two bytes of its packet.
+pub const LARGEST_CONTENTS: usize = LARGEST / 2;
+
 pub const BASE: Limits = Limits {
     largest: LARGEST,
     longest: LONGEST,
@@ -54,7 +57,7 @@ pub struct Refusal {
     pub index: usize,
 }
 
-// How many bytes were written, or why none were.
+// How many bytes were written (of a table of contents: words), or why none were.
 pub enum Written {
     Bytes(usize),
     Refused(Refusal),

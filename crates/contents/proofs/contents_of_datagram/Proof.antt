@@ -11,52 +11,38 @@ use native.Mathlib.Omega.{arith}
 use Prim.Native.Nat.{_-_}
 use Rattle.contents.proofs.contents_of_datagram.Statement.{statement}
 use Rattle.contents.proofs.contents_of_datagram.Tie as tie
-use Rattle.contents.proofs.contents_of_datagram.Reads as reads
-use Rattle.contents.proofs.contents_of_datagram.Lts as lts
-use Rattle.contents.proofs.write_field.Reads as write-field-reads
-use Rattle.datagram.proofs.read_datagram.Reads as read-datagram-reads
 
--- src/lib.rt:310:11
 read-datagram-requires : tie.Need-read-datagram-requires
 read-datagram-requires c κs = search needs
 
--- src/lib.rt:311:33
 enum-known-r : tie.Need-enum-known-r
 enum-known-r c = search needs
 
--- src/lib.rt:315:13
 enum-known-header : tie.Need-enum-known-header
 enum-known-header c = search needs
 
--- src/lib.rt:322:13
 sub-write-field : tie.Need-sub-write-field
 unfolding datagramAs
 sub-write-field c = datagram-long baseLimits (c .before .before .before .before .before .before .args .p .now) ((datagram-told baseLimits (c .before .before .before .before .before .before .args .p .now) (sym (ap datagramAs (c .before .header .given .1)) ∙ c .before .before .before .read-datagram .ensures)) .1) (getD-bytes (c .before .before .before .before .before .before .args .p .now) (λ k. c .before .before .before .before .before .shared-slice-known .given k .fits))
 
--- src/lib.rt:322:13
 part-write-field-start : tie.Need-part-write-field-start
 unfolding datagramAs
 part-write-field-start c = datagram-long baseLimits (c .before .before .before .before .before .before .args .p .now) ((datagram-told baseLimits (c .before .before .before .before .before .before .args .p .now) (sym (ap datagramAs (c .before .header .given .1)) ∙ c .before .before .before .read-datagram .ensures)) .1) (getD-bytes (c .before .before .before .before .before .before .args .p .now) (λ k. c .before .before .before .before .before .shared-slice-known .given k .fits))
 
--- src/lib.rt:322:13
 part-write-field-end : tie.Need-part-write-field-end
 part-write-field-end c = search needs
 
--- src/lib.rt:316:14
 write-field-requires : tie.Need-write-field-requires
 unfolding datagramAs
 write-field-requires c κs = let h = datagram-most baseLimits (c .before .before .before .before .before .before .before .before .args .p .now) ((datagram-told baseLimits (c .before .before .before .before .before .before .before .before .args .p .now) (sym (ap datagramAs (c .before .before .before .header .given .1)) ∙ c .before .before .before .before .before .read-datagram .ensures)) .1) (getD-bytes (c .before .before .before .before .before .before .before .before .args .p .now) (λ k. c .before .before .before .before .before .before .before .shared-slice-known .given k .fits)) in (field-of (datagram-field baseLimits (c .before .before .before .before .before .before .before .before .args .p .now) ((datagram-told baseLimits (c .before .before .before .before .before .before .before .before .args .p .now) (sym (ap datagramAs (c .before .before .before .header .given .1)) ∙ c .before .before .before .before .before .read-datagram .ensures)) .1) (getD-bytes (c .before .before .before .before .before .before .before .before .args .p .now) (λ k. c .before .before .before .before .before .before .before .shared-slice-known .given k .fits))), omega (arith, h, length-take (length (c .before .before .before .before .before .before .before .before .args .p .now) - 23) (drop 23 (c .before .before .before .before .before .before .before .before .args .p .now)), length-drop 23 (c .before .before .before .before .before .before .before .before .args .p .now)))
 
--- src/lib.rt:306:1
 returns : tie.Need-returns
 unfolding datagramAs
 returns c = datagram-refused baseLimits (c .before .before .before .before .before .before .args .p .now) (datagram-untold baseLimits (c .before .before .before .before .before .before .args .p .now) (sym (ap datagramAs (c .before .r .given .1)) ∙ c .before .before .before .read-datagram .ensures))
 
--- src/lib.rt:306:1
 same-length : tie.Need-same-length
 same-length c = search needs
 
--- src/lib.rt:306:1
 returns-2 : tie.Need-returns-2
 unfolding datagramAs
 returns-2 c = datagram-written baseLimits (c .before .before .before .before .before .before .before .before .before .before .before .args .p .now) ((datagram-told baseLimits (c .before .before .before .before .before .before .before .before .before .before .before .args .p .now) (sym (ap datagramAs (c .before .before .before .before .before .before .header .given .1)) ∙ c .before .before .before .before .before .before .before .before .read-datagram .ensures)) .1) ((datagram-told baseLimits (c .before .before .before .before .before .before .before .before .before .before .before .args .p .now) (sym (ap datagramAs (c .before .before .before .before .before .before .header .given .1)) ∙ c .before .before .before .before .before .before .before .before .read-datagram .ensures)) .2) (getD-bytes (c .before .before .before .before .before .before .before .before .before .before .before .args .p .now) (λ k. c .before .before .before .before .before .before .before .before .before .before .shared-slice-known .given k .fits)) (c .before .before .write-field .ensures)

@@ -9,56 +9,40 @@ use Prim.Native.Nat.{ℕ, _+_}
 use borrow.Author.Needs.{needs}
 use Rattle.contents.proofs.motion.Statement.{statement}
 use Rattle.contents.proofs.motion.Tie as tie
-use Rattle.contents.proofs.motion.Reads as reads
-use Rattle.contents.proofs.motion.Lts as lts
-use Rattle.wire.proofs.be64.Reads as be64-reads
-use Rattle.wire.proofs.short_number.Reads as short-number-reads
 
--- src/lib.rt:125:29
 add-be64 : tie.Need-add-be64
 add-be64 c = search needs
 
--- src/lib.rt:125:15
 be64-requires : tie.Need-be64-requires
 be64-requires c κs = search needs
 
--- src/lib.rt:126:42
 add-short-number : tie.Need-add-short-number
 add-short-number c = search needs
 
--- src/lib.rt:126:9
 short-number-requires : tie.Need-short-number-requires
 short-number-requires c κs = search needs
 
--- src/lib.rt:127:40
 add-short-number-2 : tie.Need-add-short-number-2
 add-short-number-2 c = search needs
 
--- src/lib.rt:127:40
 add-short-number-3 : tie.Need-add-short-number-3
 add-short-number-3 c = search needs
 
--- src/lib.rt:127:9
 short-number-requires-2 : tie.Need-short-number-requires-2
 short-number-requires-2 c κs = search needs
 
--- src/lib.rt:128:11
 mul-result : tie.Need-mul-result
 mul-result c = search needs
 
--- src/lib.rt:128:5
 add-result : tie.Need-add-result
 add-result c = search needs
 
--- src/lib.rt:128:45
 mul-result-2 : tie.Need-mul-result-2
 mul-result-2 c = search needs
 
--- src/lib.rt:128:5
 add-result-2 : tie.Need-add-result-2
 add-result-2 c = search needs
 
--- src/lib.rt:117:1
 returns : tie.Need-returns
 returns c = let s = c .before .before .before .before .args .s .now in
     let at = c .before .before .before .before .args .at in

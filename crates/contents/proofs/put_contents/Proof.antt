@@ -13,46 +13,31 @@ use native.Mathlib.Omega.{arith}
 use Prim.Native.Nat.{_+_, _^_, _<_}
 use Rattle.contents.proofs.put_contents.Statement.{statement}
 use Rattle.contents.proofs.put_contents.Tie as tie
-use Rattle.contents.proofs.put_contents.Reads as reads
-use Rattle.contents.proofs.put_contents.Lts as lts
-use Rattle.contents.proofs.put_records.Reads as put-records-reads
-use Rattle.contents.proofs.quad_word.Reads as quad-word-reads
-use Rattle.store.proofs.store_word.Reads as store-word-reads
-use Rattle.walk.proofs.widths_of.Reads as widths-of-reads
 
--- src/lib.rt:215:35
 mul-marks : tie.Need-mul-marks
 mul-marks c = search needs
 
--- src/lib.rt:215:17
 add-marks : tie.Need-add-marks
 add-marks c = search needs
 
--- src/lib.rt:219:9
 quad-word-requires : tie.Need-quad-word-requires
 quad-word-requires c κs = (omega arith, c .before .before .before .pre .0, omega arith, omega arith)
 
--- src/lib.rt:216:5
 store-word-requires : tie.Need-store-word-requires
 store-word-requires c κs = search needs
 
--- src/lib.rt:221:5
 store-word-requires-2 : tie.Need-store-word-requires-2
 store-word-requires-2 c κs = search needs
 
--- src/lib.rt:222:17
 widths-of-requires : tie.Need-widths-of-requires
 widths-of-requires c κs = search needs
 
--- src/lib.rt:222:5
 put-records-requires : tie.Need-put-records-requires
 put-records-requires c κs = subst (λ (w : Widths). Narrow w × ((c .before .before .before .before .before .before .before .before .before .before .before .before .before .args .base + length (c .before .before .before .before .before .before .before .before .before .before .before .before .before .args .s .now) < 2 ^ 16) × Ready (repeat (c .before .before .before .before .before .before .before .before .before .before .before .before .before .args .count) (plainRecord w)) (c .before .before .before .before .before .before .before .before .before .before .before .before .before .args .s .now) 0 2)) (sym (c .before .widths-of .ensures)) (narrow (c .before .before .before .before .before .before .before .before .before .before .before .before .before .args .codec), (c .before .before .before .before .before .before .before .before .before .before .before .before .before .pre .1 .0, c .before .before .before .before .before .before .before .before .before .before .before .before .before .pre .1 .1))
 
--- src/lib.rt:199:1
 same-length : tie.Need-same-length
 same-length c = search needs
 
--- src/lib.rt:199:1
 returns : tie.Need-returns
 unfolding titleWords
 returns c = contents-copied (record { packet = c .before .before .before .before .before .before .before .before .before .before .before .before .before .before .before .before .args .packet; unused = c .before .before .before .before .before .before .before .before .before .before .before .before .before .before .before .before .args .unused; avl = c .before .before .before .before .before .before .before .before .before .before .before .before .before .before .before .before .args .avl; imei = c .before .before .before .before .before .before .before .before .before .before .before .before .before .before .before .before .args .imei }) (c .before .before .before .before .before .before .before .before .before .before .before .before .before .before .before .before .args .base) (c .before .before .before .before .before .before .before .before .before .before .before .before .before .before .before .before .args .codec) (c .before .before .before .before .before .before .before .before .before .before .before .before .before .before .before .before .args .count) (c .before .before .before .before .widths-of .ensures) (title-stored (c .before .before .before .before .before .before .before .before .before .before .before .before .before .before .before .before .args .out .now) _ _ (c .before .before .before .before .before .before .before .before .before .before .before .store-word .ensures) (c .before .before .before .before .before .before .before .before .before .before .before .before .quad-word .ensures) (c .before .before .before .before .before .before .before .store-word2 .ensures)) (c .before .before .put-records .ensures)

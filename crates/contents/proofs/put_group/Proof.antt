@@ -5,10 +5,6 @@ use native.Mathlib.Omega.{arith}
 use borrow.Author.Needs.{needs}
 use Rattle.contents.proofs.put_group.Statement.{statement}
 use Rattle.contents.proofs.put_group.Tie as tie
-use Rattle.contents.proofs.put_group.Reads as reads
-use Rattle.contents.proofs.put_group.Lts as lts
-use Rattle.contents.proofs.put_value.Reads as put-value-reads
-use Rattle.wire.proofs.short_number.Reads as short-number-reads
 
 abbrev Inv-loop : tie.InvT-loop
 Inv-loop w kind base s at out₀ to count left₀ from₀ dest₀ out left from dest = GroupLeft (listedWord base) w kind s at to out₀ from dest out left
@@ -16,39 +12,30 @@ Inv-loop w kind base s at out₀ to count left₀ from₀ dest₀ out left from 
 abbrev μ-loop : tie.MeasureT-loop
 μ-loop w kind base s at out₀ to count left₀ from₀ dest₀ out left from dest = left
 
--- src/lib.rt:60:9
 short-number-requires : tie.Need-short-number-requires Inv-loop μ-loop
 short-number-requires c κs = (group-inside (listedWord (c .before .before .args .base)) (c .before .before .args .w) (c .before .before .args .kind) (c .before .before .pre .1 .1 .1), c .before .before .pre .0 .count)
 
--- src/lib.rt:61:20
 add-from : tie.Need-add-from Inv-loop μ-loop
 add-from c = omega (arith, group-inside (listedWord (c .before .before .before .args .base)) (c .before .before .before .args .w) (c .before .before .before .args .kind) (c .before .before .before .pre .1 .1 .1), c .before .before .before .pre .1 .1 .1 .small)
 
--- src/lib.rt:63:5
 loop-holds : tie.Need-loop-holds Inv-loop μ-loop
 loop-holds c = group-start (listedWord (c .before .before .before .args .base)) (c .before .before .before .args .w) (c .before .before .before .args .kind) (c .short-number .ensures) (c .before .before .before .pre .1 .1 .1)
 
--- src/lib.rt:64:13
 put-value-requires : tie.Need-put-value-requires Inv-loop μ-loop
 put-value-requires c κs = (c .before .before .before .before .before .before .pre .0, (c .before .before .before .before .before .before .pre .1 .0, (c .before .before .before .before .before .before .pre .1 .1 .0, group-first (listedWord (c .before .before .before .before .before .before .args .base)) (c .before .before .before .before .before .before .args .w) (c .before .before .before .before .before .before .args .kind) (c .before .before .loop .left) (c .before .before .loop .inv) (c .before .loop-test .taken))))
 
--- src/lib.rt:67:9
 sub-left : tie.Need-sub-left Inv-loop μ-loop
 sub-left c = search needs
 
--- src/lib.rt:63:5
 loop-less : tie.Need-loop-less Inv-loop μ-loop
 loop-less c = search needs
 
--- src/lib.rt:63:5
 loop-again : tie.Need-loop-again Inv-loop μ-loop
 loop-again c = group-on (listedWord (c .before .before .before .before .before .before .before .before .before .args .base)) (c .before .before .before .before .before .before .before .before .before .args .w) (c .before .before .before .before .before .before .before .before .before .args .kind) (c .before .before .before .before .before .loop .left) (c .before .before .before .before .before .loop .inv) (paced-value (c .before .before .before .before .before .before .before .before .before .args .base) (c .before .before .before .before .before .before .before .before .before .args .w) (c .before .before .before .before .before .before .before .before .before .args .kind) (c .before .before .before .before .before .before .before .before .before .pre .1 .0 .0)) (c .before .before .before .before .loop-test .taken) (c .before .before .put-value .ensures) (c .before .before .put-value .kept .1 .1 .1 .1 .1 .0)
 
--- src/lib.rt:52:1
 same-length : tie.Need-same-length Inv-loop μ-loop
 same-length c = c .before .loop .inv .long
 
--- src/lib.rt:52:1
 returns : tie.Need-returns Inv-loop μ-loop
 returns c = group-done (listedWord (c .before .before .before .before .before .args .base)) (c .before .before .before .before .before .args .w) (c .before .before .before .before .before .args .kind) (c .before .loop .left) (c .before .loop .inv) (c .loop-test .left)
 

@@ -10,11 +10,6 @@ use Rattle.avl.specs.Codecs.{kinds}
 use native.Mathlib.Omega.{arith}
 use Rattle.contents.proofs.put_groups.Statement.{statement}
 use Rattle.contents.proofs.put_groups.Tie as tie
-use Rattle.contents.proofs.put_groups.Reads as reads
-use Rattle.contents.proofs.put_groups.Lts as lts
-use Rattle.contents.proofs.put_group.Reads as put-group-reads
-use Rattle.walk.proofs.kind_at.Reads as kind-at-reads
-use Rattle.walk.proofs.kind_count.Reads as kind-count-reads
 
 abbrev Inv-loop : tie.InvT-loop
 Inv-loop w base s at out₀ to n from₀ dest₀ k₀ out from dest k = GroupsLeft (listedWord base) w s at to out₀ from dest out k
@@ -22,43 +17,34 @@ Inv-loop w base s at out₀ to n from₀ dest₀ k₀ out from dest k = GroupsLe
 abbrev μ-loop : tie.MeasureT-loop
 μ-loop w base s at out₀ to n from₀ dest₀ k₀ out from dest k = n - k
 
--- src/lib.rt:79:9
 kind-count-requires : tie.Need-kind-count-requires Inv-loop μ-loop
 kind-count-requires c κs = tt
 
--- src/lib.rt:83:5
 loop-holds : tie.Need-loop-holds Inv-loop μ-loop
 loop-holds c = left-start (c .before .before .before .pre .1 .1)
 
--- src/lib.rt:84:13
 kind-at-requires : tie.Need-kind-at-requires Inv-loop μ-loop
 kind-at-requires c κs = omega (arith, kinds-few (c .before .before .before .before .before .args .w), c .before .before .kind-count .ensures)
 
--- src/lib.rt:85:13
 put-group-requires : tie.Need-put-group-requires Inv-loop μ-loop
 put-group-requires c κs = let h : c .before .before .before .loop .k < length (kinds (c .before .before .before .before .before .before .before .args .w)) = omega (arith, c .before .before .loop-test .taken, c .before .before .before .before .kind-count .ensures) in
     let e = c .before .kind-at .ensures ∙ kind-known (c .before .before .before .before .before .before .before .args .w) (c .before .before .before .loop .k) h in
     (c .before .before .before .before .before .before .before .pre .0, (kind-range (c .before .before .before .before .before .before .before .args .w) (c .before .before .before .loop .k) h e, (c .before .before .before .before .before .before .before .pre .1 .0, groups-first (listedWord (c .before .before .before .before .before .before .before .args .base)) (c .before .before .before .before .before .before .before .args .w) (c .before .before .before .loop .k) (c .before .before .before .loop .inv) h e)))
 
--- src/lib.rt:88:9
 add-k : tie.Need-add-k Inv-loop μ-loop
 add-k c = search needs
 
--- src/lib.rt:83:5
 loop-less : tie.Need-loop-less Inv-loop μ-loop
 loop-less c = search needs
 
--- src/lib.rt:83:5
 loop-again : tie.Need-loop-again Inv-loop μ-loop
 loop-again c = let h : c .before .before .before .before .before .before .loop .k < length (kinds (c .before .before .before .before .before .before .before .before .before .before .args .w)) = omega (arith, c .before .before .before .before .before .loop-test .taken, c .before .before .before .before .before .before .before .kind-count .ensures) in
     let e = c .before .before .before .before .kind-at .ensures ∙ kind-known (c .before .before .before .before .before .before .before .before .before .before .args .w) (c .before .before .before .before .before .before .loop .k) h in
     groups-on (listedWord (c .before .before .before .before .before .before .before .before .before .before .args .base)) (c .before .before .before .before .before .before .before .before .before .before .args .w) (c .before .before .before .before .before .before .loop .k) (c .before .before .before .before .before .before .loop .inv) h e (paced-value (c .before .before .before .before .before .before .before .before .before .before .args .base) (c .before .before .before .before .before .before .before .before .before .before .args .w)) (kind-range (c .before .before .before .before .before .before .before .before .before .before .args .w) (c .before .before .before .before .before .before .loop .k) h e .0) (c .before .before .put-group .ensures) (c .before .before .put-group .kept .1 .1 .1 .1 .1 .0)
 
--- src/lib.rt:73:1
 same-length : tie.Need-same-length Inv-loop μ-loop
 same-length c = c .before .loop .inv .long
 
--- src/lib.rt:73:1
 returns : tie.Need-returns Inv-loop μ-loop
 returns c = groups-done (listedWord (c .before .before .before .before .before .args .base)) (c .before .before .before .before .before .args .w) (c .before .loop .k) (c .before .loop .inv) (omega (arith, c .loop-test .left, c .before .before .kind-count .ensures))
 

@@ -3,45 +3,31 @@ use native.Mathlib.Omega.{arith}
 use borrow.Author.Needs.{needs}
 use Rattle.contents.proofs.put_record.Statement.{statement}
 use Rattle.contents.proofs.put_record.Tie as tie
-use Rattle.contents.proofs.put_record.Reads as reads
-use Rattle.contents.proofs.put_record.Lts as lts
-use Rattle.contents.proofs.put_groups.Reads as put-groups-reads
-use Rattle.contents.proofs.put_head.Reads as put-head-reads
-use Rattle.element.proofs.fixed_size.Reads as fixed-size-reads
 
--- src/lib.rt:186:17
 add-first : tie.Need-add-first
 add-first c = omega (arith, c .before .before .pre .1 .1 .behind, c .before .before .pre .1 .1 .inside, c .before .before .pre .1 .1 .small)
 
--- src/lib.rt:187:45
 fixed-size-requires : tie.Need-fixed-size-requires
 fixed-size-requires c κs = search needs
 
--- src/lib.rt:187:40
 add-put-groups : tie.Need-add-put-groups
 add-put-groups c = omega (arith, c .fixed-size .ensures, groups-inside (c .before .before .before .args .w) (c .before .before .before .pre .1 .1), c .before .before .before .pre .1 .1 .small)
 
--- src/lib.rt:187:9
 put-groups-requires : tie.Need-put-groups-requires
 put-groups-requires c κs = (c .before .before .before .before .pre .0, (c .before .before .before .before .pre .1 .0, rw (c .before .fixed-size .ensures) (groups-ready (c .before .before .before .before .args .w) (c .before .before .before .before .pre .1 .1))))
 
--- src/lib.rt:188:30
 sub-put-head : tie.Need-sub-put-head
 sub-put-head c = counted-bytes (c .before .before .before .before .before .before .before .before .args .w) (c .before .before .before .before .before .before .before .before .pre .1 .1) (c .before .before .before .before .before .before .before .before .args .base) (rw (c .before .before .before .before .before .fixed-size .ensures) at (c .before .before .before .put-groups .ensures)) .0
 
--- src/lib.rt:188:47
 sub-put-head-2 : tie.Need-sub-put-head-2
 sub-put-head-2 c = counted-elements (c .before .before .before .before .before .before .before .before .before .args .w) (c .before .before .before .before .before .before .before .before .before .pre .1 .1) (c .before .before .before .before .before .before .before .before .before .args .base) (rw (c .before .before .before .before .before .before .fixed-size .ensures) at (c .before .before .before .before .put-groups .ensures)) .0
 
--- src/lib.rt:188:5
 put-head-requires : tie.Need-put-head-requires
 put-head-requires c κs = (c .before .before .before .before .before .before .before .before .before .before .pre .0, (c .before .before .before .before .before .before .before .before .before .before .pre .1 .0, (c .before .before .before .before .before .before .before .before .before .before .pre .1 .1, few (c .before .before .before .before .before .before .before .before .before .before .args .w) (c .before .before .before .before .before .before .before .before .before .before .pre .1 .1) (c .before .before .before .before .before .before .before .before .before .before .args .base) (rw (c .before .before .before .before .before .before .before .fixed-size .ensures) at (c .before .before .before .before .before .put-groups .ensures)) (c .before .before .before .before .before .before .before .before .before .before .pre .0) (c .before .before .before .before .before .before .before .before .before .before .pre .1 .0))))
 
--- src/lib.rt:180:1
 same-length : tie.Need-same-length
 same-length c = search needs
 
--- src/lib.rt:180:1
 returns : tie.Need-returns
 returns c = record-copied (c .before .before .before .before .before .before .before .before .before .before .before .before .before .args .w) (c .before .before .before .before .before .before .before .before .before .before .before .before .before .pre .1 .1) (c .before .before .before .before .before .before .before .before .before .before .before .before .before .args .base) (rw (c .before .before .before .before .before .before .before .before .before .before .fixed-size .ensures) at (c .before .before .before .before .before .before .before .before .put-groups .ensures)) (c .before .before .put-head .ensures)
 

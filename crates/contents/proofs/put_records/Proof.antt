@@ -6,9 +6,6 @@ use borrow.Author.Needs.{needs}
 use Prim.Native.Nat.{_-_}
 use Rattle.contents.proofs.put_records.Statement.{statement}
 use Rattle.contents.proofs.put_records.Tie as tie
-use Rattle.contents.proofs.put_records.Reads as reads
-use Rattle.contents.proofs.put_records.Lts as lts
-use Rattle.contents.proofs.put_record.Reads as put-record-reads
 
 abbrev Inv-loop : tie.InvT-loop
 Inv-loop w count base s out₀ to from₀ dest₀ i₀ out from dest i = RecordsLeft (recordText (listedWord base) w (headText base w)) w count s to out₀ from dest out i
@@ -16,31 +13,24 @@ Inv-loop w count base s out₀ to from₀ dest₀ i₀ out from dest i = Records
 abbrev μ-loop : tie.MeasureT-loop
 μ-loop w count base s out₀ to from₀ dest₀ i₀ out from dest i = count - i
 
--- src/lib.rt:135:5
 loop-holds : tie.Need-loop-holds Inv-loop μ-loop
 loop-holds c = records-start (recordText (listedWord (c .before .before .args .base)) (c .before .before .args .w) (headText (c .before .before .args .base) (c .before .before .args .w))) (c .before .before .args .w) (c .before .before .args .count) (c .before .before .pre .1 .1)
 
--- src/lib.rt:136:13
 put-record-requires : tie.Need-put-record-requires Inv-loop μ-loop
 put-record-requires c κs = (c .before .before .before .before .before .pre .0, (c .before .before .before .before .before .pre .1 .0, records-first (recordText (listedWord (c .before .before .before .before .before .args .base)) (c .before .before .before .before .before .args .w) (headText (c .before .before .before .before .before .args .base) (c .before .before .before .before .before .args .w))) (c .before .before .before .before .before .args .w) (c .before .before .before .before .before .args .count) (c .before .before .loop .i) (c .before .before .loop .inv) (c .before .loop-test .taken)))
 
--- src/lib.rt:139:9
 add-i : tie.Need-add-i Inv-loop μ-loop
 add-i c = search needs
 
--- src/lib.rt:135:5
 loop-less : tie.Need-loop-less Inv-loop μ-loop
 loop-less c = search needs
 
--- src/lib.rt:135:5
 loop-again : tie.Need-loop-again Inv-loop μ-loop
 loop-again c = records-on (recordText (listedWord (c .before .before .before .before .before .before .before .before .args .base)) (c .before .before .before .before .before .before .before .before .args .w) (headText (c .before .before .before .before .before .before .before .before .args .base) (c .before .before .before .before .before .before .before .before .args .w))) (c .before .before .before .before .before .before .before .before .args .w) (c .before .before .before .before .before .before .before .before .args .count) (c .before .before .before .before .before .loop .i) (c .before .before .before .before .before .loop .inv) (paced-words (c .before .before .before .before .before .before .before .before .args .base) (c .before .before .before .before .before .before .before .before .args .w)) (c .before .before .before .before .loop-test .taken) (c .before .before .put-record .ensures) (c .before .before .put-record .kept .1 .1 .1 .1 .0)
 
--- src/lib.rt:126:1
 same-length : tie.Need-same-length Inv-loop μ-loop
 same-length c = c .before .loop .inv .long
 
--- src/lib.rt:126:1
 returns : tie.Need-returns Inv-loop μ-loop
 returns c = records-done (recordText (listedWord (c .before .before .before .before .args .base)) (c .before .before .before .before .args .w) (headText (c .before .before .before .before .args .base) (c .before .before .before .before .args .w))) (c .before .before .before .before .args .w) (c .before .before .before .before .args .count) (c .before .loop .i) (c .before .loop .inv) (c .loop-test .left)
 

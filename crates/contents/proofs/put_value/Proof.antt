@@ -3,49 +3,34 @@ use native.Mathlib.Omega.{arith}
 use borrow.Author.Needs.{needs}
 use Rattle.contents.proofs.put_value.Statement.{statement}
 use Rattle.contents.proofs.put_value.Tie as tie
-use Rattle.contents.proofs.put_value.Reads as reads
-use Rattle.contents.proofs.put_value.Lts as lts
-use Rattle.contents.proofs.quad_word.Reads as quad-word-reads
-use Rattle.element.proofs.element_value.Reads as element-value-reads
-use Rattle.store.proofs.store_word.Reads as store-word-reads
 
--- src/lib.rt:42:9
 element-value-requires : tie.Need-element-value-requires
 element-value-requires c κs = (c .before .before .pre .0, (c .before .before .pre .1 .0 .1, value-ready (c .before .before .args .w) (c .before .before .args .kind) (c .before .before .pre .1 .1 .1)))
 
--- src/lib.rt:43:18
 add-offset : tie.Need-add-offset
 add-offset c = omega (arith, value-inside (c .before .before .before .before .args .w) (c .before .before .before .before .args .kind) (c .before .before .before .before .pre .1 .1 .1) (c .before .element-value .ensures), c .before .before .before .before .pre .1 .1 .0)
 
--- src/lib.rt:44:42
 cast-quad-word : tie.Need-cast-quad-word
 cast-quad-word c = search needs
 
--- src/lib.rt:44:55
 cast-quad-word-2 : tie.Need-cast-quad-word-2
 cast-quad-word-2 c = search needs
 
--- src/lib.rt:44:32
 quad-word-requires : tie.Need-quad-word-requires
 quad-word-requires c κs = (omega arith, omega arith, omega (arith, value-inside (c .before .before .before .before .before .before .before .args .w) (c .before .before .before .before .before .before .before .args .kind) (c .before .before .before .before .before .before .before .pre .1 .1 .1) (c .before .before .before .before .element-value .ensures), c .before .before .before .before .before .before .before .pre .1 .1 .0), omega (arith, value-inside (c .before .before .before .before .before .before .before .args .w) (c .before .before .before .before .before .before .before .args .kind) (c .before .before .before .before .before .before .before .pre .1 .1 .1) (c .before .before .before .before .element-value .ensures), c .before .before .before .before .before .before .before .pre .1 .1 .0))
 
--- src/lib.rt:44:5
 store-word-requires : tie.Need-store-word-requires
 store-word-requires c κs = search needs
 
--- src/lib.rt:46:15
 add-t18 : tie.Need-add-t18
 add-t18 c = omega (arith, value-inside (c .before .before .before .before .before .before .before .before .before .before .before .before .args .w) (c .before .before .before .before .before .before .before .before .before .before .before .before .args .kind) (c .before .before .before .before .before .before .before .before .before .before .before .before .pre .1 .1 .1) (c .before .before .before .before .before .before .before .before .before .element-value .ensures), c .before .before .before .before .before .before .before .before .before .before .before .before .pre .1 .1 .0)
 
--- src/lib.rt:47:13
 add-t19 : tie.Need-add-t19
 add-t19 c = omega (arith, c .before .before .before .before .before .before .before .before .before .before .before .before .pre .1 .1 .1 .behind, c .before .before .before .before .before .before .before .before .before .before .before .before .pre .1 .1 .1 .inside, c .before .before .before .before .before .before .before .before .before .before .before .before .pre .1 .1 .1 .small)
 
--- src/lib.rt:35:1
 same-length : tie.Need-same-length
 same-length c = search needs
 
--- src/lib.rt:35:1
 returns : tie.Need-returns
 returns c = value-copied (c .before .before .before .before .before .before .before .before .before .before .before .before .args .w) (c .before .before .before .before .before .before .before .before .before .before .before .before .args .kind) (c .before .before .before .before .before .before .before .before .before .before .before .before .pre .1 .1 .1) (c .before .before .before .before .before .before .before .before .before .element-value .ensures) (c .before .before .before .before .before .before .before .before .before .before .before .before .args .base) (c .before .before .before .before .quad-word .ensures) (c .before .before .before .store-word .ensures)
 

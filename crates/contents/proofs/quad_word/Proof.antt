@@ -3,34 +3,25 @@ use mathlib.Core.Path.{refl}
 use borrow.Author.Needs.{needs}
 use Rattle.contents.proofs.quad_word.Statement.{statement}
 use Rattle.contents.proofs.quad_word.Tie as tie
-use Rattle.contents.proofs.quad_word.Reads as reads
-use Rattle.contents.proofs.quad_word.Lts as lts
 
--- src/lib.rt:31:9
 mul-result : tie.Need-mul-result
 mul-result c = search needs
 
--- src/lib.rt:31:5
 add-result : tie.Need-add-result
 add-result c = search needs
 
--- src/lib.rt:31:24
 mul-result-2 : tie.Need-mul-result-2
 mul-result-2 c = search needs
 
--- src/lib.rt:31:5
 add-result-2 : tie.Need-add-result-2
 add-result-2 c = search needs
 
--- src/lib.rt:31:44
 mul-result-3 : tie.Need-mul-result-3
 mul-result-3 c = search needs
 
--- src/lib.rt:31:5
 add-result-3 : tie.Need-add-result-3
 add-result-3 c = search needs
 
--- src/lib.rt:27:1
 returns : tie.Need-returns
 unfolding quad
 returns c = refl

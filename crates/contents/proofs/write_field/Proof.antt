@@ -7,107 +7,79 @@ use lib.Dec.{lit≤}
 use native.Mathlib.Omega.{arith}
 use Rattle.contents.proofs.write_field.Statement.{statement}
 use Rattle.contents.proofs.write_field.Tie as tie
-use Rattle.contents.proofs.write_field.Reads as reads
-use Rattle.contents.proofs.write_field.Lts as lts
-use Rattle.contents.proofs.put_contents.Reads as put-contents-reads
 
--- src/lib.rt:239:17
 shared-slice-read-codec : tie.Need-shared-slice-read-codec
 shared-slice-read-codec c = search needs
 
--- src/lib.rt:240:17
 shared-slice-read-count : tie.Need-shared-slice-read-count
 shared-slice-read-count c = search needs
 
--- src/lib.rt:240:17
 cast-count : tie.Need-cast-count
 cast-count c = omega (arith, c .shared-slice-known3 .given 1)
 
--- src/lib.rt:241:16
 sub-last : tie.Need-sub-last
 sub-last c = search needs
 
--- src/lib.rt:251:13
 sub-put-contents : tie.Need-sub-put-contents
 sub-put-contents c = search needs
 
--- src/lib.rt:251:13
 part-put-contents-start : tie.Need-part-put-contents-start
 part-put-contents-start c = search needs
 
--- src/lib.rt:251:13
 part-put-contents-end : tie.Need-part-put-contents-end
 part-put-contents-end c = search needs
 
--- src/lib.rt:243:13
 put-contents-requires : tie.Need-put-contents-requires
 put-contents-requires c κs = (omega (arith, c .before .before .before .shared-slice-known3 .given 1), (body-short (c .before .before .before .before .before .before .before .args .base) (c .before .before .before .before .before .before .before .args .d .now) (c .before .before .before .before .before .before .before .pre .1), field-ready (c .before .before .before .before .before .before .before .args .d .now) 2 (lit≤ tt) (getD-bytes (c .before .before .before .before .before .before .before .args .d .now) (λ k. c .before .before .before .before .before .before .shared-slice-known .given k .fits)) (c .before .before .before .before .before .before .before .pre .0)))
 
--- src/lib.rt:254:9
 same-length : tie.Need-same-length
 same-length c = search needs
 
--- src/lib.rt:254:9
 returns : tie.Need-returns
 returns c = writes-room (fieldContents (record { packet = c .before .before .before .before .before .before .before .before .before .before .args .packet; unused = c .before .before .before .before .before .before .before .before .before .before .args .unused; avl = c .before .before .before .before .before .before .before .before .before .before .args .avl; imei = c .before .before .before .before .before .before .before .before .before .before .args .imei }) (c .before .before .before .before .before .before .before .before .before .before .args .base)) (c .before .before .before .before .before .before .before .before .before .before .args .d .now) (λ longest a e. table-fits (record { packet = c .before .before .before .before .before .before .before .before .before .before .args .packet; unused = c .before .before .before .before .before .before .before .before .before .before .args .unused; avl = c .before .before .before .before .before .before .before .before .before .before .args .avl; imei = c .before .before .before .before .before .before .before .before .before .before .args .imei }) (c .before .before .before .before .before .before .before .before .before .before .args .base) longest (c .before .before .before .before .before .before .before .before .before .before .args .d .now) (c .before .before .before .before .before .before .before .before .before .before .args .out .now) a (getD-bytes (c .before .before .before .before .before .before .before .before .before .before .args .d .now) (λ k. c .before .before .before .before .before .before .before .before .before .shared-slice-known .given k .fits)) (c .before .before .before .before .before .before .before .before .before .before .pre .0 .long) (c .before .before .before .before .before .if1 .taken) e) (c .before .before .put-contents .ensures)
 
--- src/lib.rt:264:9
 sub-put-contents-2 : tie.Need-sub-put-contents-2
 sub-put-contents-2 c = search needs
 
--- src/lib.rt:264:9
 part-put-contents-start-2 : tie.Need-part-put-contents-start-2
 part-put-contents-start-2 c = search needs
 
--- src/lib.rt:264:9
 part-put-contents-end-2 : tie.Need-part-put-contents-end-2
 part-put-contents-end-2 c = search needs
 
--- src/lib.rt:265:9
 sub-put-contents-3 : tie.Need-sub-put-contents-3
 sub-put-contents-3 c = search needs
 
--- src/lib.rt:265:9
 part-put-contents-start-3 : tie.Need-part-put-contents-start-3
 part-put-contents-start-3 c = search needs
 
--- src/lib.rt:265:9
 part-put-contents-end-3 : tie.Need-part-put-contents-end-3
 part-put-contents-end-3 c = search needs
 
--- src/lib.rt:256:16
 put-contents-requires-2 : tie.Need-put-contents-requires-2
 put-contents-requires-2 c κs = (omega (arith, c .before .before .before .shared-slice-known3 .given 1), (body-short (c .before .before .before .before .before .before .before .args .base) (c .before .before .before .before .before .before .before .args .d .now) (c .before .before .before .before .before .before .before .pre .1), field-ready (c .before .before .before .before .before .before .before .args .d .now) 2 (lit≤ tt) (getD-bytes (c .before .before .before .before .before .before .before .args .d .now) (λ k. c .before .before .before .before .before .before .shared-slice-known .given k .fits)) (c .before .before .before .before .before .before .before .pre .0)))
 
--- src/lib.rt:268:9
 same-length-2 : tie.Need-same-length-2
 same-length-2 c = search needs
 
--- src/lib.rt:268:9
 returns-2 : tie.Need-returns-2
 returns-2 c = writes-short (fieldContents (record { packet = c .before .before .before .before .before .before .before .before .before .before .before .args .packet; unused = c .before .before .before .before .before .before .before .before .before .before .before .args .unused; avl = c .before .before .before .before .before .before .before .before .before .before .before .args .avl; imei = c .before .before .before .before .before .before .before .before .before .before .before .args .imei }) (c .before .before .before .before .before .before .before .before .before .before .before .args .base)) (c .before .before .before .before .before .before .before .before .before .before .before .args .d .now) (c .before .before .before .put-contents2 .ensures) (c .before .before .before .put-contents2 .kept .1 .1 .1 .1 .1 .1 .1 .1 .0) (c .if2 .taken)
 
--- src/lib.rt:281:9
 sub-put-contents-4 : tie.Need-sub-put-contents-4
 sub-put-contents-4 c = search needs
 
--- src/lib.rt:281:9
 part-put-contents-start-4 : tie.Need-part-put-contents-start-4
 part-put-contents-start-4 c = search needs
 
--- src/lib.rt:281:9
 part-put-contents-end-4 : tie.Need-part-put-contents-end-4
 part-put-contents-end-4 c = search needs
 
--- src/lib.rt:273:5
 put-contents-requires-3 : tie.Need-put-contents-requires-3
 put-contents-requires-3 c κs = (omega (arith, c .before .before .before .before .before .before .before .before .before .shared-slice-known3 .given 1), (body-short (c .before .before .before .before .before .before .before .before .before .before .before .before .before .args .base) (c .before .before .before .before .before .before .before .before .before .before .before .before .before .args .d .now) (c .before .before .before .before .before .before .before .before .before .before .before .before .before .pre .1), field-ready (c .before .before .before .before .before .before .before .before .before .before .before .before .before .args .d .now) 2 (lit≤ tt) (getD-bytes (c .before .before .before .before .before .before .before .before .before .before .before .before .before .args .d .now) (λ k. c .before .before .before .before .before .before .before .before .before .before .before .before .shared-slice-known .given k .fits)) (c .before .before .before .before .before .before .before .before .before .before .before .before .before .pre .0)))
 
--- src/lib.rt:226:1
 same-length-3 : tie.Need-same-length-3
 same-length-3 c = search needs
 
--- src/lib.rt:226:1
 returns-3 : tie.Need-returns-3
 returns-3 c = writes-done (fieldContents (record { packet = c .before .before .before .before .before .before .before .before .before .before .before .before .before .before .before .before .args .packet; unused = c .before .before .before .before .before .before .before .before .before .before .before .before .before .before .before .before .args .unused; avl = c .before .before .before .before .before .before .before .before .before .before .before .before .before .before .before .before .args .avl; imei = c .before .before .before .before .before .before .before .before .before .before .before .before .before .before .before .before .args .imei }) (c .before .before .before .before .before .before .before .before .before .before .before .before .before .before .before .before .args .base)) (c .before .before .before .before .before .before .before .before .before .before .before .before .before .before .before .before .args .d .now) (c .before .before .before .before .before .before .before .before .put-contents2 .ensures) (c .before .before .before .before .before .before .before .before .put-contents2 .kept .1 .1 .1 .1 .1 .1 .1 .1 .0) (c .before .before .before .before .before .if2 .left) (c .before .before .put-contents3 .ensures)
 
