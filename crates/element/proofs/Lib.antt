@@ -2,4 +2,3 @@ pub mod ElementLaws
 pub mod ReadLaws
 pub mod SearchLaws
 pub mod NumberLaws
-pub mod CursorLaws

@@ -2,10 +2,10 @@
 use Prim.Native.Nat.{ℕ, suc, _+_, _^_, _≤_, _<_}
 use native.Mathlib.Nat.{pow-le-pow-right, add-zero, le-trans}
 use native.Mathlib.Omega.{arith}
-use mathlib.Core.Path.{_≡_, refl, sym, ap, ap₂, _∙_}
+use mathlib.Core.Path.{_≡_, refl, sym, ap, _∙_}
 use mathlib.Core.Bool.{Bool, true, false}
 use mathlib.Core.List.{List, [], _∷_}
-use lib.ListN.{length, take, drop, length-drop}
+use lib.ListN.{length, drop, length-drop}
 use lib.Seq.{length-take-le}
 use lib.Dec.{eqb}
 use lib.IntN.{ℤ}
@@ -25,7 +25,6 @@ use Rattle.element.specs.declared.RecordFields.{RecordFields}
 use Rattle.element.specs.declared.Value.{Value}
 use Rattle.element.specs.Results.{recordResult}
 use Rattle.element.specs.Elements.{leadSize, fixedSize}
-use Rattle.element.specs.Places.{part}
 use Rattle.element.specs.Search.{valueAt}
 
 -- ---- readers
@@ -47,13 +46,12 @@ size-meets false kind s at = meets-pure kind s at (refl, sym (add-zero at))
 pub record ElementRead (w : Widths) (kind : ℕ) (s : List ℕ) (at : ℕ) (e : Element) (next : ℕ) : Type 0 where
   pub idIs : numberAt s at (w .id) ≡ e .id
   pub sizeIs : length (e .value) ≡ pick (eqb kind 9) (numberAt s (at + w .id) 2) kind
-  pub stands : part s (at + leadSize w kind) (length (e .value)) ≡ e .value
   pub ends : next ≡ at + leadSize w kind + length (e .value)
   pub inside : next ≤ length s
   pub onward : 1 ≤ kind → at < next
 
 pub element-read : (w : Widths) (kind : ℕ) (s : List ℕ) (at : ℕ) → Meets (element w kind s at) (ElementRead w kind s at)
-unfolding valueSize leadSize part
+unfolding valueSize leadSize
 element-read w kind s at =
     record {
       if-got = λ e n h.
@@ -64,7 +62,6 @@ element-read w kind s at =
           record {
             idIs = sym (ap (λ (x : Element). x .id) (r .is));
             sizeIs = size ∙ k .0;
-            stands = ap₂ (λ (n m : ℕ). take n (drop m s)) size start ∙ sym (ap (λ (x : Element). x .value) (r .is));
             ends = omega (arith, size, r .end, start);
             inside = omega (arith, r .end, r .inside);
             onward = λ i. omega (arith, Inversion.size-read kind s (at + w .id) .if-got _ _ (r .sized) .paced i, r .end);

@@ -22,7 +22,6 @@ use Rattle.element.specs.declared.Value.{Value}
 use Rattle.element.specs.declared.Search.{Search}
 use Rattle.element.specs.declared.ElementAnswer.{ElementAnswer}
 use Rattle.element.specs.Elements.{Located, leadSize, locateGroup, locateGroups, fixedSize, elements, firstWith}
-use Rattle.element.specs.Places.{part}
 use Rattle.element.specs.Search.{Onward, ReadableElement, ReadableGroup, locatedValue, valueAt, hitOr, searched, elementAs}
 use Rattle.element.proofs.ElementLaws.{length-element}
 use Rattle.element.proofs.ReadLaws.{got-same, element-read, repeat-parted, repeat-nothing, groups-parted, record-read}
@@ -49,10 +48,6 @@ module _ {w : Widths} {kind : ℕ} {s : List ℕ} {at m : ℕ} {l : List Element
     unfolding valueAt locatedValue
     run-value = is _ _ (f .read .one)
 
-    pub run-begins : at ≤ v .offset
-    unfolding locatedValue
-    run-begins = omega (arith, ap (λ (x : Value). x .offset) run-value)
-
     -- the value ends where the element does
     pub run-behind : v .offset + v .size ≡ f .read .mid
     unfolding locatedValue
@@ -60,13 +55,6 @@ module _ {w : Widths} {kind : ℕ} {s : List ℕ} {at m : ℕ} {l : List Element
 
     pub run-within : v .offset + v .size ≤ length s
     run-within = omega (arith, run-behind, element-read w kind s at .if-got _ _ (f .read .one) .inside)
-
-    pub run-stands : part s (v .offset) (v .size) ≡ present .value
-    unfolding locatedValue
-    run-stands = ap (λ (x : Value). part s (x .offset) (x .size)) run-value ∙ element-read w kind s at .if-got _ _ (f .read .one) .stands
-
-    pub run-onward : 1 ≤ kind → at < v .offset + v .size
-    run-onward i = omega (arith, run-behind, element-read w kind s at .if-got _ _ (f .read .one) .onward i)
 
     pub run-located : locateGroup w kind at l ≡ present ∷ locateGroup w kind (v .offset + v .size) (f .read .others)
     unfolding locateGroup

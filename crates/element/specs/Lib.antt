@@ -2,4 +2,3 @@ pub mod Elements
 pub mod Places
 pub mod Results
 pub mod Search
-pub mod Cursors

@@ -7,10 +7,9 @@ ghost use Rattle.wire.specs.Reading.{got};
 ghost use Rattle.avl.specs.Records.{Element, AvlRecord};
 ghost use Rattle.avl.specs.RecordReader.{element, group, plainRecord};
 ghost use Rattle.walk.specs.Walks.{Narrow};
-ghost use Rattle.element.specs.Elements.{Located, fixedSize, locateGroup, elements, nth, firstWith};
+ghost use Rattle.element.specs.Elements.{fixedSize, locateGroup, nth, firstWith};
 ghost use Rattle.element.specs.Results.{recordResult};
 ghost use Rattle.element.specs.Search.{Readable, HasElements, ReadableElement, ReadableGroup, Finds, valueAt, searched, elementAs};
-ghost use Rattle.element.specs.Cursors.{Remaining, CursorIn, Stepped};
 
 // A record's fixed fields, and the number of its elements. Whole words first: a refusal stands in their place, and they are copied as words.
 pub struct RecordFields {
@@ -39,19 +38,6 @@ pub struct Value {
 pub enum ElementAnswer {
     At(Value),
     Nothing,
-}
-
-// A place among a record's elements: of the group with this number, `left` are still to come, the first of them at `next`.
-pub struct Cursor {
-    pub group: usize,
-    pub left: usize,
-    pub next: usize,
-}
-
-// The element that a cursor stands before, and the cursor behind it; or none is left.
-pub enum Step {
-    At(Value, Cursor),
-    Done,
 }
 
 // The value looked for in a group; or where the group ends.
@@ -213,50 +199,4 @@ pub fn nth_element(w: Widths, part: &[u8], n: usize) -> ElementAnswer
         return nth_variable(w, part, next, left);
     }
     ElementAnswer::Nothing
-}
-
-// ---- one element after another
-
-// A cursor before the first element of the record that `part` is.
-pub fn first(w: Widths, part: &[u8]) -> Cursor
-    requires { ⌜ Narrow w ⌝ }
-    requires { ⌜ Readable w (now part) ⌝ }
-    ensures { λ r. ⌜ ((x : AvlRecord) (n : ℕ) → plainRecord w (now (part .entry)) 0 ≡ got x n → Remaining w (now (part .entry)) r (elements w x)) ⌝ }
-{
-    let width = w.count;
-    let at = fixed_size(w);
-    let left = wire::short_number(part, at, width) as usize;
-    Cursor {
-        group: 0,
-        left,
-        next: at + width,
-    }
-}
-
-// The element that the cursor stands before. Empty groups are passed over.
-pub fn advance(w: Widths, part: &[u8], cursor: Cursor) -> Step
-    requires { ⌜ Narrow w ⌝ }
-    requires { ⌜ CursorIn w (now part) cursor ⌝ }
-    ensures { λ r. ⌜ ((l : List Located) → Remaining w (now (part .entry)) cursor l → Stepped w (now (part .entry)) cursor l r) ⌝ }
-{
-    let kinds = walk::kind_count(w);
-    let width = w.count;
-    let mut group = cursor.group;
-    let mut left = cursor.left;
-    let mut next = cursor.next;
-    while left < 1 {
-        group += 1;
-        if kinds <= group {
-            return Step::Done;
-        }
-        left = wire::short_number(part, next, width) as usize;
-        next += width;
-    }
-    let v = element_value(w, walk::kind_at(group), part, next);
-    let behind = Cursor {
-        group,
-        left: left - 1,
-        next: v.offset + v.size,
-    };
-    Step::At(v, behind)
 }

@@ -2,8 +2,8 @@
 use Prim.Native.Nat.{ℕ, _+_, _-_, _^_, _≤_, _<_}
 use native.Mathlib.Omega.{arith}
 use mathlib.Core.Path.{_≡_, sym, ap, ap₂, _∙_}
-use mathlib.Core.List.{List, [], _++_, append-nil}
-use lib.ListN.{length, take, drop, length-append, length-drop}
+use mathlib.Core.List.{List, _++_}
+use lib.ListN.{length, take, drop, length-drop}
 use lib.Seq.{sets, length-take-le}
 use mir.Val.{Fits}
 use mir.Syntax.{w64}

@@ -13,7 +13,7 @@ use Rattle.avl.specs.Codecs.{kinds}
 use Rattle.avl.specs.Records.{Element, AvlRecord}
 use Rattle.avl.specs.RecordReader.{element, plainRecord}
 use Rattle.avl.proofs.Inversion.{size-read, element-read}
-use Rattle.element.specs.Elements.{Located, locateGroup, locateGroups, fixedSize}
+use Rattle.element.specs.Elements.{locateGroup, locateGroups, fixedSize}
 use Rattle.store.specs.Entries.{Entry, entryBytes}
 use Rattle.tlv.specs.Form.{fixedEntry, elementEntry, groupEntries, groupsEntries, recordsEntries}
 use Rattle.traverse.specs.Texts.{elementText, runText, groupsText, recordText, recordsText}

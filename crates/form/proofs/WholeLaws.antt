@@ -1,7 +1,7 @@
 -- The form of a packet and of a datagram is that of its data field.
 use Prim.Native.Nat.{ℕ, _-_, _*_, _^_, _≤_, _<_}
 use native.Mathlib.Omega.{arith}
-use mathlib.Core.Path.{_≡_, sym, ap, _∙_, subst}
+use mathlib.Core.Path.{_≡_, ap}
 use mathlib.Core.List.{List}
 use lib.ListN.{length, take, drop, length-drop, length-take}
 use Rattle.wire.specs.declared.Limits.{Limits}

@@ -1,60 +1,100 @@
--- How many records are said so far.
-use Prim.Native.Nat.{ℕ, suc, _+_, _≤_}
-use native.Mathlib.Numerals.{add-one}
+-- What the table of contents tells of the records that are said.
+use Prim.Native.Nat.{ℕ, suc, _+_, _-_, _≤_, _<_}
 use native.Mathlib.Omega.{arith}
-use mathlib.Core.Path.{_≡_, refl, ap, _∙_}
+use mathlib.Core.Path.{_≡_, refl, sym, ap, _∙_, subst}
 use mathlib.Core.Bool.{Bool, true, false}
-use mathlib.Core.List.{List}
+use mathlib.Core.List.{List, _++_}
+use lib.ListN.{length, drop}
+use lib.Dec.{lit≤}
+use Rattle.wire.specs.declared.Refusal.{Refusal}
 use Rattle.wire.specs.Numbers.{Bytes}
 use Rattle.wire.specs.Limits.{baseLimits}
-use Rattle.wire.specs.Answers.{Answer, accepted, refused}
-use Rattle.lookup.specs.declared.Part.{Part}
-use Rattle.lookup.specs.Lookups.{fieldsOf, recordByNumber}
-use Rattle.lookup.specs.Answers.{PartIn, OfPart}
-use Rattle.lookup.proofs.PlaceLaws.{tcp-stored, udp-stored}
-use Rattle.lookup.proofs.PartLaws.{record-in, record-answer}
-use Rattle.report.specs.Shown.{PartHere, recordOf, oneIf, recordsSaid}
+use Rattle.wire.specs.Answers.{Answer, accepted, refused, onAccepted}
+use Rattle.wire.specs.Buffers.{writing, leaving}
+use Rattle.wire.proofs.BufferLaws.{written-fits, writing-done, leaving-done}
+use Rattle.wire.proofs.Accepting.{onAccepted-accepted}
+use Rattle.avl.specs.DataField.{AvlData}
+use Rattle.packet.specs.DataPackets.{readPacket, acknowledged}
+use Rattle.packet.proofs.FieldLaws.{packet-most}
+use Rattle.datagram.specs.Datagrams.{Datagram, readDatagram, payloadOf}
+use Rattle.datagram.proofs.FieldLaws.{datagram-most}
+use Rattle.lookup.specs.Lookups.{Source, tcpSource}
+use Rattle.contents.specs.Words.{titleResult, recordOf}
+use Rattle.contents.specs.Contents.{contents, noHeader, contentsOfPacket, contentsOfDatagram}
+use Rattle.contents.specs.Rows.{RowsAhead}
+use Rattle.contents.proofs.TableLaws.{packet-room, datagram-room}
+use Rattle.contents.proofs.RowLaws.{packet-ahead, datagram-ahead}
+use Rattle.report.specs.Shown.{contentsHere, recordsSaid}
 
-one-at-most : {A : Type 0} (r : Answer A) → oneIf r ≤ 1
-unfolding oneIf
-one-at-most (accepted a) = omega arith
-one-at-most (refused x) = omega arith
+-- ---- a table that was written
 
-pub record SaidSo (udp : Bool) (p : List ℕ) (all said n : ℕ) : Type 0 where
-  pub inside : n ≤ all
-  pub few : said ≤ n
-  pub count : said ≡ recordsSaid udp p n
+module _ (p : List ℕ) (b : Bytes p) where
+  -- what is in the buffer, of either kind of input
+  ahead : (udp : Bool) (t more : List ℕ) → contentsHere udp p ≡ accepted t
+      → (titleResult (t ++ more) .count ≡ recordsSaid udp p) × RowsAhead p (t ++ more) 2 (titleResult (t ++ more) .count)
+  unfolding contentsHere recordsSaid
+  ahead true t more e = datagram-ahead baseLimits (lit≤ tt) p t b more e
+  ahead false t more e = packet-ahead baseLimits (lit≤ tt) p t b more e
 
-pub said-first : (udp : Bool) (p : List ℕ) (all : ℕ) → SaidSo udp p all 0 0
-unfolding recordsSaid
-said-first udp p all = record { inside = omega arith; few = omega arith; count = refl }
+  pub rows-listed : (udp : Bool) (before : List ℕ) {after : List ℕ} {n : ℕ} → accepted n ≡ writing (contentsHere udp p) before → after ≡ leaving (contentsHere udp p) before
+      → (titleResult after .count ≡ recordsSaid udp p) × RowsAhead p after 2 (titleResult after .count)
+  rows-listed udp before {after} e f =
+      let g = written-fits (contentsHere udp p) before e in
+      let is : after ≡ g .0 ++ drop (length (g .0)) before = f ∙ ap (λ r. leaving r before) (g .1) ∙ leaving-done (g .0) before (omega (arith, g .2, g .3)) in
+      subst (λ (l : List ℕ). (titleResult l .count ≡ recordsSaid udp p) × RowsAhead p l 2 (titleResult l .count)) (sym is) (ahead udp (g .0) (drop (length (g .0)) before) (g .1))
 
-module _ {udp : Bool} {p : List ℕ} {all said n one : ℕ} (h : SaidSo udp p all said n) (e : one ≡ oneIf (recordOf udp p n)) where
-  pub one-more : one ≤ 1
-  one-more = omega (arith, e, one-at-most (recordOf udp p n))
+  -- ---- a refused input: the buffer is long enough for every table
 
-  pub said-next : suc n ≤ all → SaidSo udp p all (said + one) (n + 1)
-  unfolding recordsSaid
-  said-next more =
-      record {
-        inside = omega arith;
-        few = omega (arith, h .few, one-more);
-        count = rw (add-one n) (omega (arith, e, h .count));
-      }
+  accepted-room : (udp : Bool) (t : List ℕ) → contentsHere udp p ≡ accepted t → length t ≤ 640
+  unfolding contentsHere contentsOfPacket contentsOfDatagram tcpSource
+  accepted-room true t e =
+      let i = onAccepted-accepted (readDatagram baseLimits p) _ e in
+      omega (arith, datagram-room baseLimits p t b e, datagram-most baseLimits p (i .1) b)
+  accepted-room false t e =
+      let i = onAccepted-accepted (tcpSource baseLimits p) _ e in
+      let j = onAccepted-accepted (readPacket baseLimits p) _ (i .1) in
+      omega (arith, packet-room baseLimits p t b e, packet-most baseLimits p (j .1) b)
 
-pub said-done : {udp : Bool} {p : List ℕ} {all said n : ℕ} → SaidSo udp p all said n → all ≤ n → said ≡ recordsSaid udp p all
-said-done {udp} {p} {all} {said} {n} h done =
-    let same : n ≡ all = omega (arith, h .inside) in
-    h .count ∙ ap (recordsSaid udp p) same
+  abbrev inPacket : AvlData → Source
+  inPacket a = record { content = a; base = 10 }
 
--- ---- a record of either kind of input
+  abbrev inDatagram : Datagram → Source
+  inDatagram g = record { content = g .payload; base = 25 }
 
-module _ {p : List ℕ} (b : Bytes p) {q : Part} where
-  pub part-here : (udp : Bool) (n : ℕ) → PartHere udp p n q → PartIn p q
-  part-here true n e = record-in (λ x. udp-stored baseLimits p x b) n e
-  part-here false n e = record-in (λ x. tcp-stored baseLimits p x b) n e
+  none-said : (udp : Bool) {x : Refusal} → contentsHere udp p ≡ refused x → 0 ≡ recordsSaid udp p
+  unfolding contentsHere recordsSaid contentsOfPacket contentsOfDatagram tcpSource payloadOf acknowledged onAccepted
+  none-said true {x} e = go (readDatagram baseLimits p) e
+    where
+      go : (r : Answer Datagram) → onAccepted r (λ g. accepted (contents (g .header) (inDatagram g))) ≡ refused x
+          → 0 ≡ acknowledged (onAccepted r (λ g. accepted (g .payload)))
+      go (accepted g) e = absurd (let z : _≡_ {A = ℕ} 0 1 = cc in omega arith)
+      go (refused y) e = refl
+  none-said false {x} e = go (readPacket baseLimits p) e
+    where
+      go : (r : Answer AvlData) → onAccepted (onAccepted r (λ a. accepted (inPacket a))) (λ y. accepted (contents noHeader y)) ≡ refused x → 0 ≡ acknowledged r
+      go (accepted a) e = absurd (let z : _≡_ {A = ℕ} 0 1 = cc in omega arith)
+      go (refused y) e = refl
 
-  pub one-here : {r : ℕ} (udp : Bool) (n : ℕ) → PartHere udp p n q → OfPart p q fieldsOf (λ a. r ≡ oneIf a) → r ≡ oneIf (recordOf udp p n)
-  unfolding recordOf recordByNumber
-  one-here true n e k = record-answer (λ x. udp-stored baseLimits p x b) n e k
-  one-here false n e k = record-answer (λ x. tcp-stored baseLimits p x b) n e k
+  pub none-listed : (udp : Bool) (before : List ℕ) {x : Refusal} → length before ≡ 640 → refused x ≡ writing (contentsHere udp p) before → 0 ≡ recordsSaid udp p
+  none-listed udp before {x} long e = go (contentsHere udp p) refl
+    where
+      go : (r : Answer (List ℕ)) → contentsHere udp p ≡ r → 0 ≡ recordsSaid udp p
+      go (accepted t) is =
+          let done = writing-done t before (omega (arith, long, accepted-room udp t is)) in
+          absurd (let same : refused x ≡ accepted (length t) = e ∙ ap (λ r. writing r before) is ∙ done in let z : _≡_ {A = ℕ} 0 1 = cc in omega arith)
+      go (refused y) is = none-said udp is
+
+-- ---- one record after another
+
+module _ (p t : List ℕ) (at count n : ℕ) (more : n < count) (h : RowsAhead p t at (count - n)) where
+  rest : RowsAhead p t at (suc (count - (n + 1)))
+  rest = let one : count - n ≡ suc (count - (n + 1)) = omega arith in subst (RowsAhead p t at) one h
+
+  pub row-first : RowsAhead p t at 1
+  row-first = (rest .0, rest .1, tt)
+
+  pub row-next : {next : ℕ} → next ≡ at + 4 + recordOf (drop at t) .elements → RowsAhead p t next (count - (n + 1))
+  row-next e = subst (λ (i : ℕ). RowsAhead p t i (count - (n + 1))) (sym e) (rest .2)
+
+pub rows-start : (p t : List ℕ) {count : ℕ} → count ≡ titleResult t .count → RowsAhead p t 2 (titleResult t .count) → RowsAhead p t 2 (count - 0)
+rows-start p t {count} e h = let all : titleResult t .count ≡ count - 0 = omega (arith, e) in subst (RowsAhead p t 2) all h

@@ -1,6 +1,5 @@
 -- What the functions that say something answer: the number of the refusal that is said, 0 where the input is accepted.
-use Prim.Native.Nat.{ℕ, zero, suc, _+_, _*_}
-use mathlib.Core.Path.{_≡_}
+use Prim.Native.Nat.{ℕ, _*_}
 use mathlib.Core.Bool.{Bool}
 use mathlib.Core.List.{List}
 use lib.ListN.{replicate}
@@ -8,16 +7,13 @@ use Rattle.wire.specs.Numbers.{pick}
 use Rattle.wire.specs.Limits.{baseLimits}
 use Rattle.wire.specs.Answers.{Answer, accepted, refused}
 use Rattle.wire.specs.Buffers.{writing}
-use Rattle.packet.specs.DataPackets.{answerPacket}
-use Rattle.datagram.specs.Datagrams.{answerDatagram}
+use Rattle.packet.specs.DataPackets.{readPacket, answerPacket, acknowledged}
+use Rattle.datagram.specs.Datagrams.{readDatagram, payloadOf, answerDatagram}
 use Rattle.login.specs.Login.{readLogin}
 use Rattle.command.specs.Commands.{answerCommand}
 use Rattle.command.specs.Writing.{commandBytes}
 use Rattle.tlv.specs.PacketOf.{formOfPacket, formOfDatagram, packetOfForm}
-use Rattle.element.specs.declared.RecordFields.{RecordFields}
-use Rattle.lookup.specs.declared.Part.{Part}
-use Rattle.lookup.specs.Lookups.{tcpSource, udpSource, recordByNumber}
-use Rattle.lookup.specs.Answers.{partOf, partAs}
+use Rattle.contents.specs.Contents.{contentsOfPacket, contentsOfDatagram}
 
 unfoldable pub refusalNumber : {A : Type 0} → Answer A → ℕ
 refusalNumber (accepted a) = 0
@@ -56,18 +52,9 @@ writeRefusal codec kind imei text = writtenRefusal (baseLimits .largest) (comman
 
 -- ---- the records of a datagram or a TCP data packet
 
-unfoldable pub recordOf : Bool → List ℕ → ℕ → Answer RecordFields
-recordOf udp p n = pick udp (recordByNumber (udpSource baseLimits p) n) (recordByNumber (tcpSource baseLimits p) n)
+unfoldable pub contentsHere : Bool → List ℕ → Answer (List ℕ)
+contentsHere udp p = pick udp (contentsOfDatagram baseLimits p) (contentsOfPacket baseLimits p)
 
--- the part is the record with this number, or says why there is none
-abbrev pub PartHere : Bool → List ℕ → ℕ → Part → Type 0
-PartHere udp p n q = partAs q ≡ pick udp (partOf (udpSource baseLimits p) n) (partOf (tcpSource baseLimits p) n)
-
-unfoldable pub oneIf : {A : Type 0} → Answer A → ℕ
-oneIf (accepted a) = 1
-oneIf (refused r) = 0
-
--- how many of the first `n` records are there, and said
-unfoldable pub recordsSaid : Bool → List ℕ → ℕ → ℕ
-recordsSaid udp p zero = 0
-recordsSaid udp p (suc n) = recordsSaid udp p n + oneIf (recordOf udp p n)
+-- how many records there are, and are said
+unfoldable pub recordsSaid : Bool → List ℕ → ℕ
+recordsSaid udp p = acknowledged (pick udp (payloadOf (readDatagram baseLimits p)) (readPacket baseLimits p))

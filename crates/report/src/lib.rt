@@ -104,7 +104,7 @@ pub fn show_packet(p: &[u8]) -> usize
             packet::acknowledge_packet(p, &mut answer);
             say(b"TCP data packet", &[]);
             say_counts(codec, count, p.len(), &answer);
-            say_records(false, p, count);
+            say_records(false, codec, p);
             0
         }
     }
@@ -125,7 +125,7 @@ pub fn show_datagram(p: &[u8]) -> usize
             say(b"UDP datagram", &[]);
             say_counts(codec, count, p.len(), &answer);
             say_header(header);
-            say_records(true, p, count);
+            say_records(true, codec, p);
             0
         }
     }

@@ -1,60 +1,69 @@
-// The records of a TCP data packet or a datagram.
+// The records of a TCP data packet or a datagram, by its table of contents.
 ghost use mathlib.Core.Path.{_≡_};
-ghost use Rattle.walk.specs.Walks.{Narrow};
-ghost use Rattle.element.specs.Search.{Readable};
-ghost use Rattle.report.specs.Shown.{PartHere, recordOf, oneIf, recordsSaid};
-use avl::Widths;
+ghost use Prim.Native.Nat.{ℕ, _+_, _≤_, _<_};
+ghost use lib.ListN.{length, drop, getD};
+ghost use Rattle.wire.specs.Buffers.{writing, leaving, writtenAs};
+ghost use Rattle.contents.specs.Words.{titleResult, recordOf, valueOf};
+ghost use Rattle.contents.specs.Rows.{RowsAhead};
+ghost use Rattle.report.specs.Shown.{contentsHere, recordsSaid};
 use element::RecordFields;
-use element::Step;
 use element::Value;
-use lookup::Part;
 use say::say;
 use say::say_hex;
 use say::say_quoted;
+use wire::Written;
 
-// The records 0 to `count` - 1; how many of them there are.
-pub fn say_records(udp: bool, p: &[u8], count: u8) -> usize
-    ensures { λ r. ⌜ r ≡ recordsSaid udp (now (p .entry)) count ⌝ }
+// All records; how many they are.
+pub fn say_records(udp: bool, codec: u8, p: &[u8]) -> usize
+    ensures { λ r. ⌜ r ≡ recordsSaid udp (now (p .entry)) ⌝ }
 {
-    let mut said: usize = 0;
-    let mut n: u8 = 0;
-    while n < count {
-        said += say_record(udp, p, n as usize);
-        n += 1;
-    }
-    said
-}
-
-fn say_record(udp: bool, p: &[u8], n: usize) -> usize
-    ensures { λ r. ⌜ r ≡ oneIf (recordOf udp (now (p .entry)) n) ⌝ }
-{
-    match part_at(udp, p, n) {
-        Part::Refused(_) => 0,
-        Part::Of {
-            codec,
-            start,
-            end,
-            elements,
-        } => {
-            let w = walk::widths_of(codec);
-            let f = element::fields_of(w, &p[start..end], elements);
-            say_time(n as u64, f.timestamp);
-            say_origin(codec, f);
-            say_position(f);
-            say_motion(f);
-            say_values(w, &p[start..end]);
-            1
-        }
+    let mut table = [0u64; wire::LARGEST_CONTENTS];
+    match contents_at(udp, p, &mut table) {
+        Written::Refused(_) => 0,
+        Written::Bytes(_) => say_rows(codec, p, &table),
     }
 }
 
-fn part_at(udp: bool, p: &[u8], n: usize) -> Part
-    ensures { λ r. ⌜ PartHere udp (now (p .entry)) n r ⌝ }
+fn contents_at(udp: bool, p: &[u8], table: &mut [u64]) -> Written
+    ensures answer { λ r. ⌜ writtenAs r ≡ writing (contentsHere udp (now (p .entry))) (now (table .entry)) ⌝ }
+    ensures buffer { λ r. ⌜ now (table .exit) ≡ leaving (contentsHere udp (now (p .entry))) (now (table .entry)) ⌝ }
 {
     if udp {
-        return lookup::datagram_part(wire::BASE, p, n);
+        return contents::contents_of_datagram(p, table);
     }
-    lookup::packet_part(wire::BASE, p, n)
+    contents::contents_of_packet(p, table)
+}
+
+// The records whose words stand behind the packet's two; how many they are.
+fn say_rows(codec: u8, p: &[u8], t: &[u64]) -> usize
+    requires { ⌜ 1 ≤ length (now t) ⌝ }
+    requires { ⌜ RowsAhead (now p) (now t) 2 (titleResult (now t) .count) ⌝ }
+    ensures { λ r. ⌜ r ≡ titleResult (now (t .entry)) .count ⌝ }
+{
+    let count = contents::record_count(t);
+    let mut at: usize = 2;
+    let mut n: usize = 0;
+    while n < count {
+        at = say_record(codec, n, p, t, at);
+        n += 1;
+    }
+    n
+}
+
+// The record whose words begin at `at`; where those of the next begin.
+fn say_record(codec: u8, n: usize, p: &[u8], t: &[u64], at: usize) -> usize
+    requires { ⌜ RowsAhead (now p) (now t) at 1 ⌝ }
+    ensures { λ r. ⌜ r ≡ at + 4 + recordOf (drop at (now (t .entry))) .elements ⌝ }
+{
+    let f = contents::record_at(t, at);
+    let elements = f.elements;
+    let first = at + 4;
+    say_time(n as u64, f.timestamp);
+    say_origin(codec, f);
+    say_position(f);
+    say_motion(f);
+    say_values(p, t, first, elements);
+    first + elements
 }
 
 // The record's number and its time: milliseconds since 1970, and their date before the year 10000.
@@ -124,22 +133,18 @@ fn say_motion(f: RecordFields) {
     );
 }
 
-// The values of the record that `part` is, one after another.
-fn say_values(w: Widths, part: &[u8])
-    requires { ⌜ Narrow w ⌝ }
-    requires { ⌜ Readable w (now part) ⌝ }
+// The values whose words stand from `first` on.
+fn say_values(p: &[u8], t: &[u64], first: usize, count: usize)
+    requires { ⌜ first + count ≤ length (now t) ⌝ }
+    requires { ⌜ ((k : ℕ) → k < count → valueOf (getD (now t) (first + k) 0) .offset + valueOf (getD (now t) (first + k) 0) .size ≤ length (now p)) ⌝ }
 {
-    let mut cursor = element::first(w, part);
-    loop {
-        match element::advance(w, part, cursor) {
-            Step::Done => return,
-            Step::At(v, next) => {
-                let start = v.offset;
-                let end = v.offset + v.size;
-                say_found(v, &part[start..end]);
-                cursor = next;
-            }
-        }
+    let mut k: usize = 0;
+    while k < count {
+        let v = contents::value_of(t[first + k]);
+        let start = v.offset;
+        let end = v.offset + v.size;
+        say_found(v, &p[start..end]);
+        k += 1;
     }
 }
 

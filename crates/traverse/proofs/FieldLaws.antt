@@ -3,10 +3,10 @@ use Prim.Native.Nat.{ℕ, _+_, _-_, _≤_, _<_}
 use native.Mathlib.Omega.{arith}
 use mathlib.Core.Path.{_≡_, refl, sym, ap, _∙_, subst}
 use mathlib.Core.List.{List, [], _∷_, _++_}
-use lib.ListN.{length, take, drop, length-drop}
+use lib.ListN.{length, drop, length-drop}
 use lib.Seq.{sets, length-take-le}
 use Rattle.wire.specs.Numbers.{Bytes}
-use Rattle.wire.specs.Reading.{got, repeat}
+use Rattle.wire.specs.Reading.{repeat}
 use Rattle.wire.specs.declared.Refusal.{Refusal}
 use Rattle.wire.specs.declared.Written.{Written}
 use Rattle.wire.specs.Answers.{Answer, accepted, refused, refusal, onAccepted}

@@ -1,21 +1,21 @@
 -- Texts of lists join; and how far storing gets ahead, from an element to records.
-use Prim.Native.Nat.{ℕ, zero, suc, _+_, _*_, _≤_}
+use Prim.Native.Nat.{ℕ, zero, suc, _+_, _≤_}
 use native.Mathlib.Omega.{arith}
 use mathlib.Core.Path.{_≡_, refl, sym, ap, _∙_}
 use mathlib.Core.List.{List, [], _∷_, _++_, append-assoc}
 use lib.ListN.{length, length-append}
 use Rattle.wire.specs.Numbers.{Bytes}
 use Rattle.wire.specs.Sequences.{joined, All}
-use Rattle.wire.specs.Reading.{got, Reader, repeat}
-use Rattle.wire.proofs.Exactness.{Meets, meets-weaken, meets-pure}
+use Rattle.wire.specs.Reading.{repeat}
+use Rattle.wire.proofs.Exactness.{meets-weaken, meets-pure}
 use Rattle.avl.specs.declared.Widths.{Widths}
 use Rattle.avl.specs.Codecs.{kinds}
-use Rattle.avl.specs.Records.{Element, AvlRecord, elementBytes, groupBytes, recordBytes}
+use Rattle.avl.specs.Records.{AvlRecord, elementBytes, groupBytes}
 use Rattle.avl.specs.RecordReader.{element, group, groups, plainRecord}
 use Rattle.avl.proofs.Inversion.{number-on, fixed-read, record-read, plain-size}
 use Rattle.avl.proofs.RecordLaws.{group-exact}
 use Rattle.walk.proofs.KindLaws.{KindRange, kinds-range}
-use Rattle.element.specs.Elements.{Located, leadSize, locateGroup, locateGroups, fixedSize}
+use Rattle.element.specs.Elements.{Located, locateGroup, locateGroups, fixedSize}
 use Rattle.element.proofs.ElementLaws.{length-element}
 use Rattle.element.proofs.ReadLaws.{element-read}
 use Rattle.traverse.specs.Texts.{elementText, runText, groupText, groupsText, recordText, recordsText}

@@ -1,52 +1,49 @@
--- Invariant: what is said counts the records passed that are there.
-use Prim.Native.Nat.{_-_}
+use Rattle.report.proofs.RecordLaws.{rows-listed, none-listed}
+use Rattle.wire.proofs.Widths.{getD-bytes}
+use Rattle.wire.specs.Buffers.{writtenAs}
+use lib.ListN.{replicate}
 use native.Mathlib.Omega.{arith}
-use Rattle.report.proofs.RecordLaws.{SaidSo, said-first, said-next, said-done, one-more}
+use mathlib.Core.Path.{refl, sym, ap, _∙_}
 use borrow.Author.Needs.{needs}
 use Rattle.report.proofs.records.say_records.Statement.{statement}
 use Rattle.report.proofs.records.say_records.Tie as tie
 
-abbrev Inv-loop : tie.InvT-loop
-Inv-loop udp p count said₀ n₀ said n = SaidSo udp p count said n
+slice-aggregate-contents-at : tie.Need-slice-aggregate-contents-at
+slice-aggregate-contents-at c = search needs
 
-abbrev μ-loop : tie.MeasureT-loop
-μ-loop udp p count said₀ n₀ said n = count - n
+contents-at-requires : tie.Need-contents-at-requires
+contents-at-requires c κs = search needs
 
-loop-holds : tie.Need-loop-holds Inv-loop μ-loop
-loop-holds c = said-first _ _ _
+enum-told : tie.Need-enum-told
+enum-told c = search needs
 
-cast-say-record : tie.Need-cast-say-record Inv-loop μ-loop
-cast-say-record c = search needs
+enum-told-2 : tie.Need-enum-told-2
+enum-told-2 c = search needs
 
-say-record-requires : tie.Need-say-record-requires Inv-loop μ-loop
-say-record-requires c κs = search needs
+slice-aggregate-say-rows : tie.Need-slice-aggregate-say-rows
+slice-aggregate-say-rows c = search needs
 
-add-said : tie.Need-add-said Inv-loop μ-loop
-add-said c = omega (arith, one-more (c .before .before .loop .inv) (c .say-record .ensures))
+say-rows-requires : tie.Need-say-rows-requires
+unfolding writtenAs
+say-rows-requires c κs = let h = rows-listed (c .before .before .before .before .before .before .before .args .p .now) (getD-bytes (c .before .before .before .before .before .before .before .args .p .now) (λ k. c .before .before .before .before .before .before .shared-slice-known .given k .fits)) (c .before .before .before .before .before .before .before .args .udp) (replicate 640 0) (sym (ap writtenAs (c .before .enum-told2 .given .1)) ∙ c .before .before .before .before .contents-at .ensures .0) (c .before .before .before .before .contents-at .ensures .1) in (omega (arith, c .before .before .before .before .contents-at .kept .1 .1 .0), h .1)
 
-add-n : tie.Need-add-n Inv-loop μ-loop
-add-n c = search needs
+returns : tie.Need-returns
+unfolding writtenAs
+returns c = none-listed (c .before .before .before .before .before .before .args .p .now) (getD-bytes (c .before .before .before .before .before .before .args .p .now) (λ k. c .before .before .before .before .before .shared-slice-known .given k .fits)) (c .before .before .before .before .before .before .args .udp) (replicate 640 0) refl (sym (ap writtenAs (c .enum-told .given .1)) ∙ c .before .before .before .contents-at .ensures .0)
 
-loop-less : tie.Need-loop-less Inv-loop μ-loop
-loop-less c = search needs
-
-loop-again : tie.Need-loop-again Inv-loop μ-loop
-loop-again c = said-next (c .before .before .loop .inv) (c .say-record .ensures) (omega arith)
-
-returns : tie.Need-returns Inv-loop μ-loop
-returns c = said-done (c .before .loop .inv) (c .loop-test .left)
+returns-2 : tie.Need-returns-2
+unfolding writtenAs
+returns-2 c = let h = rows-listed (c .before .before .before .before .before .before .before .before .args .p .now) (getD-bytes (c .before .before .before .before .before .before .before .before .args .p .now) (λ k. c .before .before .before .before .before .before .before .shared-slice-known .given k .fits)) (c .before .before .before .before .before .before .before .before .args .udp) (replicate 640 0) (sym (ap writtenAs (c .before .before .enum-told2 .given .1)) ∙ c .before .before .before .before .before .contents-at .ensures .0) (c .before .before .before .before .before .contents-at .ensures .1) in c .say-rows .ensures ∙ h .0
 
 pub say-records-spec : {M : Type 1} → statement M
 say-records-spec =
     tie.close
     (tie.spec
-    Inv-loop
-    μ-loop
-    loop-holds
-    cast-say-record
-    say-record-requires
-    add-said
-    add-n
-    loop-less
-    loop-again
-    returns)
+    slice-aggregate-contents-at
+    contents-at-requires
+    enum-told
+    enum-told-2
+    slice-aggregate-say-rows
+    say-rows-requires
+    returns
+    returns-2)
