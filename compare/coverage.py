@@ -38,8 +38,8 @@ def walk_places(codec):
     return [(8, field) for field in fields] + [(number, "") for number in WALK[1:] if codec == 0x10 or number != 11]
 
 
-# Each call: its input, and what it can give behind that input's refusals. A lent buffer is too short by one byte or by
-# more, or it is as long as the result or longer.
+# Each call: its input, and what it can give behind that input's refusals. A lent buffer is too short by one byte or
+# word or by more, or it is as long as the result or longer.
 ROOM = {18: ["by one"], None: ["exact", "longer"]}
 CALLS = {
     "read_packet": ("packet", {}),
@@ -68,6 +68,8 @@ CALLS = {
     "form_of_packet": ("packet", ROOM),
     "form_of_datagram": ("datagram", ROOM),
     "packet_of_form": ("form", ROOM),
+    "contents_of_packet": ("packet", ROOM),
+    "contents_of_datagram": ("datagram", ROOM),
 }
 
 # Calls that do not show the refusal behind their answer, and one that does. Views need none: the reference tells.
@@ -109,7 +111,8 @@ class Coverage:
         self.reached[row, codec, number, place] += 1
         if answer.startswith("written"):
             _, size, lent = answer.split()
-            self.reached[row, "room", None, "exact" if len(lent) == 2 * int(size) else "longer"] += 1
+            exact = len(lent) == 2 * int(size) * reference.unit(name)
+            self.reached[row, "room", None, "exact" if exact else "longer"] += 1
 
     def times(self, rows, codec, number, place):
         return sum(self.reached[row, codec, number, place] for row in rows)

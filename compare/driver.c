@@ -1,6 +1,7 @@
 /* Answers calls from standard input, one a line, as compare/reference.py does: the library's side of the comparison.
  * An answer has every field of its struct, on refusals too. Every input and buffer stands between two guards, and the
- * line says so if a call changed a byte of them or of an input. `driver bare` lends blocks of the exact size instead, so
+ * line says so if a call changed a byte of them or of an input. A buffer of 64-bit words is given and shown as its
+ * bytes; one that is no whole number of words ends the driver. `driver bare` lends blocks of the exact size instead, so
  * that a tool sees a read or a write past them. */
 #include <inttypes.h>
 #include <stdio.h>
@@ -152,6 +153,14 @@ static int on_input(const char *call, struct bytes p, char **w) {
     return 1;
 }
 
+typedef struct brundilope_written words_call(const uint8_t *p, size_t p_len, uint64_t *out, size_t out_len);
+
+/* A call that writes words. A block begins where a word may: malloc aligns it, and a guard is of whole words. */
+static void contents(words_call *call, struct bytes p, struct bytes out) {
+    if (out.size % sizeof(uint64_t)) fail("no whole number of 64-bit words", out.word);
+    written(call(p.at, p.size, (void *)out.at, out.size / sizeof(uint64_t)), out);
+}
+
 /* The calls that write into the buffer of their last word. */
 static void on_buffer(const char *call, struct bytes p, char **w) {
     struct bytes out = bytes_of(w[!strcmp(call, "answer_login") ? 3 : 2]);
@@ -160,6 +169,8 @@ static void on_buffer(const char *call, struct bytes p, char **w) {
     else if (!strcmp(call, "form_of_packet")) written(brundilope_form_of_packet(p.at, p.size, out.at, out.size), out);
     else if (!strcmp(call, "form_of_datagram")) written(brundilope_form_of_datagram(p.at, p.size, out.at, out.size), out);
     else if (!strcmp(call, "packet_of_form")) written(brundilope_packet_of_form(p.at, p.size, out.at, out.size), out);
+    else if (!strcmp(call, "contents_of_packet")) contents(brundilope_contents_of_packet, p, out);
+    else if (!strcmp(call, "contents_of_datagram")) contents(brundilope_contents_of_datagram, p, out);
     else written(brundilope_answer_login(p.at, p.size, number(w[2]) != 0, out.at, out.size), out);
     done_buffer(out);
 }
@@ -189,7 +200,7 @@ static int words_after(const char *call) {
         {"record_in_packet", 2},   {"record_in_datagram", 2},   {"value_in_packet", 3},    {"value_in_datagram", 3},
         {"id_in_packet", 3},       {"id_in_datagram", 3},       {"last_known", 3},         {"answer_login", 3},
         {"acknowledge_packet", 2}, {"acknowledge_datagram", 2}, {"form_of_packet", 2},     {"form_of_datagram", 2},
-        {"packet_of_form", 2},     {"write_command", 5},
+        {"packet_of_form", 2},     {"contents_of_datagram", 2}, {"contents_of_packet", 2}, {"write_command", 5},
     };
     for (size_t i = 0; i < sizeof calls / sizeof *calls; i++)
         if (!strcmp(call, calls[i].call)) return calls[i].words;

@@ -5,7 +5,8 @@ field is reached. The expected answers follow from document 01 and from the way
 an input is built here; with None the two programs only have to agree.
 """
 
-from generate import CODECS, KINDS, LEAST, PACKET_LIMIT, Maker, Record, little, number, shown
+from examples import SAMPLE
+from generate import CODECS, CONTENTS_LIMIT, KINDS, LEAST, PACKET_LIMIT, WIDTHS, Maker, Record, little, number, shown
 
 MAKER = Maker(1)
 HEAD = bytes.fromhex("c0de5a69000f") + b"123456789012345"
@@ -354,8 +355,19 @@ def last_known():
 
 # ---------------------------------------------------------------- writing
 
+def lending(name, call, result, unit=1, more=()):
+    """A writer's call with no room, one byte (or word) too few, just enough, and more; what is behind stays."""
+    need = len(result) // unit
+    for room in (0, 1, need - 1, need, need + 1, need + 100, *more):
+        lent = (bytes(range(1, 256)) + bytes(unit * room))[:unit * room]
+        expected = f"refused 18 0 {shown(lent)}"
+        if room >= need:
+            expected = f"written {need} {shown(result + lent[len(result):])}"
+        yield name, f"{call} {shown(lent)}", expected
+
+
 def buffers():
-    """No room, a byte too few, just enough, and more; the bytes behind stay."""
+    """Results of each writer of bytes, and the longest commands."""
     data = data_field(0x8E, pair(0x8E))
     packet, datagram = tcp(data), udp(data)
     form = whole_form(0x8E)
@@ -370,13 +382,7 @@ def buffers():
         (f"form_of_packet {shown(packet)}", form), (f"form_of_datagram {shown(datagram)}", form),
         (f"packet_of_form {shown(form)}", packet))
     for call, result in writers:
-        need = len(result)
-        for room in (0, 1, need - 1, need, need + 1, need + 100):
-            lent = bytes(range(1, 256))[:room] + bytes(max(room - 255, 0))
-            expected = f"refused 18 0 {shown(lent)}"
-            if room >= need:
-                expected = f"written {need} {shown(result + lent[need:])}"
-            yield "buffer", f"{call} {shown(lent)}", expected
+        yield from lending("buffer", call, result)
     for codec, most in ((12, 1260), (14, 1252)):
         imei = "-" if codec == 12 else shown(IMEI)
         for room in (1279, 1280, 1281):
@@ -384,6 +390,82 @@ def buffers():
         yield "too long a text", f"write_command {codec} 6 {imei} {'61' * (most + 1)} {'ee' * 1290}", \
             f"refused 14 0 {'ee' * 1290}"
     yield "text with type 11", f"write_command 14 17 {shown(IMEI)} 00 {'ee' * 30}", f"refused 14 0 {'ee' * 30}"
+
+
+# ---------------------------------------------------------------- tables of contents
+
+def words(*numbers):
+    return b"".join(little(value, 8) for value in numbers)
+
+
+def quarters(*numbers):
+    """A word of four numbers, the first in its lowest 16 bits."""
+    return words(sum(value << 16 * place for place, value in enumerate(numbers)))
+
+
+def table(side, codec, records):
+    """The table of contents of a packet, or of a datagram with HEAD, from the way its records are built."""
+    event, generation, count, ident = WIDTHS[codec]
+    start, *head, imei = (10, 0, 0, 0) if side == "packet" else (25, 0xC0DE, 0x695A, int(IMEI))
+    parts = [quarters(codec, len(records), *head), words(imei)]
+    for each in records:
+        values = []
+        at = start + 24 + event + generation + count
+        for kind, group in zip(KINDS if codec == 0x8E else KINDS[:4], each.groups):
+            at += count
+            for name, value in group:
+                at += ident + (2 if kind == 9 else 0)
+                values.append(quarters(name, kind, at, len(value)))
+                at += len(value)
+        # words 1 and 2: longitude to speed as in the packet from the highest bits down, which is reversed in bytes
+        last = each.priority + 16 * each.generation * generation
+        parts += [each.time[::-1], each.place[7::-1], each.place[:7:-1], number(last, 1),
+                  quarters(each.event, start, at - start, len(values)), *values]
+        start = at
+    return b"".join(parts)
+
+
+def listing(name, side, data, result):
+    return lending(name, f"contents_of_{side} {shown(data)}", result, unit=8, more=[CONTENTS_LIMIT])
+
+
+def sample_contents():
+    """The bench sheet's sample as a datagram and as a TCP packet: seven words, worked out by hand."""
+    sample = bytes.fromhex(SAMPLE)
+    fields = (1000, 0xFFFFFFFF_209CCA80, 0x01_0064_0000_07_0005)
+    yield from listing("sample", "datagram", sample, words(
+        0x0501_CAFE_0001_0008, 123456789012345, *fields, 0x0001_0020_0019_0000, 0x0001_0035_0001_0015))
+    yield from listing("sample", "packet", tcp(sample[23:]), words(
+        0x0000_0000_0001_0008, 0, *fields, 0x0001_0020_000A_0000, 0x0001_0026_0001_0015))
+    for place, value, refusal in ((1, 0x37, 4), (9, 0x41, 15), (33, 3, 10), (50, 2, 9), (51, 2, 8), (57, 2, 7)):
+        data, lent = shown(changed(sample, place, value)), "ee" * 56
+        yield "sample", f"contents_of_datagram {data} {lent}", f"{refused(refusal)} {lent}"
+
+
+def contents():
+    """Tables of records of all kinds, of the most records, and the longest."""
+    for codec, side, wrap, around in each_side():
+        def attempt(name, records):
+            return listing(name, side, wrap(data_field(codec, records)), table(side, codec, records))
+
+        bare = of_elements(codec)
+        place = bytes.fromhex("80000000 7fffffff 8000 ffff ff ffff")
+        outer = Record(b"\xff" * 8, 2, place, 256 ** WIDTHS[codec][0] - 1, 7, record(codec, 4).groups)
+        same = record(codec, 2)
+        same.groups[:4] = [[(5, bytes(kind))] * 2 for kind in KINDS[:4]]
+        if codec == 0x8E:
+            same.groups[4] = [(5, b""), (5, b"last"), (5, b"")]
+        yield from attempt("records", [record(codec), bare, outer, same, bare, record(codec, 1)])
+        yield from attempt("no values", [bare])
+        yield from attempt("most records", [bare] * ((PACKET_LIMIT - around) // LEAST[codec]))
+        yield from attempt("255 bytes", [MAKER.record(codec, 255) for _ in range(4)])
+    # A word for two bytes in a value of one byte, four for the other 30 of a record: the fewest records that fill an
+    # input give the longest table, 2 + 5 * 4 + 557 words or 5 values less.
+    for side, last, need in (("packet", 109, 579), ("datagram", 104, 574)):
+        records = [of_elements(0x08, ones) for ones in (112, 112, 112, 112, last)]
+        result = table(side, 0x08, records)
+        assert len(result) == 8 * need
+        yield from listing("longest table", side, SIDES[side][0](data_field(0x08, records)), result)
 
 
 # ---------------------------------------------------------------- TLV forms
@@ -572,6 +654,8 @@ def everywhere():
             yield "everywhere", f"id_view_in_{side} {data} 0 0", "bytes -"
             yield "everywhere", f"form_of_{side} {data} -", answer + " -"
             yield "everywhere", f"form_of_{side} {data} {'ee' * 400}", f"{answer} {'ee' * 400}"
+            yield "everywhere", f"contents_of_{side} {data} -", answer + " -"
+            yield "everywhere", f"contents_of_{side} {data} {'ee' * 400}", f"{answer} {'ee' * 400}"
             if side == "datagram":
                 yield "everywhere", f"acknowledge_datagram {data} -", answer + " -"
                 continue
@@ -600,6 +684,6 @@ def command_texts():
 
 def edge_calls():
     for part in (beginnings, frames, codecs_and_counts, cuts, fields, counts_and_lengths, past_the_record, sizes,
-                 wraps, command_rules, imeis, lookups, twice, last_known, buffers, form_entries, form_rules,
-                 walk_orders, head_orders, command_orders, everywhere, command_texts):
+                 wraps, command_rules, imeis, lookups, twice, last_known, buffers, sample_contents, contents,
+                 form_entries, form_rules, walk_orders, head_orders, command_orders, everywhere, command_texts):
         yield from part()

@@ -65,6 +65,7 @@ def refused_calls(name, kind, text, number):
     return [(name, call, answer) for call in calls] + [
         (name, f"view_in_{kind} {text} 0 0", "bytes -"), (name, f"id_view_in_{kind} {text} 0 1", "bytes -"),
         (name, f"form_of_{kind} {text} eeee", answer + " eeee"),
+        (name, f"contents_of_{kind} {text} {'ee' * 64}", f"{answer} {'ee' * 64}"),
         (name, f"acknowledge_{kind} {text} {'ee' * 7}",
          f"{answer} {'ee' * 7}" if kind == "datagram" else "written 4 00000000eeeeee")]
 
@@ -100,6 +101,7 @@ def data_calls(name, kind, text, codec, count, reply):
              f"written {len(reply) // 2} {reply}{'ee' * (7 - len(reply) // 2)}"),
             (name, f"form_of_{kind} {text} {lent}", f"written {len(form)} {form.hex()}eeee"),
             (name, f"packet_of_form {form.hex()} {'ee' * len(packet)}", f"written {len(packet)} {packet.hex()}"),
+            (name, f"contents_of_{kind} {text} {'ee' * 512}", None),
             (name, f"record_in_{kind} {text} {count}", "refused 16 0")]
 
 

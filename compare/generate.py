@@ -19,6 +19,7 @@ from reference import crc16
 
 PACKET_LIMIT = 1280
 RECORD_LIMIT = 255
+CONTENTS_LIMIT = 640            # words that hold every table of contents
 CODECS = (0x08, 0x8E, 0x10)
 OTHER_CODECS = (0x00, 0x07, 0x09, 0x0C, 0x0D, 0x0E, 0x0F, 0x11, 0x80, 0x8D, 0x8F, 0xFF)
 
@@ -170,6 +171,12 @@ class Maker:
         else:
             room = self.pick((5000, 65536))
         return self.bytes(room)
+
+    def words(self, size):
+        """A lent buffer of 64-bit words for a table of contents of this size."""
+        room = self.pick((0, size - 1, self.upto(size), size, size, size, size + 1, size + 2 + self.upto(64),
+                          CONTENTS_LIMIT, CONTENTS_LIMIT + 1))
+        return self.bytes(8 * room)
 
     def beyond(self, bound):
         """A number from bound on, some of them within it in fewer bits."""
@@ -851,6 +858,8 @@ class Maker:
             return f"{start} {self.id_words(codec, records)}"
         if name.startswith("form_"):
             return f"{start} {shown(self.buffer(self.form_size(codec, records)))}"
+        if name.startswith("contents_"):
+            return f"{start} {shown(self.words(2 + sum(4 + len(record.ids()) for record in records)))}"
         return f"{start} {shown(self.buffer(7 if name == 'acknowledge_datagram' else 4))}"
 
 
@@ -860,7 +869,7 @@ NAMES = (
     "id_in_packet", "id_in_datagram", "view_in_packet", "view_in_datagram",
     "id_view_in_packet", "id_view_in_datagram", "last_known", "last_known_view",
     "acknowledge_packet", "acknowledge_datagram", "answer_login", "write_command",
-    "form_of_packet", "form_of_datagram", "packet_of_form")
+    "form_of_packet", "form_of_datagram", "packet_of_form", "contents_of_packet", "contents_of_datagram")
 
 
 def lines(count, seed):

@@ -4,8 +4,11 @@
     python3 reference.py     answers calls from standard input, one a line
 
 It is written from the papers alone and is meant to be read beside them; only how
-the calls for C lay an answer out (`flat`) is from include/brundilope.h.
-Byte strings in a call are lower-case hexadecimal, '-' stands for none.
+the calls for C lay an answer out (`flat`) and the words of a table of contents
+are from include/brundilope.h.
+Byte strings in a call are lower-case hexadecimal, '-' stands for none. A buffer
+of 64-bit words is given and shown as its bytes, each word's lowest first; one
+that is no whole number of words is an error.
 """
 
 import re
@@ -34,15 +37,23 @@ TYPES = {0x0C: (0x05, 0x06), 0x0E: (0x05, 0x06, 0x11)}
 NO_MATCH = 0x11
 
 # TLV form (document 01 calls it the house form): the kinds of its first entry
-# and of a record's, and the layout of the latter: the fields of Record but the
-# last, little-endian, 27 bytes.
+# and of a record's, and the layout of the latter: the fixed fields of Record,
+# little-endian, 27 bytes.
 CODEC_ENTRY = 100
 RECORD_ENTRY = 101
 RECORD_BODY = struct.Struct("<QBiihHBHHB")
 
+# Table of contents: the words of a packet, of a record (its priority and generation
+# type share a byte) and of an element, whose fields are those of Element.
+PACKET_WORDS = struct.Struct("<HHHBB Q")
+RECORD_WORDS = struct.Struct("<Q ii HBHhB HHHH")
+ELEMENT_WORD = struct.Struct("<HHHH")
+WORD = 8                            # bytes
+
 Element = namedtuple("Element", "id kind offset size")
 Record = namedtuple("Record", "timestamp priority longitude latitude altitude angle"
-                              " satellites speed event generation elements")
+                              " satellites speed event generation elements start size")
+FIXED_FIELDS = slice(Record._fields.index("elements"))
 Packet = namedtuple("Packet", "codec records")
 Datagram = namedtuple("Datagram", "codec records imei packet unused avl")
 Command = namedtuple("Command", "codec type imei offset size")
@@ -172,7 +183,7 @@ def read_record(space, widths, index):
     if space.at - start > RECORD_LIMIT:
         raise Refused(12, index)
     return Record(timestamp, priority, longitude, latitude, altitude, angle,
-                  satellites, speed, event, generation, elements)
+                  satellites, speed, event, generation, elements, start, space.at - start)
 
 
 def read_data_field(data, start, end):
@@ -315,10 +326,22 @@ def tlv_form(data, packet):
     """The TLV form of a packet or datagram that was read from data."""
     form = [entry(CODEC_ENTRY, bytes([packet.codec]))]
     for record in packet.records:
-        form.append(entry(RECORD_ENTRY, RECORD_BODY.pack(*record[:-1])))
+        form.append(entry(RECORD_ENTRY, RECORD_BODY.pack(*record[FIXED_FIELDS])))
         for element in record.elements:
             form.append(entry(element.kind, element.id.to_bytes(2, "little") + part(data, element)))
     return b"".join(form)
+
+
+def contents(packet, *head):
+    """The table of contents of a packet or datagram; head is what only a datagram has."""
+    words = [PACKET_WORDS.pack(packet.codec, len(packet.records), *head)]
+    for record in packet.records:
+        words.append(RECORD_WORDS.pack(
+            record.timestamp, record.latitude, record.longitude,
+            record.speed, record.satellites, record.angle, record.altitude, record.generation * 16 + record.priority,
+            record.event, record.start, record.size, len(record.elements)))
+        words += [ELEMENT_WORD.pack(*element) for element in record.elements]
+    return b"".join(words)
 
 
 # ---------------------------------------------------------------- TLV forms, judged entry by entry
@@ -511,7 +534,7 @@ def datagram_words(data):
 def record_words(reader):
     def call(data, number):
         record = record_at(reader(data), number)
-        return record[:-1] + (len(record.elements),)
+        return record[FIXED_FIELDS] + (len(record.elements),)
     return call
 
 
@@ -541,6 +564,15 @@ def form_of(reader):
     return lambda data: tlv_form(data, reader(data))
 
 
+def contents_of_packet(data):
+    return contents(read_packet(data), 0, 0, 0, 0)
+
+
+def contents_of_datagram(data):
+    datagram = read_datagram(data)
+    return contents(datagram, datagram.packet, datagram.unused, datagram.avl, datagram.imei)
+
+
 # Each call: its sort of answer, the sorts of its words, its function. The last
 # word of a 'write' call, the lent buffer, does not go to the function.
 CALLS = {
@@ -568,6 +600,8 @@ CALLS = {
     "form_of_packet": ("write", "PP", form_of(read_packet)),
     "form_of_datagram": ("write", "PP", form_of(read_datagram)),
     "packet_of_form": ("write", "PP", packet_of_form),
+    "contents_of_packet": ("write", "PW", contents_of_packet),
+    "contents_of_datagram": ("write", "PW", contents_of_datagram),
 }
 
 # How many fields an answer of C has besides the number and the index.
@@ -575,26 +609,33 @@ FIELDS = {
     "read_packet": 2, "read_datagram": 6, "read_login": 1, "read_command": 5, "record_in_packet": 11,
     "record_in_datagram": 11, "value_in_packet": 4, "value_in_datagram": 4, "id_in_packet": 4, "id_in_datagram": 4,
     "last_known": 5, "acknowledge_packet": 1, "acknowledge_datagram": 1, "answer_login": 1, "write_command": 1,
-    "form_of_packet": 1, "form_of_datagram": 1, "packet_of_form": 1,
+    "form_of_packet": 1, "form_of_datagram": 1, "packet_of_form": 1, "contents_of_packet": 1, "contents_of_datagram": 1,
 }
 
-# The sorts of words: P bytes; numbers below these bounds.
+# The sorts of words: P bytes; W a buffer of 64-bit words; numbers below these bounds.
 BOUNDS = {"N": 1 << 64, "I": 1 << 16, "B": 1 << 8, "K": 2}
 DECIMAL = re.compile(r"[0-9]{1,20}")
 
 
 def argument(sort, word):
     """A word's value; ValueError if it is not of its sort."""
-    if sort == "P":
+    if sort in "PW":
         if word == "-":
             return b""
         data = bytes.fromhex(word)
         if data.hex() != word:
             raise ValueError("not lower-case hexadecimal bytes")
+        if sort == "W" and len(data) % WORD:
+            raise ValueError("no whole number of 64-bit words")
         return data
     if not DECIMAL.fullmatch(word) or int(word) >= BOUNDS[sort]:
         raise ValueError("not a number of this place")
     return int(word)
+
+
+def unit(name):
+    """How many bytes a writer counts as one."""
+    return WORD if CALLS[name][1].endswith("W") else 1
 
 
 def evaluate(line):
@@ -617,9 +658,10 @@ def evaluate(line):
             return "accepted " + " ".join(map(str, result)), None
         if answered == "view":
             return "bytes " + shown(result), None
+        one = unit(words[0])
         if len(lent) < len(result):
-            raise Refused(18, place="by one" if len(lent) == len(result) - 1 else "by more")
-        return f"written {len(result)} {shown(result + lent[len(result):])}", None
+            raise Refused(18, place="by one" if len(lent) == len(result) - one else "by more")
+        return f"written {len(result) // one} {shown(result + lent[len(result):])}", None
     except Refused as refusal:
         text = f"refused {refusal.number} {refusal.index}"
         if answered == "view":

@@ -7,18 +7,19 @@
 
 int main(void) {
     uint8_t bytes[BRUNDILOPE_LARGEST + 1]; /* one more than the longest packet */
+    uint64_t words[BRUNDILOPE_LARGEST_CONTENTS];
     size_t size = fread(bytes, 1, sizeof bytes, stdin);
 
-    struct brundilope_packet packet = brundilope_read_packet(bytes, size);
-    if (packet.number != 0) {
-        printf("refusal %zu\n", packet.number);
+    size_t refusal = brundilope_contents_of_packet(bytes, size, words, BRUNDILOPE_LARGEST_CONTENTS).number;
+    if (refusal != 0) {
+        printf("refusal %zu\n", refusal);
         return 1;
     }
-    printf("codec %02X, records %u\n", packet.codec, packet.count);
-    for (size_t n = 0; n < packet.count; n++) {
-        struct brundilope_record r = brundilope_record_in_packet(bytes, size, n);
+    printf("codec %02X, records %u\n", brundilope_contents_codec(words), brundilope_contents_count(words));
+    const uint64_t *r = brundilope_contents_records(words);
+    for (size_t n = 0; n < brundilope_contents_count(words); n++, r = brundilope_contents_record_next(r))
         printf("time %" PRIu64 ", longitude %" PRId32 ", latitude %" PRId32 ", values %zu\n",
-               r.timestamp, r.longitude, r.latitude, r.elements);
-    }
+               brundilope_contents_record_timestamp(r), brundilope_contents_record_longitude(r),
+               brundilope_contents_record_latitude(r), brundilope_contents_record_elements(r));
     return 0;
 }

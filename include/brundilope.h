@@ -40,6 +40,9 @@
 #define BRUNDILOPE_LARGEST 1280
 #define BRUNDILOPE_LARGEST_FORM (4 * BRUNDILOPE_LARGEST)
 
+/* The most words of a table of contents: at most one for every two bytes of its packet or datagram. */
+#define BRUNDILOPE_LARGEST_CONTENTS (BRUNDILOPE_LARGEST / 2)
+
 #ifdef __cplusplus
 extern "C" {
 #endif
@@ -122,7 +125,7 @@ struct brundilope_known {
     size_t size;
 };
 
-/* What a writer gives: how many bytes it wrote, 0 on a refusal. */
+/* What a writer gives: how many bytes it wrote (words, where `out` is of words), 0 on a refusal. */
 struct brundilope_written {
     size_t number;
     size_t index;
@@ -162,6 +165,78 @@ struct brundilope_value brundilope_id_in_datagram(const uint8_t *p, size_t p_len
  * lacks the ID; then 16. */
 struct brundilope_known brundilope_last_known(const uint8_t *newer, size_t newer_len,
                                               const uint8_t *older, size_t older_len, uint16_t id);
+
+/* ---- whole packets: judged once, then everything is read from a table
+ *
+ * A look-up judges its whole input each time. These two calls judge it once and write its table of contents, 64-bit
+ * words from which every field of every record and element can be read; a value's bytes stay in the input. `out_len`
+ * and `written` count words, and BRUNDILOPE_LARGEST_CONTENTS words are enough for every table.
+ *
+ * The table has two words for the packet, then for each record four words and behind them one word for each of its
+ * elements; records and elements stand in byte order. The fields of a word from its lowest bits up, with their bits:
+ *
+ *   packet   0  codec 16, number of records 16, packet ID 16, unused byte 8, AVL packet ID 8
+ *            1  IMEI 64
+ *   record   0  timestamp 64
+ *            1  latitude 32, longitude 32
+ *            2  speed 16, satellites 8, angle 16, altitude 16, priority 4, generation type 4
+ *            3  event ID 16, start 16, size 16, number of elements 16
+ *   element  0  ID 16, kind 16, offset 16, size 16
+ *
+ * A record is the `size` bytes of the input from `start` on, a value the `size` bytes from `offset` on. Packet ID,
+ * unused byte, AVL packet ID and IMEI are 0 for a TCP packet. Longitude, latitude and altitude are two's complement. */
+
+/* The table of contents. Refusals: those of reading the packet or datagram, then 18: it has more words than `out`. */
+struct brundilope_written brundilope_contents_of_packet(const uint8_t *p, size_t p_len, uint64_t *out, size_t out_len);
+struct brundilope_written brundilope_contents_of_datagram(const uint8_t *p, size_t p_len,
+                                                          uint64_t *out, size_t out_len);
+
+/* The functions below read a table that was written, so that no caller has to shift: `words` is its start, `r` the
+ * first of a record's words, `v` an element's word. What a field means is said where the answers are. */
+
+/* The packet. */
+static inline uint8_t brundilope_contents_codec(const uint64_t *words) { return (uint8_t)words[0]; }
+static inline uint8_t brundilope_contents_count(const uint64_t *words) { return (uint8_t)(words[0] >> 16); }
+static inline uint16_t brundilope_contents_packet_id(const uint64_t *words) { return (uint16_t)(words[0] >> 32); }
+static inline uint8_t brundilope_contents_unused(const uint64_t *words) { return (uint8_t)(words[0] >> 48); }
+static inline uint8_t brundilope_contents_avl_packet_id(const uint64_t *words) { return (uint8_t)(words[0] >> 56); }
+static inline uint64_t brundilope_contents_imei(const uint64_t *words) { return words[1]; }
+
+/* The first record; the record behind this one, unless this is the last; the first of this one's elements. */
+static inline const uint64_t *brundilope_contents_records(const uint64_t *words) { return words + 2; }
+static inline const uint64_t *brundilope_contents_record_next(const uint64_t *r) { return r + 4 + (r[3] >> 48); }
+static inline const uint64_t *brundilope_contents_record_values(const uint64_t *r) { return r + 4; }
+
+/* Two's complement numbers of a word's lowest bits, for the functions below. */
+static inline int32_t brundilope_signed32(uint64_t word) {
+    return (int32_t)((int64_t)((word & 0xFFFFFFFF) ^ 0x80000000) - 0x80000000);
+}
+static inline int16_t brundilope_signed16(uint64_t word) {
+    return (int16_t)((int64_t)((word & 0xFFFF) ^ 0x8000) - 0x8000);
+}
+
+/* A record. */
+static inline uint64_t brundilope_contents_record_timestamp(const uint64_t *r) { return r[0]; }
+static inline uint8_t brundilope_contents_record_priority(const uint64_t *r) { return (uint8_t)(r[2] >> 56 & 15); }
+static inline int32_t brundilope_contents_record_longitude(const uint64_t *r) {
+    return brundilope_signed32(r[1] >> 32);
+}
+static inline int32_t brundilope_contents_record_latitude(const uint64_t *r) { return brundilope_signed32(r[1]); }
+static inline int16_t brundilope_contents_record_altitude(const uint64_t *r) { return brundilope_signed16(r[2] >> 40); }
+static inline uint16_t brundilope_contents_record_angle(const uint64_t *r) { return (uint16_t)(r[2] >> 24); }
+static inline uint8_t brundilope_contents_record_satellites(const uint64_t *r) { return (uint8_t)(r[2] >> 16); }
+static inline uint16_t brundilope_contents_record_speed(const uint64_t *r) { return (uint16_t)r[2]; }
+static inline uint16_t brundilope_contents_record_event(const uint64_t *r) { return (uint16_t)r[3]; }
+static inline uint8_t brundilope_contents_record_generation(const uint64_t *r) { return (uint8_t)(r[2] >> 60); }
+static inline size_t brundilope_contents_record_start(const uint64_t *r) { return (uint16_t)(r[3] >> 16); }
+static inline size_t brundilope_contents_record_size(const uint64_t *r) { return (uint16_t)(r[3] >> 32); }
+static inline size_t brundilope_contents_record_elements(const uint64_t *r) { return (uint16_t)(r[3] >> 48); }
+
+/* An element. */
+static inline uint16_t brundilope_contents_value_id(uint64_t v) { return (uint16_t)v; }
+static inline uint8_t brundilope_contents_value_kind(uint64_t v) { return (uint8_t)(v >> 16); }
+static inline size_t brundilope_contents_value_offset(uint64_t v) { return (uint16_t)(v >> 32); }
+static inline size_t brundilope_contents_value_size(uint64_t v) { return (uint16_t)(v >> 48); }
 
 /* ---- answering */
 

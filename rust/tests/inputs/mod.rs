@@ -37,7 +37,13 @@ pub const VALUES: [Value; 6] = [
     Value { id: 0x0015, kind: 1, offset: 72, bytes: &[0x03], number: Some(3) },
     Value { id: 0x0102, kind: 2, offset: 77, bytes: &[0x11, 0x12], number: Some(0x1112) },
     Value { id: 0x0203, kind: 4, offset: 83, bytes: &[0x21, 0x22, 0x23, 0x24], number: Some(0x2122_2324) },
-    Value { id: 0x0304, kind: 8, offset: 91, bytes: &[0x31, 0x32, 0x33, 0x34, 0x35, 0x36, 0x37, 0x38], number: Some(0x3132_3334_3536_3738) },
+    Value {
+        id: 0x0304,
+        kind: 8,
+        offset: 91,
+        bytes: &[0x31, 0x32, 0x33, 0x34, 0x35, 0x36, 0x37, 0x38],
+        number: Some(0x3132_3334_3536_3738),
+    },
     Value { id: 0x0405, kind: 9, offset: 105, bytes: b"tag", number: None },
     Value { id: 0x0506, kind: 9, offset: 112, bytes: b"", number: None },
 ];
