@@ -202,6 +202,22 @@ static inline uint8_t brundilope_contents_unused(const uint64_t *words) { return
 static inline uint8_t brundilope_contents_avl_packet_id(const uint64_t *words) { return (uint8_t)(words[0] >> 56); }
 static inline uint64_t brundilope_contents_imei(const uint64_t *words) { return words[1]; }
 
+/* The acknowledgement of the packet, four bytes, or of the datagram, seven: those of brundilope_acknowledge_packet and
+ * brundilope_acknowledge_datagram, without another judgement. */
+static inline void brundilope_contents_acknowledge_packet(const uint64_t *words, uint8_t out[4]) {
+    out[0] = out[1] = out[2] = 0;
+    out[3] = brundilope_contents_count(words);
+}
+static inline void brundilope_contents_acknowledge_datagram(const uint64_t *words, uint8_t out[7]) {
+    out[0] = 0;
+    out[1] = 5;
+    out[2] = (uint8_t)(brundilope_contents_packet_id(words) >> 8);
+    out[3] = (uint8_t)brundilope_contents_packet_id(words);
+    out[4] = brundilope_contents_unused(words);
+    out[5] = brundilope_contents_avl_packet_id(words);
+    out[6] = brundilope_contents_count(words);
+}
+
 /* The first record; the record behind this one, unless this is the last; the first of this one's elements. */
 static inline const uint64_t *brundilope_contents_records(const uint64_t *words) { return words + 2; }
 static inline const uint64_t *brundilope_contents_record_next(const uint64_t *r) { return r + 4 + (r[3] >> 48); }

@@ -60,6 +60,14 @@ int main(void) {
     HOLD(brundilope_contents_avl_packet_id(words), 0x69);
     HOLD(brundilope_contents_imei(words), 123456789012345);
 
+    static const uint8_t acknowledgement[] = {0x00, 0x05, 0xC0, 0xDE, 0x5A, 0x69, BARE + 1, 0xEE};
+    uint8_t given[] = {0xEE, 0xEE, 0xEE, 0xEE, 0xEE, 0xEE, 0xEE, 0xEE};
+    brundilope_contents_acknowledge_datagram(words, given);
+    HOLD(memcmp(given, acknowledgement, sizeof given), 0);
+    brundilope_contents_acknowledge_packet(words, given);
+    static const uint8_t count[] = {0x00, 0x00, 0x00, BARE + 1, 0x5A, 0x69, BARE + 1, 0xEE};
+    HOLD(memcmp(given, count, sizeof given), 0);
+
     const uint64_t *r = brundilope_contents_records(words);
     for (int n = 0; n < BARE; n++, r = brundilope_contents_record_next(r)) {
         HOLD(brundilope_contents_record_priority(r), n % 3);

@@ -14,7 +14,7 @@ found-as-said = (refl, (refl, (refl, (refl, (refl, (refl, (refl, (refl, (refl, (
 
 written-as-said : AsSaid writings
 unfolding computing writings
-written-as-said = (refl, (refl, (refl, (refl, (refl, (refl, (refl, (refl, (refl, (refl, (refl, (refl, (refl, (refl, (refl, tt)))))))))))))))
+written-as-said = (refl, (refl, (refl, (refl, (refl, (refl, (refl, (refl, (refl, (refl, (refl, (refl, (refl, (refl, (refl, (refl, (refl, (refl, (refl, tt)))))))))))))))))))
 
 pub answer-table : AsThePaperAnswers
 answer-table = (read-as-said, (found-as-said, (written-as-said, tt)))

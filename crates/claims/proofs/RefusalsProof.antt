@@ -1,7 +1,7 @@
 -- The refusal table holds: each row computes.
 use mathlib.Core.Path.{refl}
 use Rattle.claims.specs.Rows.{AsSaid}
-use Rattle.claims.specs.Refusals.{packetRefusals, datagramRefusals, loginRefusals, commandRefusals, lookupRefusals, writerRefusals, AsThePaperRefuses}
+use Rattle.claims.specs.Refusals.{packetRefusals, datagramRefusals, loginRefusals, commandRefusals, lookupRefusals, writerRefusals, contentsRefusals, AsThePaperRefuses}
 use Rattle.claims.proofs.Computing.{computing}
 
 packet-refusals : AsSaid packetRefusals
@@ -28,5 +28,9 @@ writer-refusals : AsSaid writerRefusals
 unfolding computing writerRefusals
 writer-refusals = (refl, (refl, (refl, (refl, (refl, (refl, (refl, (refl, (refl, (refl, (refl, (refl, (refl, (refl, (refl, (refl, (refl, (refl, (refl, (refl, (refl, (refl, (refl, (refl, (refl, (refl, (refl, (refl, (refl, (refl, (refl, (refl, tt))))))))))))))))))))))))))))))))
 
+contents-refusals : AsSaid contentsRefusals
+unfolding computing contentsRefusals
+contents-refusals = (refl, (refl, (refl, (refl, (refl, (refl, (refl, (refl, (refl, (refl, (refl, (refl, (refl, (refl, (refl, (refl, (refl, (refl, (refl, (refl, (refl, (refl, (refl, (refl, (refl, tt)))))))))))))))))))))))))
+
 pub refusal-table : AsThePaperRefuses
-refusal-table = (packet-refusals, (datagram-refusals, (login-refusals, (command-refusals, (lookup-refusals, (writer-refusals, tt))))))
+refusal-table = (packet-refusals, (datagram-refusals, (login-refusals, (command-refusals, (lookup-refusals, (writer-refusals, (contents-refusals, tt)))))))

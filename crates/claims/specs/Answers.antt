@@ -17,7 +17,7 @@ use Rattle.lookup.specs.declared.KnownAnswer.{KnownAnswer}
 use Rattle.claims.specs.Rows.{Row, EachAsSaid}
 use Rattle.claims.specs.Calls.{read-packet, read-datagram, read-login, read-command}
 use Rattle.claims.specs.Calls.{record-in-packet, record-in-datagram, value-in-packet, value-in-datagram, id-in-packet, id-in-datagram, last-known}
-use Rattle.claims.specs.Calls.{acknowledge-packet, acknowledge-datagram, answer-login, write-command, form-of-packet, form-of-datagram, packet-of-form}
+use Rattle.claims.specs.Calls.{acknowledge-packet, acknowledge-datagram, answer-login, write-command, form-of-packet, form-of-datagram, packet-of-form, contents-of-packet, contents-of-datagram}
 use Rattle.claims.specs.Packets.{field, tcp, imei, login, udp, long, twoTcp, twoUdp, brokenTcp, newer, newerUdp, older, getver, nack}
 use Rattle.claims.specs.BenchSheet.{sample, sampleForm, getio}
 
@@ -49,6 +49,36 @@ olderForm =
     ∷ 0x03 ∷ 0x00 ∷ 0x01 ∷ 0x00 ∷ 0x15 ∷ 0x00 ∷ 0x03
     ∷ 0x02 ∷ 0x00 ∷ 0x09 ∷ 0x00 ∷ 0x01 ∷ 0x01
     ∷ 0x05 ∷ 0x00 ∷ 0x09 ∷ 0x00 ∷ 0x42 ∷ 0x01 ∷ 0x61 ∷ 0x62 ∷ 0x63 ∷ []
+
+-- the tables of contents of `sample`, `twoUdp`, `newer` and `older`: a line for the packet, for each record, and for its values. Fields from the highest down:
+-- AVL packet ID and unused byte, packet ID, count, codec; IMEI
+-- time; longitude, latitude; generation type and priority, altitude, angle, satellites, speed; elements, size, start, event ID
+-- a value's size, offset, kind, ID
+abbrev pub sampleContents : List ℕ
+sampleContents =
+    0x0501_CAFE_0001_0008 ∷ 123456789012345
+    ∷ 0x0000_0000_0000_03E8 ∷ 0xFFFF_FFFF_209C_CA80 ∷ 0x01_0064_0000_07_0005 ∷ 0x0001_0020_0019_0000
+    ∷ 0x0001_0035_0001_0015 ∷ []
+
+abbrev pub twoContents : List ℕ
+twoContents =
+    0x0501_CAFE_0002_0008 ∷ 123456789012345
+    ∷ 0x0000_016B_DBC7_8330 ∷ 0x209C_CA80_FFFF_FFFF ∷ 0x01_0064_00B4_07_0005 ∷ 0x0000_001E_0019_0000
+    ∷ 0x0000_016B_DBC7_8330 ∷ 0x209C_CA80_FFFF_FFFF ∷ 0x01_0064_00B4_07_0005 ∷ 0x0000_001E_0037_0000 ∷ []
+
+abbrev pub newerContents : List ℕ
+newerContents =
+    0x0000_0000_0002_0010 ∷ 0
+    ∷ 0x0000_016B_DBC7_8330 ∷ 0x209C_CA80_FFFF_FFFF ∷ 0x11_0064_00B4_07_0005 ∷ 0x0001_0023_000A_000B
+    ∷ 0x0001_0029_0001_0143
+    ∷ 0x0000_016B_DBC7_8718 ∷ 0xFD05_0F80_FFF8_5EE0 ∷ 0x72_FF9C_0102_0B_0203 ∷ 0x0005_003A_002D_0181
+    ∷ 0x0001_004C_0001_0115 ∷ 0x0001_004F_0001_0181 ∷ 0x0002_0053_0002_0142 ∷ 0x0004_0058_0004_0115 ∷ 0x0008_005F_0008_014E ∷ []
+
+abbrev pub olderContents : List ℕ
+olderContents =
+    0x0000_0000_0001_008E ∷ 0
+    ∷ 0x0000_016B_DBC7_8330 ∷ 0x209C_CA80_FFFF_FFFF ∷ 0x01_0064_00B4_07_0005 ∷ 0x0003_0034_000A_0001
+    ∷ 0x0001_002A_0001_0015 ∷ 0x0000_0037_0009_0101 ∷ 0x0003_003B_0009_0142 ∷ []
 
 -- the fields of the records `full16`, `one16`, `varied`, and of the bench sheet's sample
 abbrev pub fullFields : RecordFields
@@ -174,6 +204,10 @@ writings =
     ∷ packet-of-form "codec 16" newerForm (replicate 109 7) (Written.Bytes 108) (newer ++ (7 ∷ []))
     ∷ packet-of-form "codec 8E" olderForm (replicate 67 7) (Written.Bytes 67) older
     ∷ packet-of-form "codec 8" sampleForm (replicate 47 7) (Written.Bytes 47) (tcp 0x00 0x23 (drop 23 sample) 0xB0 0xD2)
+    ∷ contents-of-datagram "codec 8" sample (replicate 8 7) (Written.Bytes 7) (sampleContents ++ (7 ∷ []))
+    ∷ contents-of-datagram "codec 8, records without values" twoUdp (replicate 10 7) (Written.Bytes 10) twoContents
+    ∷ contents-of-packet "codec 16" newer (replicate 18 7) (Written.Bytes 16) (newerContents ++ (7 ∷ 7 ∷ []))
+    ∷ contents-of-packet "codec 8E" older (replicate 9 7) (Written.Bytes 9) olderContents
     ∷ []
 
 abbrev pub answers : List (List Row)

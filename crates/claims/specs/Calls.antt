@@ -24,6 +24,7 @@ use Rattle.lookup.specs.declared.ValueAnswer.{ValueAnswer}
 use Rattle.lookup.specs.declared.KnownAnswer.{KnownAnswer}
 use Rattle.lookup.specs.Lookups.{Found, LastKnown, tcpSource, udpSource, recordByNumber, valueByNumber, valueById, lastKnown, view, viewOffset, knownPlace}
 use Rattle.lookup.specs.Answers.{recordAs, answerValue, valueAs, KnownResult, answerKnown, knownAs, knownView}
+use Rattle.contents.specs.Contents.{contentsOfPacket, contentsOfDatagram}
 use Rattle.claims.specs.Rows.{Row, row}
 
 -- ---- readers
@@ -113,3 +114,10 @@ form-of-datagram label p = written label (formOfDatagram baseLimits p)
 
 abbrev pub packet-of-form : String → List ℕ → List ℕ → Written → List ℕ → Row
 packet-of-form label f = written label (packetOfForm baseLimits f)
+
+-- a buffer of words
+abbrev pub contents-of-packet : String → List ℕ → List ℕ → Written → List ℕ → Row
+contents-of-packet label p = written label (contentsOfPacket baseLimits p)
+
+abbrev pub contents-of-datagram : String → List ℕ → List ℕ → Written → List ℕ → Row
+contents-of-datagram label p = written label (contentsOfDatagram baseLimits p)

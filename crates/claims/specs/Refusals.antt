@@ -14,7 +14,7 @@ use Rattle.lookup.specs.declared.KnownAnswer.{KnownAnswer}
 use Rattle.claims.specs.Rows.{Row, EachAsSaid, _at_}
 use Rattle.claims.specs.Calls.{read-packet, read-datagram, read-login, read-command}
 use Rattle.claims.specs.Calls.{record-in-packet, record-in-datagram, value-in-packet, value-in-datagram, id-in-packet, id-in-datagram, last-known}
-use Rattle.claims.specs.Calls.{acknowledge-packet, acknowledge-datagram, answer-login, write-command, form-of-packet, form-of-datagram, packet-of-form}
+use Rattle.claims.specs.Calls.{acknowledge-packet, acknowledge-datagram, answer-login, write-command, form-of-packet, form-of-datagram, packet-of-form, contents-of-packet, contents-of-datagram}
 use Rattle.claims.specs.Packets.{field, tcp, unit, login, udp, plain, long, two, two16, twoTcp, twoUdp, brokenTcp, brokenUdp, newer, older, getioField, getverField}
 use Rattle.claims.specs.BenchSheet.{sample, sampleForm, getio}
 
@@ -171,8 +171,38 @@ writerRefusals =
     ∷ packet-of-form "46 of 47 bytes lent" sampleForm (replicate 46 7) (Written.Refused (18 at 0)) (replicate 46 7)
     ∷ []
 
+-- contents_of_packet: 1 to 7, the walk, 18; contents_of_datagram: 1, 3, 4, 15, 6, 7, the walk, 18. Three words hold no table
+unfoldable pub contentsRefusals : List Row
+contentsRefusals =
+    contents-of-packet "under 8 bytes" (take 7 twoTcp) (replicate 3 7) (Written.Refused (1 at 0)) (replicate 3 7)
+    ∷ contents-of-packet "fourth byte, L 0" (0x00 ∷ 0x00 ∷ 0x00 ∷ 0x01 ∷ 0x00 ∷ 0x00 ∷ 0x00 ∷ 0x00 ∷ []) (replicate 3 7) (Written.Refused (2 at 0)) (replicate 3 7)
+    ∷ contents-of-packet "L 1,269" (0x00 ∷ 0x00 ∷ 0x00 ∷ 0x00 ∷ 0x00 ∷ 0x00 ∷ 0x04 ∷ 0xF5 ∷ []) (replicate 3 7) (Written.Refused (3 at 0)) (replicate 3 7)
+    ∷ contents-of-packet "a byte too many, CRC wrong" (twoTcp ++ (0x00 ∷ [])) (replicate 3 7) (Written.Refused (4 at 0)) (replicate 3 7)
+    ∷ contents-of-packet "CRC wrong, priority 3" (set brokenTcp 74 0x2B) (replicate 3 7) (Written.Refused (5 at 0)) (replicate 3 7)
+    ∷ contents-of-packet "codec 07, counts 0" (tcp 0x00 0x3F (set (set (set two 0 0x07) 1 0x00) 62 0x00) 0x34 0xFC) (replicate 3 7) (Written.Refused (6 at 0)) (replicate 3 7)
+    ∷ contents-of-packet "counts 2 and 1, priority 3" (tcp 0x00 0x3F (set (set two 10 0x03) 62 0x01) 0xBE 0xC0) (replicate 3 7) (Written.Refused (7 at 0)) (replicate 3 7)
+    ∷ contents-of-packet "total 2, a group cut short" (tcp 0x00 0x3F (set (set two 57 0x02) 61 0x01) 0xC6 0xB3) (replicate 3 7) (Written.Refused (8 at 1)) (replicate 3 7)
+    ∷ contents-of-packet "total 1, no value" (tcp 0x00 0x3F (set two 57 0x01) 0x65 0xB2) (replicate 3 7) (Written.Refused (9 at 1)) (replicate 3 7)
+    ∷ contents-of-packet "priority 3" brokenTcp (replicate 3 7) (Written.Refused (10 at 1)) (replicate 3 7)
+    ∷ contents-of-packet "generation 8" (tcp 0x00 0x43 (set two16 60 0x08) 0x4C 0x37) (replicate 3 7) (Written.Refused (11 at 1)) (replicate 3 7)
+    ∷ contents-of-packet "256 bytes" (tcp 0x01 0x2D (field 0x8E 2 (long 0 0 ++ long 214 0)) 0x13 0x81) (replicate 3 7) (Written.Refused (12 at 1)) (replicate 3 7)
+    ∷ contents-of-packet "9 of 10 words lent" twoTcp (replicate 9 7) (Written.Refused (18 at 0)) (replicate 9 7)
+    ∷ contents-of-datagram "25 bytes" (udp 0x00 0x17 (0x08 ∷ 0x01 ∷ [])) (replicate 3 7) (Written.Refused (1 at 0)) (replicate 3 7)
+    ∷ contents-of-datagram "1,281 bytes, length 0" (udp 0x00 0x00 (replicate 1258 0)) (replicate 3 7) (Written.Refused (3 at 0)) (replicate 3 7)
+    ∷ contents-of-datagram "length 1 too small, IMEI length 14" (set (set twoUdp 1 0x53) 7 0x0E) (replicate 3 7) (Written.Refused (4 at 0)) (replicate 3 7)
+    ∷ contents-of-datagram "last digit 3A, codec 07" (set (set twoUdp 22 0x3A) 23 0x07) (replicate 3 7) (Written.Refused (15 at 0)) (replicate 3 7)
+    ∷ contents-of-datagram "codec 0C, counts 0" (udp 0x00 0x54 (set (set (set two 0 0x0C) 1 0x00) 62 0x00)) (replicate 3 7) (Written.Refused (6 at 0)) (replicate 3 7)
+    ∷ contents-of-datagram "counts 2 and 1, priority 3" (udp 0x00 0x54 (set (set two 10 0x03) 62 0x01)) (replicate 3 7) (Written.Refused (7 at 0)) (replicate 3 7)
+    ∷ contents-of-datagram "left-over byte, count 2" (udp 0x00 0x55 (field 0x08 2 (plain ++ plain ++ (0x00 ∷ [])))) (replicate 3 7) (Written.Refused (8 at 2)) (replicate 3 7)
+    ∷ contents-of-datagram "256 bytes, total 1" (udp 0x01 0x42 (field 0x8E 2 (long 0 0 ++ long 214 1))) (replicate 3 7) (Written.Refused (9 at 1)) (replicate 3 7)
+    ∷ contents-of-datagram "priority 3, none lent" brokenUdp [] (Written.Refused (10 at 1)) []
+    ∷ contents-of-datagram "generation 8" (udp 0x00 0x58 (set two16 60 0x08)) (replicate 3 7) (Written.Refused (11 at 1)) (replicate 3 7)
+    ∷ contents-of-datagram "256 bytes" (udp 0x01 0x42 (field 0x8E 2 (long 0 0 ++ long 214 0))) (replicate 3 7) (Written.Refused (12 at 1)) (replicate 3 7)
+    ∷ contents-of-datagram "6 of 7 words lent" sample (replicate 6 7) (Written.Refused (18 at 0)) (replicate 6 7)
+    ∷ []
+
 abbrev pub refusals : List (List Row)
-refusals = packetRefusals ∷ datagramRefusals ∷ loginRefusals ∷ commandRefusals ∷ lookupRefusals ∷ writerRefusals ∷ []
+refusals = packetRefusals ∷ datagramRefusals ∷ loginRefusals ∷ commandRefusals ∷ lookupRefusals ∷ writerRefusals ∷ contentsRefusals ∷ []
 
 abbrev pub AsThePaperRefuses : Type 0
 AsThePaperRefuses = EachAsSaid refusals

@@ -20,11 +20,11 @@ pub fn store_byte(out: &mut [u8], at: usize, b: u8)
 }
 
 // Stores a word.
-pub fn store_word(out: &mut [u64], at: usize, n: u64)
-    ensures { λ _. ⌜ now (out .exit) ≡ set (now (out .entry)) at n ⌝ }
+pub fn store_word(out: &mut [u64], to: usize, n: u64)
+    ensures { λ _. ⌜ now (out .exit) ≡ set (now (out .entry)) to n ⌝ }
 {
-    if at < out.len() {
-        out[at] = n;
+    if to < out.len() {
+        out[to] = n;
     }
 }
 
