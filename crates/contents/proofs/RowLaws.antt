@@ -23,7 +23,7 @@ use Rattle.walk.proofs.WalkLaws.{narrow}
 use Rattle.packet.specs.DataPackets.{readPacket, answerPacket, acknowledged, tcpAcknowledgement}
 use Rattle.packet.proofs.FieldLaws.{packet-most}
 use Rattle.datagram.specs.declared.Header.{Header}
-use Rattle.datagram.specs.Datagrams.{HeaderRules, readDatagram, payloadOf, answerDatagram, acknowledgementBytes, udpAcknowledgement}
+use Rattle.datagram.specs.Datagrams.{Datagram, HeaderRules, readDatagram, payloadOf, answerDatagram, acknowledgementBytes, udpAcknowledgement}
 use Rattle.datagram.proofs.DatagramLaws.{datagram-exact}
 use Rattle.datagram.proofs.FieldLaws.{datagram-most}
 use Rattle.element.specs.declared.RecordFields.{RecordFields}
@@ -265,52 +265,6 @@ module _ (longest : ℕ) (p : List ℕ) (x : Source) (h : Header) (short : lengt
         whole = omega (arith, rows-size w placed, ap rowsSize rows-are);
       }
 
--- ---- a packet and a datagram
-
-no-header : HeaderRules noHeader
-no-header = omega arith
-
-module _ (limits : Limits) (small : limits .largest < 2 ^ 16) (p t : List ℕ) (b : Bytes p) where
-  -- the table of a TCP packet, its codec and count, and its acknowledgement
-  pub packet-lists : contentsOfPacket limits p ≡ accepted t
-      → Lists (tcpSource limits p) t × (answerPacket limits p ≡ accepted (titleResult t)) × (tcpAcknowledgement limits p ≡ be 4 (titleResult t .count))
-  unfolding contentsOfPacket tcpSource answerPacket tcpAcknowledgement dataResult acknowledged
-  packet-lists e =
-      let i = onAccepted-accepted (tcpSource limits p) _ e in
-      let j = onAccepted-accepted (readPacket limits p) _ (i .1) in
-      let x : Source = record { content = j .0; base = 10 } in
-      let same : contents noHeader x ≡ t = cc (j .2, i .2) in
-      let source : tcpSource limits p ≡ accepted x = onAccepted-passed (readPacket limits p) _ (j .1) in
-      let short : length p < 2 ^ 16 = omega (arith, small, packet-most limits p (j .1) b) in
-      let stored = tcp-stored limits p x b source in
-      let title : titleResult t ≡ dataResult (j .0) = ap titleResult (sym same) ∙ title-is (limits .longest) p x noHeader short stored no-header in (
-        subst (Lists (tcpSource limits p)) same (lists (limits .longest) p x noHeader short stored no-header source),
-        onAccepted-passed (readPacket limits p) _ (j .1) ∙ ap accepted (sym title),
-        ap (λ r. be 4 (acknowledged r)) (j .1) ∙ ap (λ (d : DataResult). be 4 (d .count)) (sym title),
-      )
-
-  -- the table of a datagram, its codec, count and header, and its acknowledgement
-  pub datagram-lists : contentsOfDatagram limits p ≡ accepted t
-      → Lists (udpSource limits p) t
-      × (answerDatagram limits p ≡ accepted (record { payload = titleResult t; header = titleHeader t }))
-      × (udpAcknowledgement limits p ≡ accepted (acknowledgementBytes (titleHeader t) (titleResult t .count)))
-  unfolding contentsOfDatagram udpSource answerDatagram udpAcknowledgement dataResult
-  datagram-lists e =
-      let i = onAccepted-accepted (readDatagram limits p) _ e in
-      let g = i .0 in
-      let x : Source = record { content = g .payload; base = 25 } in
-      let same : contents (g .header) x ≡ t = cc (i .2) in
-      let source : udpSource limits p ≡ accepted x = onAccepted-passed (readDatagram limits p) _ (i .1) in
-      let short : length p < 2 ^ 16 = omega (arith, small, datagram-most limits p (i .1) b) in
-      let stored = udp-stored limits p x b source in
-      let rules = datagram-exact limits p g b .0 (i .1) .header in
-      let title : titleResult t ≡ dataResult (g .payload) = ap titleResult (sym same) ∙ title-is (limits .longest) p x (g .header) short stored rules in
-      let header : titleHeader t ≡ g .header = ap titleHeader (sym same) ∙ header-is (limits .longest) p x (g .header) short stored rules in (
-        subst (Lists (udpSource limits p)) same (lists (limits .longest) p x (g .header) short stored rules source),
-        onAccepted-passed (readDatagram limits p) _ (i .1) ∙ (λ n. accepted (record { payload = sym title n; header = sym header n })),
-        onAccepted-passed (readDatagram limits p) _ (i .1) ∙ ap₂ (λ (h : Header) (d : DataResult). accepted (acknowledgementBytes h (d .count))) (sym header) (sym title),
-      )
-
 -- ---- a record's words are made of where it starts and of its own bytes
 
 pub contents-local : (longest : ℕ) (p q : List ℕ) (x y : Source) (m n : ℕ) (r t : Placed) → Stored longest p x → Stored longest q y
@@ -383,31 +337,115 @@ module _ (longest : ℕ) (p : List ℕ) (x : Source) (h : Header) (short : lengt
       let count : titleResult (contents h x ++ more) .count ≡ length (x .content .records) = ap (λ (d : DataResult). d .count) (title-ahead ∙ title-is longest p x h short stored rules) in
       (count, subst (RowsAhead p (contents h x ++ more) 2) (sym count) ahead)
 
-module _ (limits : Limits) (small : limits .largest < 2 ^ 16) (p t : List ℕ) (b : Bytes p) (more : List ℕ) where
-  abbrev Ahead : Answer AvlData → Type 0
-  Ahead read = (titleResult (t ++ more) .count ≡ acknowledged read) × RowsAhead p (t ++ more) 2 (titleResult (t ++ more) .count)
+-- ---- the table of a packet and of a datagram
 
-  pub packet-ahead : contentsOfPacket limits p ≡ accepted t → Ahead (readPacket limits p)
-  unfolding contentsOfPacket tcpSource acknowledged
-  packet-ahead e =
+-- `t` is the table of the input `p`, which `source` finds accepted
+record TableOf (p : List ℕ) (source : Answer Source) (x : Source) (h : Header) (t : List ℕ) : Type 0 where
+  longest : ℕ
+  short : length p < 2 ^ 16
+  stored : Stored longest p x
+  rules : HeaderRules h
+  accepts : source ≡ accepted x
+  is : contents h x ≡ t
+
+module _ {p : List ℕ} {source : Answer Source} {x : Source} {h : Header} {t : List ℕ} (k : TableOf p source x h t) where
+  table-lists : Lists source t
+  table-lists = subst (Lists source) (k .is) (lists (k .longest) p x h (k .short) (k .stored) (k .rules) (k .accepts))
+
+  table-title : titleResult t ≡ dataResult (x .content)
+  table-title = ap titleResult (sym (k .is)) ∙ title-is (k .longest) p x h (k .short) (k .stored) (k .rules)
+
+  table-header : titleHeader t ≡ h
+  table-header = ap titleHeader (sym (k .is)) ∙ header-is (k .longest) p x h (k .short) (k .stored) (k .rules)
+
+  table-ahead : (more : List ℕ) → (titleResult (t ++ more) .count ≡ length (x .content .records)) × RowsAhead p (t ++ more) 2 (titleResult (t ++ more) .count)
+  table-ahead more =
+      subst (λ (l : List ℕ). (titleResult (l ++ more) .count ≡ length (x .content .records)) × RowsAhead p (l ++ more) 2 (titleResult (l ++ more) .count)) (k .is)
+      (all-ahead (k .longest) p x h (k .short) (k .stored) (k .rules) more)
+
+no-header : HeaderRules noHeader
+no-header = omega arith
+
+module _ (limits : Limits) (small : limits .largest < 2 ^ 16) (p t : List ℕ) (b : Bytes p) where
+  packet-table : contentsOfPacket limits p ≡ accepted t
+      → (a : AvlData) × (readPacket limits p ≡ accepted a) × TableOf p (tcpSource limits p) (record { content = a; base = 10 }) noHeader t
+  unfolding contentsOfPacket tcpSource
+  packet-table e =
       let i = onAccepted-accepted (tcpSource limits p) _ e in
       let j = onAccepted-accepted (readPacket limits p) _ (i .1) in
-      let x : Source = record { content = j .0; base = 10 } in
-      let same : contents noHeader x ≡ t = cc (j .2, i .2) in
-      let short : length p < 2 ^ 16 = omega (arith, small, packet-most limits p (j .1) b) in
-      let a = all-ahead (limits .longest) p x noHeader short (tcp-stored limits p x b (onAccepted-passed (readPacket limits p) _ (j .1))) no-header more in
-      let whole = subst (λ (l : List ℕ). (titleResult (l ++ more) .count ≡ length (j .0 .records)) × RowsAhead p (l ++ more) 2 (titleResult (l ++ more) .count)) same a in
-      (whole .0 ∙ ap acknowledged (sym (j .1)), whole .1)
+      let source = onAccepted-passed (readPacket limits p) _ (j .1) in (
+        j .0,
+        j .1,
+        record {
+          longest = limits .longest;
+          short = omega (arith, small, packet-most limits p (j .1) b);
+          stored = tcp-stored limits p _ b source;
+          rules = no-header;
+          accepts = source;
+          is = cc (j .2, i .2);
+        },
+      )
 
-  pub datagram-ahead : contentsOfDatagram limits p ≡ accepted t → Ahead (payloadOf (readDatagram limits p))
-  unfolding contentsOfDatagram udpSource acknowledged payloadOf
-  datagram-ahead e =
+  datagram-table : contentsOfDatagram limits p ≡ accepted t
+      → (g : Datagram) × (readDatagram limits p ≡ accepted g) × TableOf p (udpSource limits p) (record { content = g .payload; base = 25 }) (g .header) t
+  unfolding contentsOfDatagram udpSource
+  datagram-table e =
       let i = onAccepted-accepted (readDatagram limits p) _ e in
-      let g = i .0 in
-      let x : Source = record { content = g .payload; base = 25 } in
-      let same : contents (g .header) x ≡ t = cc (i .2) in
-      let short : length p < 2 ^ 16 = omega (arith, small, datagram-most limits p (i .1) b) in
-      let rules = datagram-exact limits p g b .0 (i .1) .header in
-      let a = all-ahead (limits .longest) p x (g .header) short (udp-stored limits p x b (onAccepted-passed (readDatagram limits p) _ (i .1))) rules more in
-      let whole = subst (λ (l : List ℕ). (titleResult (l ++ more) .count ≡ length (g .payload .records)) × RowsAhead p (l ++ more) 2 (titleResult (l ++ more) .count)) same a in
-      (whole .0 ∙ ap acknowledged (sym (onAccepted-passed (readDatagram limits p) _ (i .1))), whole .1)
+      let source = onAccepted-passed (readDatagram limits p) _ (i .1) in (
+        i .0,
+        i .1,
+        record {
+          longest = limits .longest;
+          short = omega (arith, small, datagram-most limits p (i .1) b);
+          stored = udp-stored limits p _ b source;
+          rules = datagram-exact limits p (i .0) b .0 (i .1) .header;
+          accepts = source;
+          is = cc (i .2);
+        },
+      )
+
+  -- a TCP packet's table, its codec and count, and its acknowledgement
+  pub packet-lists : contentsOfPacket limits p ≡ accepted t
+      → Lists (tcpSource limits p) t × (answerPacket limits p ≡ accepted (titleResult t)) × (tcpAcknowledgement limits p ≡ be 4 (titleResult t .count))
+  unfolding answerPacket tcpAcknowledgement dataResult acknowledged
+  packet-lists e =
+      let k = packet-table e in
+      let title = sym (table-title (k .2)) in (
+        table-lists (k .2),
+        onAccepted-passed (readPacket limits p) _ (k .1) ∙ ap accepted title,
+        ap (λ r. be 4 (acknowledged r)) (k .1) ∙ ap (λ (d : DataResult). be 4 (d .count)) title,
+      )
+
+  -- a datagram's table, its codec, count and header, and its acknowledgement
+  pub datagram-lists : contentsOfDatagram limits p ≡ accepted t
+      → Lists (udpSource limits p) t
+      × (answerDatagram limits p ≡ accepted (record { payload = titleResult t; header = titleHeader t }))
+      × (udpAcknowledgement limits p ≡ accepted (acknowledgementBytes (titleHeader t) (titleResult t .count)))
+  unfolding answerDatagram udpAcknowledgement dataResult
+  datagram-lists e =
+      let k = datagram-table e in
+      let title = sym (table-title (k .2)) in
+      let header = sym (table-header (k .2)) in (
+        table-lists (k .2),
+        onAccepted-passed (readDatagram limits p) _ (k .1) ∙ (λ n. accepted (record { payload = title n; header = header n })),
+        onAccepted-passed (readDatagram limits p) _ (k .1) ∙ ap₂ (λ (h : Header) (d : DataResult). accepted (acknowledgementBytes h (d .count))) header title,
+      )
+
+  -- the records ahead in a buffer that begins with the table, as many as are acknowledged
+  module _ (more : List ℕ) where
+    abbrev Ahead : Answer AvlData → Type 0
+    Ahead read = (titleResult (t ++ more) .count ≡ acknowledged read) × RowsAhead p (t ++ more) 2 (titleResult (t ++ more) .count)
+
+    pub packet-ahead : contentsOfPacket limits p ≡ accepted t → Ahead (readPacket limits p)
+    unfolding acknowledged
+    packet-ahead e =
+        let k = packet-table e in
+        let a = table-ahead (k .2) more in
+        (a .0 ∙ ap acknowledged (sym (k .1)), a .1)
+
+    pub datagram-ahead : contentsOfDatagram limits p ≡ accepted t → Ahead (payloadOf (readDatagram limits p))
+    unfolding acknowledged payloadOf
+    datagram-ahead e =
+        let k = datagram-table e in
+        let a = table-ahead (k .2) more in
+        (a .0 ∙ ap acknowledged (sym (onAccepted-passed (readDatagram limits p) _ (k .1))), a .1)

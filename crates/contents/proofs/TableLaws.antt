@@ -23,6 +23,7 @@ use Rattle.avl.specs.Records.{Element, AvlRecord, elementBytes, groupBytes, rec
 use Rattle.avl.specs.RecordReader.{plainRecord}
 use Rattle.avl.specs.DataField.{AvlData, readData, dataResult, DataResult}
 use Rattle.avl.proofs.Inversion.{list-read}
+use Rattle.walk.proofs.WalkLaws.{narrow}
 use Rattle.packet.specs.DataPackets.{readPacket}
 use Rattle.avl.proofs.FieldLaws.{FieldOf}
 use Rattle.packet.proofs.FieldLaws.{packet-field, packet-long}
@@ -39,11 +40,12 @@ use Rattle.traverse.specs.Copying.{Copies}
 use Rattle.traverse.specs.Fields.{fieldText, Writes}
 use Rattle.traverse.proofs.CopyLaws.{moved}
 use Rattle.traverse.proofs.PaceLaws.{joined-append}
+use Rattle.traverse.proofs.SizeLaws.{field-size}
 use Rattle.traverse.proofs.FieldLaws.{Answers, written-field, refused-whole}
 use Rattle.contents.specs.Words.{quad, titleWords, valueWord}
 use Rattle.contents.specs.Contents.{recordContents, contents, noHeader, contentsOfPacket, contentsOfDatagram}
 use Rattle.contents.specs.Listing.{listedWord, headText, fieldContents}
-use Rattle.contents.proofs.SizeLaws.{contents-size}
+use Rattle.contents.proofs.SizeLaws.{word-size, head-size}
 
 -- ---- places counted from the record's start, and from the input's
 
@@ -86,6 +88,15 @@ records-listed w base at (r ∷ rs) =
 table-listed : (w : Widths) (base : ℕ) (rs : List AvlRecord)
     → recordsText (recordText (listedWord base) w (headText base w)) w 0 rs ≡ joined (recordContents w) (placeRecords w base rs)
 table-listed w base rs = records-listed w base 0 rs ∙ ap (λ (n : ℕ). joined (recordContents w) (placeRecords w n rs)) (add-zero base)
+
+pub contents-size : (h : Header) (base longest : ℕ) (d : List ℕ) (a : AvlData) → Bytes d → 3 ≤ length d → readData longest d ≡ accepted a
+    → 2 * length (fieldContents h base a) ≤ length d + 1
+unfolding contents titleWords
+contents-size h base longest d a b l e =
+    let w = widthsOf (a .codec) in
+    let named = narrow (a .codec) .named in
+    let records = field-size 2 1 (listedWord base) w (word-size w named base) (headText base w) (head-size w named base) longest 0 d a refl b l e in
+    omega (arith, records, ap length (table-listed w base (a .records)))
 
 -- ---- the packet's words in front
 

@@ -3,7 +3,7 @@ use Prim.Native.Nat.{ℕ, _+_, _≤_}
 use native.Mathlib.Omega.{arith}
 use mathlib.Core.Path.{_≡_, refl, sym, ap, ap₂, _∙_}
 use mathlib.Core.List.{List, [], _∷_, _++_, append-assoc}
-use lib.ListN.{length, drop, length-append, length-drop}
+use lib.ListN.{length, drop, length-drop}
 use lib.Seq.{length-take-le}
 use Rattle.wire.specs.Numbers.{le}
 use Rattle.wire.specs.Sequences.{joined}
@@ -24,9 +24,6 @@ use Rattle.form.specs.Moves.{entryText, headText}
 -- the bytes of entries
 abbrev pub laid : List Entry → List ℕ
 laid es = joined entryBytes es
-
-pub length-laid : (a b : List Entry) → length (laid (a ++ b)) ≡ length (laid a) + length (laid b)
-length-laid a b = ap length (joined-append entryBytes a b) ∙ length-append (laid a) (laid b)
 
 module _ (w : Widths) where
   run-laid : (kind at : ℕ) (g : List Element) → runText entryText w kind at g ≡ laid (groupEntries kind g)
