@@ -85,6 +85,96 @@ impl OwnedTable {
     }
 }
 
+/// What a packet and a datagram have in common: records, bytes, an owned copy.
+macro_rules! judged {
+    ($data:ident, $owned:ident, $lend:ident, $sample:literal, $times:literal) => {
+        impl<'a> $data<'a> {
+            #[inline]
+            fn head(&self) -> &'a [u64] {
+                self.0.words
+            }
+
+            /// The records in order.
+            ///
+            /// ```
+            /// # use brundilope::{samples, Contents, DataDatagram, DataPacket};
+            /// # let mut room = Contents::new();
+            #[doc = concat!("let it = ", stringify!($data), "::read(", $sample, ", &mut room)?;")]
+            /// let times: Vec<u64> = it.records().map(|record| record.timestamp()).collect();
+            #[doc = concat!("assert_eq!(times, ", $times, ");")]
+            /// # Ok::<(), brundilope::Refusal>(())
+            /// ```
+            #[inline]
+            pub fn records(&self) -> Records<'a> {
+                self.0.records(self.count())
+            }
+
+            /// The input's bytes.
+            ///
+            /// ```
+            /// # use brundilope::{samples, Contents, DataDatagram, DataPacket};
+            /// # let mut room = Contents::new();
+            #[doc = concat!("let it = ", stringify!($data), "::read(", $sample, ", &mut room)?;")]
+            #[doc = concat!("assert_eq!(it.bytes(), ", $sample, ");")]
+            /// # Ok::<(), brundilope::Refusal>(())
+            /// ```
+            pub fn bytes(&self) -> &'a [u8] {
+                self.0.input
+            }
+
+            /// A copy that borrows nothing: it allocates, and is not judged again.
+            ///
+            /// ```
+            /// # use brundilope::{samples, Contents, DataDatagram, DataPacket};
+            #[doc = concat!("let copy = ", stringify!($data), "::read(", $sample, ", &mut Contents::new())?.to_owned();")]
+            #[doc = concat!("let size = std::thread::spawn(move || copy.", stringify!($lend), "().bytes().len()).join();")]
+            #[doc = concat!("assert_eq!(size.unwrap(), ", $sample, ".len());")]
+            /// # Ok::<(), brundilope::Refusal>(())
+            /// ```
+            #[must_use]
+            pub fn to_owned(&self) -> $owned {
+                $owned(self.0.to_owned())
+            }
+        }
+
+        #[doc = concat!("A [`", stringify!($data), "`] that borrows nothing, from [`", stringify!($data), "::to_owned`].")]
+        ///
+        /// ```
+        /// # use brundilope::*;
+        /// let mut room = Contents::new();
+        #[doc = concat!("let kept: ", stringify!($owned), " = ", stringify!($data), "::read(", $sample, ", &mut room)?.to_owned();")]
+        #[doc = concat!("assert_eq!(kept.", stringify!($lend), "().bytes(), ", $sample, ");")]
+        /// # Ok::<(), brundilope::Refusal>(())
+        /// ```
+        #[derive(Clone, PartialEq, Eq, Hash)]
+        pub struct $owned(OwnedTable);
+
+        impl $owned {
+            /// What it is a copy of.
+            ///
+            /// ```
+            /// # use brundilope::{samples, Contents, DataDatagram, DataPacket};
+            #[doc = concat!("let copy = ", stringify!($data), "::read(", $sample, ", &mut Contents::new())?.to_owned();")]
+            #[doc = concat!("let times: Vec<u64> = copy.", stringify!($lend), "().records().map(|record| record.timestamp()).collect();")]
+            #[doc = concat!("assert_eq!(times, ", $times, ");")]
+            /// # Ok::<(), brundilope::Refusal>(())
+            /// ```
+            pub fn $lend(&self) -> $data<'_> {
+                $data(self.0.lend())
+            }
+        }
+
+        impl Debug for $owned {
+            fn fmt(&self, f: &mut Formatter<'_>) -> Printed {
+                f.debug_tuple(stringify!($owned)).field(&self.$lend()).finish()
+            }
+        }
+    };
+}
+
+judged!(DataPacket, OwnedPacket, as_packet, "samples::CODEC16", "[1_562_760_414_000, 1_562_760_415_000]");
+judged!(DataDatagram, OwnedDatagram, as_datagram, "samples::UDP_CODEC8", "[1_560_407_006_000]");
+
 /// A TCP data packet with its contents, judged once.
 ///
 /// ```
@@ -128,27 +218,6 @@ impl<'a> DataPacket<'a> {
         Table::judged(bytes, raw::contents_of_packet(bytes, &mut room.0)).map(DataPacket)
     }
 
-    #[inline]
-    fn head(&self) -> &'a [u64] {
-        self.0.words
-    }
-
-    /// The records in order.
-    ///
-    /// ```
-    /// use brundilope::{samples, Contents, DataPacket};
-    ///
-    /// let mut room = Contents::new();
-    /// let packet = DataPacket::read(samples::CODEC16, &mut room)?;
-    /// let times: Vec<u64> = packet.records().map(|record| record.timestamp()).collect();
-    /// assert_eq!(times, [1_562_760_414_000, 1_562_760_415_000]);
-    /// # Ok::<(), brundilope::Refusal>(())
-    /// ```
-    #[inline]
-    pub fn records(&self) -> Records<'a> {
-        self.0.records(self.count())
-    }
-
     /// The acknowledgement: the number of records in four bytes. That of a refused packet is four zeros.
     ///
     /// ```
@@ -163,35 +232,6 @@ impl<'a> DataPacket<'a> {
     pub fn ack(&self) -> [u8; 4] {
         u32::from(self.count()).to_be_bytes()
     }
-
-    /// The packet's bytes.
-    ///
-    /// ```
-    /// use brundilope::{samples, Contents, DataPacket};
-    ///
-    /// let mut room = Contents::new();
-    /// let packet = DataPacket::read(samples::CODEC8, &mut room)?;
-    /// assert_eq!(packet.bytes(), samples::CODEC8);
-    /// # Ok::<(), brundilope::Refusal>(())
-    /// ```
-    pub fn bytes(&self) -> &'a [u8] {
-        self.0.input
-    }
-
-    /// A copy that borrows nothing: it allocates, and is not judged again.
-    ///
-    /// ```
-    /// use brundilope::{samples, Contents, DataPacket};
-    ///
-    /// let packet = DataPacket::read(samples::CODEC16, &mut Contents::new())?.to_owned();
-    /// let count = std::thread::spawn(move || packet.as_packet().count()).join();
-    /// assert_eq!(count.unwrap(), 2);
-    /// # Ok::<(), brundilope::Refusal>(())
-    /// ```
-    #[must_use]
-    pub fn to_owned(&self) -> OwnedPacket {
-        OwnedPacket(self.0.to_owned())
-    }
 }
 
 impl Debug for DataPacket<'_> {
@@ -203,43 +243,6 @@ impl Debug for DataPacket<'_> {
 impl Display for DataPacket<'_> {
     fn fmt(&self, f: &mut Formatter<'_>) -> Printed {
         write!(f, "codec {:02X}, records {}", self.codec(), self.count())
-    }
-}
-
-/// A [`DataPacket`] that borrows nothing, from [`DataPacket::to_owned`].
-///
-/// ```
-/// use brundilope::{samples, Contents, DataPacket, OwnedPacket};
-///
-/// let mut room = Contents::new();
-/// let mut kept: Vec<OwnedPacket> = Vec::new();
-/// for packet in [samples::CODEC8, samples::CODEC16] {
-///     kept.push(DataPacket::read(packet, &mut room)?.to_owned());
-/// }
-/// assert_eq!(kept[0].as_packet().bytes(), samples::CODEC8);
-/// # Ok::<(), brundilope::Refusal>(())
-/// ```
-#[derive(Clone, PartialEq, Eq, Hash)]
-pub struct OwnedPacket(OwnedTable);
-
-impl OwnedPacket {
-    /// The packet.
-    ///
-    /// ```
-    /// use brundilope::{samples, Contents, DataPacket};
-    ///
-    /// let packet = DataPacket::read(samples::CODEC8, &mut Contents::new())?.to_owned();
-    /// assert_eq!(packet.as_packet().codec(), 0x08);
-    /// # Ok::<(), brundilope::Refusal>(())
-    /// ```
-    pub fn as_packet(&self) -> DataPacket<'_> {
-        DataPacket(self.0.lend())
-    }
-}
-
-impl Debug for OwnedPacket {
-    fn fmt(&self, f: &mut Formatter<'_>) -> Printed {
-        f.debug_tuple("OwnedPacket").field(&self.as_packet()).finish()
     }
 }
 
@@ -292,27 +295,6 @@ impl<'a> DataDatagram<'a> {
         Table::judged(bytes, raw::contents_of_datagram(bytes, &mut room.0)).map(DataDatagram)
     }
 
-    #[inline]
-    fn head(&self) -> &'a [u64] {
-        self.0.words
-    }
-
-    /// The records in order.
-    ///
-    /// ```
-    /// use brundilope::{samples, Contents, DataDatagram};
-    ///
-    /// let mut room = Contents::new();
-    /// let datagram = DataDatagram::read(samples::UDP_CODEC8, &mut room)?;
-    /// let times: Vec<u64> = datagram.records().map(|record| record.timestamp()).collect();
-    /// assert_eq!(times, [1_560_407_006_000]);
-    /// # Ok::<(), brundilope::Refusal>(())
-    /// ```
-    #[inline]
-    pub fn records(&self) -> Records<'a> {
-        self.0.records(self.count())
-    }
-
     /// The acknowledgement, seven bytes. A refused datagram has none.
     ///
     /// ```
@@ -327,35 +309,6 @@ impl<'a> DataDatagram<'a> {
     pub fn ack(&self) -> [u8; 7] {
         let [high, low] = self.packet_id().to_be_bytes();
         [0, 5, high, low, self.unused(), self.avl_packet_id(), self.count()]
-    }
-
-    /// The datagram's bytes.
-    ///
-    /// ```
-    /// use brundilope::{samples, Contents, DataDatagram};
-    ///
-    /// let mut room = Contents::new();
-    /// let datagram = DataDatagram::read(samples::UDP_CODEC8, &mut room)?;
-    /// assert_eq!(datagram.bytes(), samples::UDP_CODEC8);
-    /// # Ok::<(), brundilope::Refusal>(())
-    /// ```
-    pub fn bytes(&self) -> &'a [u8] {
-        self.0.input
-    }
-
-    /// A copy that borrows nothing: it allocates, and is not judged again.
-    ///
-    /// ```
-    /// use brundilope::{samples, Contents, DataDatagram};
-    ///
-    /// let datagram = DataDatagram::read(samples::UDP_CODEC8, &mut Contents::new())?.to_owned();
-    /// let imei = std::thread::spawn(move || datagram.as_datagram().imei()).join();
-    /// assert_eq!(imei.unwrap(), 352_093_086_403_655);
-    /// # Ok::<(), brundilope::Refusal>(())
-    /// ```
-    #[must_use]
-    pub fn to_owned(&self) -> OwnedDatagram {
-        OwnedDatagram(self.0.to_owned())
     }
 }
 
@@ -375,40 +328,5 @@ impl Debug for DataDatagram<'_> {
 impl Display for DataDatagram<'_> {
     fn fmt(&self, f: &mut Formatter<'_>) -> Printed {
         write!(f, "IMEI {:015}, codec {:02X}, records {}", self.imei(), self.codec(), self.count())
-    }
-}
-
-/// A [`DataDatagram`] that borrows nothing, from [`DataDatagram::to_owned`].
-///
-/// ```
-/// use brundilope::{samples, Contents, DataDatagram, OwnedDatagram};
-///
-/// let mut room = Contents::new();
-/// let kept: OwnedDatagram = DataDatagram::read(samples::UDP_CODEC8, &mut room)?.to_owned();
-/// let other = DataDatagram::read(samples::UDP_CODEC8E, &mut room)?;
-/// assert_eq!((kept.as_datagram().codec(), other.codec()), (0x08, 0x8E));
-/// # Ok::<(), brundilope::Refusal>(())
-/// ```
-#[derive(Clone, PartialEq, Eq, Hash)]
-pub struct OwnedDatagram(OwnedTable);
-
-impl OwnedDatagram {
-    /// The datagram.
-    ///
-    /// ```
-    /// use brundilope::{samples, Contents, DataDatagram};
-    ///
-    /// let datagram = DataDatagram::read(samples::UDP_CODEC8, &mut Contents::new())?.to_owned();
-    /// assert_eq!(datagram.as_datagram().packet_id(), 0xCAFE);
-    /// # Ok::<(), brundilope::Refusal>(())
-    /// ```
-    pub fn as_datagram(&self) -> DataDatagram<'_> {
-        DataDatagram(self.0.lend())
-    }
-}
-
-impl Debug for OwnedDatagram {
-    fn fmt(&self, f: &mut Formatter<'_>) -> Printed {
-        f.debug_tuple("OwnedDatagram").field(&self.as_datagram()).finish()
     }
 }
