@@ -5,12 +5,16 @@ use mathlib.Core.Path.{_≡_, refl, sym, ap, ap₂, subst, _∙_}
 use mathlib.Core.Bool.{Bool, true, false}
 use mathlib.Core.List.{List}
 use lib.ListN.{length, take, drop}
-use Rattle.wire.specs.Numbers.{Bytes}
+use lib.Dec.{eqb, leb}
+use borrow.Author.Tests.{le-leb, leb-true}
+use Rattle.wire.specs.Numbers.{Bytes, numberAt}
 use Rattle.wire.specs.declared.Refusal.{Refusal}
 use Rattle.wire.specs.Answers.{Answer, accepted, refused, refusal, check}
+use Rattle.wire.proofs.Accepting.{check-accepted, check-passed}
 use Rattle.wire.proofs.Placed.{between-whole}
+use Rattle.checksum.specs.Crc.{crc}
 use Rattle.frame.specs.declared.Framed.the-variants.{Field, Unframed}
-use Rattle.frame.specs.Frame.{framed, fieldOf, unframe, framing}
+use Rattle.frame.specs.Frame.{framed, fieldLength, fieldOf, headed, header, unframe, framing, heading}
 use Rattle.frame.proofs.FrameLaws.{length-framed, parts, frame-exact}
 
 framing-accepted : (r : Answer (List ℕ)) {n : ℕ} → framing r ≡ Field n → (d : List ℕ) × (r ≡ accepted d) × (length d ≡ n)
@@ -30,6 +34,60 @@ framing-field largest p n e h =
     ap₂ (λ (m : ℕ) (s : List ℕ). take m (drop 8 s)) (sym (k .size ∙ a .2)) (rules .1) ∙ k .field
     in
     (a .1 ∙ ap accepted (sym field), omega (arith, ap length (rules .1), length-framed d, a .2), omega (arith, rules .0 .least, a .2))
+
+-- ---- the header
+
+pub heading-accepted : (r : Answer ℕ) {n : ℕ} → heading r ≡ Field n → r ≡ accepted n
+unfolding heading
+heading-accepted (accepted m) e = ap accepted (cc)
+heading-accepted (refused x) e = absurd (let z : _≡_ {A = ℕ} 0 1 = cc in omega arith)
+
+module _ (largest : ℕ) (p : List ℕ) where
+  -- what a header that passes gives, whatever stands behind it
+  pub header-field : (n : ℕ) → heading (header largest p) ≡ Field n
+      → (n ≡ fieldLength p) × (3 ≤ n) × (n + 12 ≤ largest) × ((A : Type 0) (rest : Answer A) → headed largest p rest ≡ rest)
+  header-field n e =
+      let c₁ = check-accepted _ 2 _ (heading-accepted _ e) in
+      let c₂ = check-accepted _ 3 _ (c₁ .1) in
+      let c₃ = check-accepted _ 3 _ (c₂ .1) in
+      let least : 3 ≤ fieldLength p = leb-true _ _ (c₂ .0) in
+      let most : fieldLength p + 12 ≤ largest = leb-true _ _ (c₃ .0) in
+      let same : fieldLength p ≡ n = cc (c₃ .1) in (
+        sym same,
+        omega arith,
+        omega arith,
+        λ A rest. check-passed _ 2 _ (c₁ .0) ∙ check-passed _ 3 _ (c₂ .0) ∙ check-passed _ 3 _ (c₃ .0),
+      )
+
+  -- a header that is refused, whatever stands behind it
+  pub header-unframed : {A : Type 0} (n : ℕ) → heading (header largest p) ≡ Unframed n
+      → (rest : Answer A) → headed largest p rest ≡ refused (refusal n)
+  unfolding heading check
+  header-unframed {A} n e rest = go (eqb (numberAt p 0 4) 0) (leb 3 (fieldLength p)) (leb (fieldLength p + 12) largest) e
+    where
+      go : (a b c : Bool) → heading (check a 2 (check b 3 (check c 3 (accepted (fieldLength p))))) ≡ Unframed n → check a 2 (check b 3 (check c 3 rest)) ≡ refused (refusal n)
+      go false b c e = let same : 2 ≡ n = cc e in ap (λ (k : ℕ). refused (refusal k)) same
+      go true false c e = let same : 3 ≡ n = cc e in ap (λ (k : ℕ). refused (refusal k)) same
+      go true true false e = let same : 3 ≡ n = cc e in ap (λ (k : ℕ). refused (refusal k)) same
+      go true true true e = absurd (let z : _≡_ {A = ℕ} 0 1 = cc in omega arith)
+
+  pub refused-header : (n : ℕ) → heading (header largest p) ≡ Unframed n → 8 ≤ length p → unframe largest p ≡ refused (refusal n)
+  unfolding unframe
+  refused-header n e h = check-passed _ 1 _ (le-leb 8 (length p) h) ∙ header-unframed n e _
+
+  -- what is left to judge behind a header that passes
+  pub behind-header : (n : ℕ) → heading (header largest p) ≡ Field n → 8 ≤ length p → let d = take n (drop 8 p) in
+      unframe largest p ≡ check (eqb (length p) (n + 12)) 4 (check (eqb (numberAt p (8 + n) 4) (crc d)) 5 (accepted d))
+  unfolding unframe fieldOf
+  behind-header n e h =
+      let f = header-field n e in
+      check-passed _ 1 _ (le-leb 8 (length p) h)
+      ∙ f .3 (List ℕ) _
+      ∙ ap
+      (λ (k : ℕ). check (eqb (length p) (k + 12)) 4 (check (eqb (numberAt p (8 + k) 4) (crc (take k (drop 8 p)))) 5 (accepted (take k (drop 8 p)))))
+      (sym (f .0))
+
+-- ---- the frame
 
 -- refused with no record's index
 abbrev Whole : {A : Type 0} → Answer A → Type 0

@@ -39,16 +39,26 @@ fieldLength p = numberAt p 4 4
 unfoldable pub fieldOf : List ℕ → List ℕ
 fieldOf p = take (fieldLength p) (drop 8 p)
 
+-- the header, which is the first eight bytes: 2, 3, else what the rest gives
+abbrev pub headed : {A : Type 0} → ℕ → List ℕ → Answer A → Answer A
+headed largest p rest =
+    check (eqb (numberAt p 0 4) 0) 2
+    (check (leb 3 (fieldLength p)) 3
+    (check (leb (fieldLength p + 12) largest) 3
+    rest))
+
+-- the length that the header gives
+abbrev pub header : ℕ → List ℕ → Answer ℕ
+header largest p = headed largest p (accepted (fieldLength p))
+
 -- the data field, or 1 to 5
 unfoldable pub unframe : ℕ → List ℕ → Answer (List ℕ)
 unframe largest p =
     check (leb 8 (length p)) 1
-    (check (eqb (numberAt p 0 4) 0) 2
-    (check (leb 3 (fieldLength p)) 3
-    (check (leb (fieldLength p + 12) largest) 3
+    (headed largest p
     (check (eqb (length p) (fieldLength p + 12)) 4
     (check (eqb (numberAt p (8 + fieldLength p) 4) (crc (fieldOf p))) 5
-    (accepted (fieldOf p)))))))
+    (accepted (fieldOf p)))))
 
 -- ---- what two packets are compared by
 
@@ -60,3 +70,8 @@ lastFour p = drop (length p - 4) p
 unfoldable pub framing : Answer (List ℕ) → Framed
 framing (accepted d) = Field (length d)
 framing (refused r) = Unframed (r .number)
+
+-- of the header alone
+unfoldable pub heading : Answer ℕ → Framed
+heading (accepted n) = Field n
+heading (refused r) = Unframed (r .number)

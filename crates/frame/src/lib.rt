@@ -3,7 +3,7 @@ ghost use mathlib.Core.Path.{_≡_};
 ghost use Prim.Native.Nat.{_+_, _≤_};
 ghost use lib.ListN.{length, take, drop};
 ghost use lib.Seq.{sets};
-ghost use Rattle.frame.specs.Frame.{framed, unframe, framing};
+ghost use Rattle.frame.specs.Frame.{framed, header, unframe, framing, heading};
 
 // The length of the data field, which starts at 8; or the refusal's number. The number alone: an answer of two words goes in registers.
 pub enum Framed {
@@ -11,12 +11,11 @@ pub enum Framed {
     Unframed(usize),
 }
 
-pub fn unframed(largest: usize, p: &[u8]) -> Framed
-    ensures { λ r. ⌜ r ≡ framing (unframe largest (now (p .entry))) ⌝ }
+// The header: the length of the data field that it gives, or 2, 3.
+pub fn header(largest: usize, p: &[u8]) -> Framed
+    requires { ⌜ 8 ≤ length (now p) ⌝ }
+    ensures { λ r. ⌜ r ≡ heading (header largest (now (p .entry))) ⌝ }
 {
-    if p.len() < 8 {
-        return Framed::Unframed(1);
-    }
     let zeros = wire::be32(p, 0);
     if zeros != 0 {
         return Framed::Unframed(2);
@@ -25,11 +24,23 @@ pub fn unframed(largest: usize, p: &[u8]) -> Framed
     if size < 3 {
         return Framed::Unframed(3);
     }
-    let whole = size + 12;
-    if largest < whole {
+    if largest < size + 12 {
         return Framed::Unframed(3);
     }
-    if p.len() != whole {
+    Framed::Field(size)
+}
+
+pub fn unframed(largest: usize, p: &[u8]) -> Framed
+    ensures { λ r. ⌜ r ≡ framing (unframe largest (now (p .entry))) ⌝ }
+{
+    if p.len() < 8 {
+        return Framed::Unframed(1);
+    }
+    let size = match header(largest, p) {
+        Framed::Unframed(number) => return Framed::Unframed(number),
+        Framed::Field(n) => n,
+    };
+    if p.len() != size + 12 {
         return Framed::Unframed(4);
     }
     let end = 8 + size;
