@@ -60,10 +60,15 @@ unfolding onAccepted
 first-refused (accepted a) f h e = absurd (let k = h a refl in let z : _≡_ {A = ℕ} 0 1 = cc in omega arith)
 first-refused (refused y) f h e = ap refused (cc)
 
+-- a refusal is the reader's own
+pub command-refused : (limits : Limits) (p : List ℕ) {x : Refusal} → Bytes p → answerCommand limits p ≡ refused x → readCommand limits p ≡ refused x
+unfolding answerCommand answered
+command-refused limits p h e =
+    first-refused (readCommand limits p) _ (λ c r.
+    let k = command-exact limits p c h .0 r in
+    (_, onAccepted-passed (layoutOf (c .codec)) _ (k .rules .layout))) e
+
 -- a refused packet has no text
 pub text-refused : (limits : Limits) (p : List ℕ) {x : Refusal} → Bytes p → answerCommand limits p ≡ refused x → textView (readCommand limits p) ≡ []
-unfolding answerCommand answered textView
-text-refused limits p h e =
-    ap textView (first-refused (readCommand limits p) _ (λ c r.
-    let k = command-exact limits p c h .0 r in
-    (_, onAccepted-passed (layoutOf (c .codec)) _ (k .rules .layout))) e)
+unfolding textView
+text-refused limits p h e = ap textView (command-refused limits p h e)
