@@ -1,0 +1,2 @@
+pub mod StreamLaws
+pub mod FlowLaws
