@@ -1,0 +1,5 @@
+pub mod PaddedLaws
+pub mod OpenLaws
+pub mod JudgeLaws
+pub mod GatherLaws
+pub mod FeedLaws

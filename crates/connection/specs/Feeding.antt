@@ -1,0 +1,55 @@
+-- What a feed gives: the state, how many bytes it uses, and what it tells.
+use Prim.Native.Nat.{ℕ}
+use mathlib.Core.List.{List, []}
+use lib.ListN.{length}
+use lib.Dec.{leb}
+use Rattle.wire.specs.declared.Limits.{Limits}
+use Rattle.wire.specs.Answers.{Answer, accepted, refused, check, onAccepted}
+use Rattle.stream.specs.Stream.{login, packet, refusing, Verdict, more, settled, Taken, taken}
+use Rattle.connection.specs.declared.Connection.{Connection}
+use Rattle.connection.specs.declared.Fed.{Fed}
+use Rattle.connection.specs.declared.Lent.{Lent}
+use Rattle.connection.specs.declared.Item.{Item}
+use Rattle.connection.specs.declared.Item.the-variants.{More, Login, Packet, Refused}
+use Rattle.connection.specs.State.{padded, kept, phaseOf, opened}
+
+pub record Outcome : Type 0 where
+  pub state : Connection
+  pub used : ℕ
+  pub told : Verdict
+
+unfoldable pub outcome : ℕ → Taken → Outcome
+outcome room t = record { state = kept room (t .state); used = t .used; told = t .told }
+
+-- the bytes are taken behind those held; a refusal before that uses and changes nothing
+unfoldable pub feeding : Limits → ℕ → Connection → List ℕ → Answer (List ℕ) → Outcome
+feeding limits room c s (accepted held) = outcome room (taken limits (phaseOf (c .phase)) held s)
+feeding limits room c s (refused r) = record { state = c; used = 0; told = settled (refusing r) }
+
+unfoldable pub fed : Limits → ℕ → Connection → List ℕ → Outcome
+fed limits room c s = feeding limits room c s (opened limits room c)
+
+-- with a lent buffer for the packet, which has to be as long as a packet may be: else 18, behind 19
+unfoldable pub fedInto : Limits → ℕ → Connection → List ℕ → List ℕ → Outcome
+fedInto limits room c s out = feeding limits room c s (onAccepted (opened limits room c) (λ held. check (leb (limits .largest) (length out)) 18 (accepted held)))
+
+-- the packet that is told, or no bytes
+unfoldable pub packetIn : Verdict → List ℕ
+packetIn more = []
+packetIn (settled (login imei)) = []
+packetIn (settled (packet p)) = p
+packetIn (settled (refusing r)) = []
+
+-- ---- what the code answers
+
+unfoldable pub itemAs : Verdict → Item
+itemAs more = More
+itemAs (settled (login imei)) = Login imei
+itemAs (settled (packet p)) = Packet (length p)
+itemAs (settled (refusing r)) = Refused r
+
+unfoldable pub fedAs : ℕ → Outcome → Fed
+fedAs room o = record { state = o .state; used = o .used; item = itemAs (o .told); packet = padded room (packetIn (o .told)) }
+
+unfoldable pub lentAs : Outcome → Lent
+lentAs o = record { phase = o .state .phase; fill = o .state .fill; used = o .used; item = itemAs (o .told) }
