@@ -1,6 +1,7 @@
 -- How an answer is laid out flat: number 0 for an accepted input, else the refusal with all other fields 0.
 use Prim.Native.Nat.{ℕ}
-use Rattle.wire.specs.Answers.{Answer, accepted, refused}
+use Rattle.wire.specs.declared.Refusal.{Refusal}
+use Rattle.wire.specs.Answers.{Answer, accepted, refused, refusal}
 use Rattle.avl.specs.DataField.{DataResult}
 use Rattle.datagram.specs.Datagrams.{DatagramResult}
 use Rattle.command.specs.declared.CommandFields.{CommandFields}
@@ -9,6 +10,12 @@ use lib.IntN.{pos}
 use Rattle.element.specs.declared.RecordFields.{RecordFields}
 use Rattle.element.specs.declared.Value.{Value}
 use Rattle.lookup.specs.Answers.{KnownResult}
+use Rattle.connection.specs.declared.Fed.{Fed}
+use Rattle.connection.specs.declared.Lent.{Lent}
+use Rattle.connection.specs.declared.Item.{Item}
+use Rattle.connection.specs.declared.Item.the-variants.{More, Login, Packet, Refused}
+use Rattle.capi.specs.declared.FedC.{FedC}
+use Rattle.capi.specs.declared.LentC.{LentC}
 use Rattle.capi.specs.declared.RecordC.{RecordC}
 use Rattle.capi.specs.declared.ValueC.{ValueC}
 use Rattle.capi.specs.declared.KnownC.{KnownC}
@@ -47,6 +54,58 @@ flatLogin (refused x) = record { number = x .number; index = x .index; imei = 0 
 unfoldable pub flatCommand : Answer CommandFields → CommandC
 flatCommand (accepted f) = record { number = 0; index = 0; codec = f .codec; kind = f .kind; imei = f .imei; offset = f .offset; size = f .size }
 flatCommand (refused x) = record { number = x .number; index = x .index; codec = 0; kind = 0; imei = 0; offset = 0; size = 0 }
+
+-- 1 a login, 2 a packet, else 0; what belongs to none of these is 0
+unfoldable pub itemNumber : Item → ℕ
+itemNumber More = 0
+itemNumber (Login imei) = 1
+itemNumber (Packet size) = 2
+itemNumber (Refused r) = 0
+
+unfoldable pub itemImei : Item → ℕ
+itemImei More = 0
+itemImei (Login imei) = imei
+itemImei (Packet size) = 0
+itemImei (Refused r) = 0
+
+unfoldable pub itemSize : Item → ℕ
+itemSize More = 0
+itemSize (Login imei) = 0
+itemSize (Packet size) = size
+itemSize (Refused r) = 0
+
+unfoldable pub itemRefusal : Item → Refusal
+itemRefusal More = refusal 0
+itemRefusal (Login imei) = refusal 0
+itemRefusal (Packet size) = refusal 0
+itemRefusal (Refused r) = r
+
+-- of a feed; number 0 where nothing is refused
+unfoldable pub flatLent : Lent → LentC
+flatLent l =
+    record {
+      number = itemRefusal (l .item) .number;
+      index = itemRefusal (l .item) .index;
+      used = l .used;
+      item = itemNumber (l .item);
+      imei = itemImei (l .item);
+      size = itemSize (l .item);
+      fill = l .fill;
+      phase = l .phase;
+    }
+
+unfoldable pub flatFed : Fed → FedC
+flatFed f =
+    record {
+      number = itemRefusal (f .item) .number;
+      index = itemRefusal (f .item) .index;
+      used = f .used;
+      item = itemNumber (f .item);
+      imei = itemImei (f .item);
+      size = itemSize (f .item);
+      packet = f .packet;
+      state = f .state;
+    }
 
 unfoldable pub flatRecord : Answer RecordFields → RecordC
 flatRecord (accepted f) =

@@ -1,11 +1,15 @@
 // The calls for C: flat answers. `number` is 0 where the input is accepted, else the refusal's number, with the record's index in `index`; all other fields are then 0.
 use command::CommandAnswer;
+use connection::Connection;
+use connection::Item;
+use connection::Lent;
 use datagram::DatagramAnswer;
 use login::LoginAnswer;
 use lookup::KnownAnswer;
 use lookup::RecordAnswer;
 use lookup::ValueAnswer;
 use packet::PacketAnswer;
+use wire::LARGEST;
 use wire::Written;
 ghost use mathlib.Core.Path.{_≡_};
 ghost use Rattle.wire.specs.Answers.{accepted};
@@ -15,10 +19,12 @@ ghost use Rattle.datagram.specs.Datagrams.{answerDatagram, udpAcknowledgement};
 ghost use Rattle.login.specs.Login.{readLogin, loginAnswer};
 ghost use Rattle.command.specs.Commands.{answerCommand};
 ghost use Rattle.command.specs.Writing.{commandBytes};
-ghost use Rattle.capi.specs.Flat.{flatWritten, flatPacket, flatDatagram, flatLogin, flatCommand, flatRecord, flatValue, flatKnown};
+ghost use Rattle.capi.specs.Flat.{flatFed, flatLent, flatWritten, flatPacket, flatDatagram, flatLogin, flatCommand, flatRecord, flatValue, flatKnown};
 ghost use Rattle.tlv.specs.PacketOf.{formOfPacket, formOfDatagram, packetOfForm};
 ghost use Rattle.lookup.specs.Lookups.{tcpSource, udpSource, recordByNumber, valueByNumber, valueById, lastKnown};
 ghost use Rattle.contents.specs.Contents.{contentsOfPacket, contentsOfDatagram};
+ghost use Rattle.connection.specs.State.{fresh, wanted};
+ghost use Rattle.connection.specs.Feeding.{fed, fedInto, packetIn, fedAs, lentAs};
 ghost use Rattle.wire.specs.Limits.{baseLimits};
 ghost use Rattle.lookup.specs.Answers.{recordAs, valueAs, answerValue, answerKnown};
 
@@ -428,4 +434,126 @@ pub extern "C" fn brundilope_packet_of_form(f: &[u8], out: &mut [u8]) -> Written
     ensures buffer { λ r. ⌜ now (out .exit) ≡ leaving (packetOfForm baseLimits (now (f .entry))) (now (out .entry)) ⌝ }
 {
     flat_written(rebuild::packet_of_form(f, out))
+}
+
+// ---- a connection
+
+// What a feed gives, with the state by value. `item` is 1 for a login, 2 for a packet, else 0.
+#[repr(C)]
+pub struct FedC {
+    pub number: usize,
+    pub index: usize,
+    pub used: usize,
+    pub item: u8,
+    pub imei: u64,
+    pub size: usize,
+    pub packet: [u8; LARGEST],
+    pub state: Connection,
+}
+
+// The same of a lent state, but for the bytes.
+#[repr(C)]
+pub struct LentC {
+    pub number: usize,
+    pub index: usize,
+    pub used: usize,
+    pub item: u8,
+    pub imei: u64,
+    pub size: usize,
+    pub fill: usize,
+    pub phase: u8,
+}
+
+#[no_mangle]
+pub extern "C" fn brundilope_fresh() -> Connection
+    ensures { λ r. ⌜ r ≡ fresh 1280 ⌝ }
+{
+    Connection::fresh()
+}
+
+#[no_mangle]
+pub extern "C" fn brundilope_reset(state: Connection) -> Connection
+    ensures { λ r. ⌜ r ≡ fresh 1280 ⌝ }
+{
+    state.reset()
+}
+
+fn flat_lent(l: Lent) -> LentC
+    ensures { λ r. ⌜ r ≡ flatLent l ⌝ }
+{
+    let item = l.item;
+    let mut r = LentC {
+        number: 0,
+        index: 0,
+        used: l.used,
+        item: 0,
+        imei: 0,
+        size: 0,
+        fill: l.fill,
+        phase: l.phase,
+    };
+    match item {
+        Item::More => {}
+        Item::Login(imei) => {
+            r.item = 1;
+            r.imei = imei;
+        }
+        Item::Packet(size) => {
+            r.item = 2;
+            r.size = size;
+        }
+        Item::Refused(x) => {
+            r.number = x.number;
+            r.index = x.index;
+        }
+    }
+    r
+}
+
+#[no_mangle]
+pub extern "C" fn brundilope_feed_lent(
+    phase: u8,
+    fill: usize,
+    held: &mut [u8],
+    bytes: &[u8],
+    packet: &mut [u8],
+) -> LentC
+    ensures answer { λ r. ⌜ r ≡ flatLent (lentAs (fedInto baseLimits 1280 (record { held = now (held .entry); fill = fill; phase = phase }) (now (bytes .entry)) (now (packet .entry)))) ⌝ }
+    ensures state { λ r. ⌜ now (held .exit) ≡ fedInto baseLimits 1280 (record { held = now (held .entry); fill = fill; phase = phase }) (now (bytes .entry)) (now (packet .entry)) .state .held ⌝ }
+    ensures buffer { λ r. ⌜ now (packet .exit) ≡ leaving (accepted (packetIn (fedInto baseLimits 1280 (record { held = now (held .entry); fill = fill; phase = phase }) (now (bytes .entry)) (now (packet .entry)) .told))) (now (packet .entry)) ⌝ }
+{
+    flat_lent(connection::feed_lent(phase, fill, held, bytes, packet))
+}
+
+#[no_mangle]
+pub extern "C" fn brundilope_feed(state: Connection, bytes: &[u8]) -> FedC
+    ensures { λ r. ⌜ r ≡ flatFed (fedAs 1280 (fed baseLimits 1280 state (now (bytes .entry)))) ⌝ }
+{
+    let fed = state.feed(bytes);
+    let item = fed.item;
+    let packet = fed.packet;
+    let state = fed.state;
+    let flat = flat_lent(Lent {
+        phase: 0,
+        fill: 0,
+        used: fed.used,
+        item,
+    });
+    FedC {
+        number: flat.number,
+        index: flat.index,
+        used: flat.used,
+        item: flat.item,
+        imei: flat.imei,
+        size: flat.size,
+        packet,
+        state,
+    }
+}
+
+#[no_mangle]
+pub extern "C" fn brundilope_wanted(phase: u8, fill: usize, held: &[u8]) -> usize
+    ensures { λ r. ⌜ r ≡ wanted baseLimits 1280 (record { held = now (held .entry); fill = fill; phase = phase }) ⌝ }
+{
+    connection::wanted(phase, fill, held)
 }
