@@ -4,7 +4,7 @@ use Rattle.frame.specs.Frame.{unframe, framing}
 use Rattle.frame.specs.declared.Framed.the-variants.{Field}
 use Rattle.checksum.specs.Crc.{crc}
 use Rattle.wire.specs.Answers.{check}
-use borrow.Author.Tests.{lt-leb, le-leb, eq-eqb, ne-eqb}
+use borrow.Author.Tests.{lt-leb, eq-eqb, ne-eqb}
 use lib.Seq.{length-take-le}
 use lib.ListN.{length-drop, take, drop}
 use mathlib.Core.Path.{_≡_, sym, ap, _∙_}
@@ -14,81 +14,60 @@ use native.Mathlib.Omega.{arith}
 use borrow.Author.Needs.{needs}
 use Rattle.frame.proofs.unframed.Statement.{statement}
 use Rattle.frame.proofs.unframed.Tie as tie
-use Rattle.frame.proofs.unframed.Reads as reads
-use Rattle.frame.proofs.unframed.Lts as lts
-use Rattle.checksum.proofs.crc16.Reads as crc16-reads
-use Rattle.frame.proofs.header.Reads as header-reads
-use Rattle.wire.proofs.be32.Reads as be32-reads
 
 -- the part that is lent is the data field
 lent : (n : ℕ) (p : List ℕ) → crc (take (8 + n - 8) (drop 8 p)) ≡ crc (take n (drop 8 p))
 lent n p = let size : 8 + n - 8 ≡ n = omega arith in ap (λ (k : ℕ). crc (take k (drop 8 p))) size
 
--- src/lib.rt:38:9
 returns : tie.Need-returns
 unfolding unframe framing check
 returns c = simp (lt-leb _ _ (c .if1 .taken))
 
--- src/lib.rt:40:22
 header-requires : tie.Need-header-requires
 header-requires c κs = search needs
 
--- src/lib.rt:41:26
 enum-known-number : tie.Need-enum-known-number
 enum-known-number c = search needs
 
--- src/lib.rt:41:37
 returns-2 : tie.Need-returns-2
 unfolding framing
 returns-2 c = sym (ap framing (refused-header (c .before .before .before .before .before .before .args .largest) (c .before .before .before .before .before .before .args .p .now) _ (sym (c .before .before .before .header .ensures) ∙ c .before .number .given .1) (c .before .before .before .before .if1 .left)))
 
--- src/lib.rt:42:23
 enum-known-n : tie.Need-enum-known-n
 enum-known-n c = search needs
 
--- src/lib.rt:44:19
 add-if2 : tie.Need-add-if2
 add-if2 c = omega (arith, header-field (c .before .before .before .before .before .before .args .largest) (c .before .before .before .before .before .before .args .p .now) (c .before .n .given .0 .0) (sym (c .before .before .before .header .ensures) ∙ c .before .n .given .1))
 
--- src/lib.rt:45:9
 returns-3 : tie.Need-returns-3
 unfolding framing check
 returns-3 c = simp (behind-header (c .before .before .before .before .before .before .before .args .largest) (c .before .before .before .before .before .before .before .args .p .now) (c .before .before .n .given .0 .0) (sym (c .before .before .before .before .header .ensures) ∙ c .before .before .n .given .1) (c .before .before .before .before .before .if1 .left), ne-eqb _ _ (c .if2 .taken))
 
--- src/lib.rt:47:15
 add-end : tie.Need-add-end
 add-end c = search needs
 
--- src/lib.rt:48:9
 be32-requires : tie.Need-be32-requires
 be32-requires c κs = search needs
 
--- src/lib.rt:49:32
 sub-crc16 : tie.Need-sub-crc16
 sub-crc16 c = search needs
 
--- src/lib.rt:49:32
 part-crc16-start : tie.Need-part-crc16-start
 part-crc16-start c = search needs
 
--- src/lib.rt:49:32
 part-crc16-end : tie.Need-part-crc16-end
 part-crc16-end c = search needs
 
--- src/lib.rt:49:16
 crc16-requires : tie.Need-crc16-requires
 crc16-requires c κs = search needs
 
--- src/lib.rt:49:16
 cast-if3 : tie.Need-cast-if3
 cast-if3 c = search needs
 
--- src/lib.rt:50:9
 returns-4 : tie.Need-returns-4
 unfolding framing check
 returns-4 c = let p = c .before .before .before .before .before .before .before .before .before .before .before .args .p .now in let n = c .before .before .before .before .before .before .n .given .0 .0 in simp (behind-header (c .before .before .before .before .before .before .before .before .before .before .before .args .largest) p n (sym (c .before .before .before .before .before .before .before .before .header .ensures) ∙ c .before .before .before .before .before .before .n .given .1) (c .before .before .before .before .before .before .before .before .before .if1 .left), eq-eqb _ _ (c .before .before .before .before .if2 .left), ne-eqb _ _ (λ e. c .if3 .taken (c .before .before .before .be32 .ensures ∙ e ∙ sym (c .before .crc16 .ensures ∙ lent n p))))
 
--- src/lib.rt:34:1
 returns-5 : tie.Need-returns-5
 unfolding framing check
 returns-5 c = let p = c .before .before .before .before .before .before .before .before .before .before .before .args .p .now in let n = c .before .before .before .before .before .before .n .given .0 .0 in simp (behind-header (c .before .before .before .before .before .before .before .before .before .before .before .args .largest) p n (sym (c .before .before .before .before .before .before .before .before .header .ensures) ∙ c .before .before .before .before .before .before .n .given .1) (c .before .before .before .before .before .before .before .before .before .if1 .left), eq-eqb _ _ (c .before .before .before .before .if2 .left), eq-eqb _ _ (sym (c .before .before .before .be32 .ensures) ∙ c .if3 .left ∙ c .before .crc16 .ensures ∙ lent n p)) (ap Field (sym (length-take-le n (drop 8 p) (omega (arith, length-drop 8 p, c .before .before .before .before .if2 .left)))))
