@@ -6,3 +6,4 @@ pub mod Demand2Proof
 pub mod RefusalsProof
 pub mod AnswersProof
 pub mod MeasuresProof
+pub mod ConnectionsProof

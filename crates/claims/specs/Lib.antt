@@ -8,3 +8,4 @@ pub mod Demand2
 pub mod Refusals
 pub mod Answers
 pub mod Measures
+pub mod Connections

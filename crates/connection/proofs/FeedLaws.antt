@@ -2,13 +2,13 @@
 use Prim.Native.Nat.{ℕ, _+_, _-_, _≤_, _<_}
 use native.Mathlib.Omega.{arith}
 use mathlib.Core.Path.{_≡_, refl, sym, ap, _∙_, subst}
-use mathlib.Core.List.{List, [], _++_}
+use mathlib.Core.List.{List, _++_}
 use lib.ListN.{length, take, length-append}
 use lib.Seq.{length-take-le}
 use borrow.Author.Tests.{le-leb, lt-leb}
 use Rattle.wire.specs.declared.Limits.{Limits}
 use Rattle.wire.specs.declared.Refusal.{Refusal}
-use Rattle.wire.specs.Answers.{Answer, accepted, refused, refusal, check, onAccepted}
+use Rattle.wire.specs.Answers.{Answer, accepted, refused, refusal}
 use Rattle.wire.specs.Buffers.{leaving}
 use Rattle.wire.proofs.Accepting.{by-length, check-passed, check-failed, onAccepted-passed, onAccepted-refused}
 use Rattle.wire.proofs.BufferLaws.{leaving-done}

@@ -5,16 +5,15 @@ use mathlib.Core.Path.{_≡_, refl, sym, ap, ap₂, _∙_, subst}
 use mathlib.Core.List.{List, [], _++_, append-nil}
 use lib.ListN.{length, take, drop, length-append}
 use lib.Seq.{sets, length-sets, take-length, length-take-le}
-use lib.Dec.{eqb}
 use borrow.Author.Tests.{eq-eqb, ne-eqb}
 use Rattle.wire.specs.declared.Limits.{Limits}
-use Rattle.wire.specs.Answers.{Answer, accepted, refused, refusal}
+use Rattle.wire.specs.Answers.{accepted, refused, refusal}
 use Rattle.wire.specs.Buffers.{leaving}
 use Rattle.wire.proofs.Accepting.{by-length}
 use Rattle.frame.specs.declared.Framed.{Framed}
 use Rattle.frame.specs.Frame.{heading}
 use Rattle.frame.proofs.FramingLaws.{heading-accepted}
-use Rattle.stream.specs.Stream.{Phase, Item, login, packet, refusing, more, settled, State, waiting, closed, needed, judged, verdict, next, Taken, taken}
+use Rattle.stream.specs.Stream.{Item, login, packet, refusing, more, settled, waiting, closed, needed, judged, next, Taken, taken}
 use Rattle.stream.proofs.StreamLaws.{needed-least, item-long, needed-most, needed-front, header-length, held-less, feed-more, feed-judged, feed-refused, refused-early}
 use Rattle.connection.specs.declared.Connection.{Connection}
 use Rattle.connection.specs.declared.Lent.{Lent}

@@ -11,7 +11,7 @@ use Rattle.wire.specs.declared.Refusal.{Refusal}
 use Rattle.wire.specs.Numbers.{Bytes, pick}
 use Rattle.wire.specs.Answers.{Answer, accepted, refused, onAccepted}
 use Rattle.wire.specs.Buffers.{writing, leaving}
-use Rattle.wire.proofs.Accepting.{pick-true, pick-false, onAccepted-accepted, onAccepted-passed, onAccepted-refused}
+use Rattle.wire.proofs.Accepting.{onAccepted-accepted, onAccepted-passed, onAccepted-refused}
 use Rattle.wire.proofs.BufferLaws.{writing-done, leaving-done, written-fits}
 use Rattle.avl.specs.DataField.{AvlData}
 use Rattle.packet.specs.DataPackets.{readPacket}
@@ -21,33 +21,26 @@ use Rattle.command.specs.Commands.{readCommand, answerCommand, answered}
 use Rattle.command.proofs.TextLaws.{command-refused}
 use Rattle.login.specs.Login.{isAccepted, readLogin}
 use Rattle.stream.specs.Stream.{login, packet, refusing, itemOf, judgedPacket, judged}
+use Rattle.stream.proofs.ItemLaws.{by-command, by-data}
 use Rattle.connection.specs.State.{phaseOf}
 
 module _ (limits : Limits) (p : List ℕ) where
   -- the codec has a row in the table of commands
   module _ (row : isAccepted (layoutOf (getD p 8 0)) ≡ true) where
-    pub by-command : judgedPacket limits p ≡ onAccepted (readCommand limits p) (λ c. accepted p)
-    unfolding judgedPacket
-    by-command = pick-true _ _ _ row
-
     pub command-taken : {f : CommandFields} → answerCommand limits p ≡ accepted f → judgedPacket limits p ≡ accepted p
     unfolding answerCommand answered
-    command-taken k = by-command ∙ onAccepted-passed (readCommand limits p) _ (onAccepted-accepted (readCommand limits p) _ k .1)
+    command-taken k = by-command limits p row ∙ onAccepted-passed (readCommand limits p) _ (onAccepted-accepted (readCommand limits p) _ k .1)
 
     pub command-not : {x : Refusal} → Bytes p → answerCommand limits p ≡ refused x → judgedPacket limits p ≡ refused x
-    command-not b k = by-command ∙ onAccepted-refused (readCommand limits p) _ (command-refused limits p b k)
+    command-not b k = by-command limits p row ∙ onAccepted-refused (readCommand limits p) _ (command-refused limits p b k)
 
   -- it has none
   module _ (row : isAccepted (layoutOf (getD p 8 0)) ≡ false) where
-    pub by-data : judgedPacket limits p ≡ onAccepted (readPacket limits p) (λ a. accepted p)
-    unfolding judgedPacket
-    by-data = pick-false _ _ _ row
-
     pub data-taken : {a : AvlData} → readPacket limits p ≡ accepted a → judgedPacket limits p ≡ accepted p
-    data-taken k = by-data ∙ onAccepted-passed (readPacket limits p) _ k
+    data-taken k = by-data limits p row ∙ onAccepted-passed (readPacket limits p) _ k
 
     pub data-not : {x : Refusal} → readPacket limits p ≡ refused x → judgedPacket limits p ≡ refused x
-    data-not k = by-data ∙ onAccepted-refused (readPacket limits p) _ k
+    data-not k = by-data limits p row ∙ onAccepted-refused (readPacket limits p) _ k
 
 -- ---- the item that a whole item's bytes give
 

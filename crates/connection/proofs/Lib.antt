@@ -3,3 +3,4 @@ pub mod OpenLaws
 pub mod JudgeLaws
 pub mod GatherLaws
 pub mod FeedLaws
+pub mod KeptLaws

@@ -1,22 +1,22 @@
 -- Which states are open: the test's way through, and what it tells.
 use Prim.Native.Nat.{ℕ, _+_, _≤_, _<_}
 use native.Mathlib.Omega.{arith}
-use mathlib.Core.Path.{_≡_, refl, sym, ap, _∙_, subst}
+use mathlib.Core.Path.{_≡_, refl, sym, ap, _∙_}
 use mathlib.Core.Bool.{Bool, true, false}
 use mathlib.Core.List.{List}
-use lib.ListN.{length, take, drop}
+use lib.ListN.{length, drop}
 use lib.Seq.{length-take-le}
 use lib.Dec.{eqb, leb}
-use borrow.Author.Tests.{le-leb, lt-leb, leb-true, eq-eqb, ne-eqb, eqb-true}
+use borrow.Author.Tests.{le-leb, leb-true, eq-eqb, eqb-true}
 use Rattle.wire.specs.declared.Limits.{Limits}
 use Rattle.wire.specs.declared.Refusal.{Refusal}
 use Rattle.wire.specs.Answers.{Answer, accepted, refused, refusal, check, onAccepted}
-use Rattle.wire.proofs.Accepting.{by-length, check-accepted, check-passed, check-failed, onAccepted-passed, onAccepted-refused}
+use Rattle.wire.proofs.Accepting.{by-length, check-accepted, check-passed, onAccepted-passed, onAccepted-refused}
 use Rattle.frame.specs.declared.Framed.{Framed}
 use Rattle.frame.specs.Frame.{header, heading, fieldLength}
 use Rattle.frame.proofs.FramingLaws.{header-unframed}
-use Rattle.stream.specs.Stream.{Phase, forLogin, forPacket, Verdict, more, settled, needed, judged, verdict}
-use Rattle.stream.proofs.StreamLaws.{needed-long, needed-short, needed-least, verdict-more, verdict-judged, verdict-refused, more-needed}
+use Rattle.stream.specs.Stream.{Phase, forLogin, forPacket, Verdict, more, settled, needed, verdict}
+use Rattle.stream.proofs.StreamLaws.{needed-long, needed-short, verdict-more, more-needed}
 use Rattle.connection.specs.declared.Connection.{Connection}
 use Rattle.connection.specs.State.{padded, isZero, isMore, phaseOf, heldBy, opened, countOf, judgedAt}
 use Rattle.connection.proofs.PaddedLaws.{is-padded}

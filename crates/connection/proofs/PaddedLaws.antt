@@ -1,15 +1,14 @@
 -- Bytes with zeros behind them: what a store and a clearing leave, and how zeros are told.
 use Prim.Native.Nat.{ℕ, zero, suc, _+_, _-_, _≤_, _<_}
-use native.Mathlib.Nat.{not-suc-le-zero, le-of-suc-le-suc}
 use native.Mathlib.Omega.{arith}
 use mathlib.Core.Path.{_≡_, refl, sym, ap, ap₂, _∙_}
 use mathlib.Core.Bool.{Bool, true, false}
 use mathlib.Core.List.{List, [], _∷_, _++_, append-assoc}
-use lib.ListN.{length, take, drop, set, replicate, length-append, length-replicate, length-drop, take-append-drop, replicate-append-replicate}
+use lib.ListN.{length, take, drop, length-append, length-replicate, length-drop, take-append-drop, replicate-append-replicate}
 use lib.Seq.{sets, sets-eq, take-all, take-append-seam, drop-append-seam, drop-append-add, length-take-le}
-use lib.Bits.{bitOr, bitAnd, or-add-and, and-le-l, and-le-r}
+use lib.Bits.{bitOr, or-add-and, and-le-l, and-le-r}
 use lib.Dec.{eqb}
-use borrow.Author.Tests.{eq-eqb, ne-eqb, eqb-true}
+use borrow.Author.Tests.{ne-eqb, eqb-true}
 use Rattle.wire.specs.Numbers.{pick}
 use Rattle.wire.proofs.Accepting.{both-true}
 use Rattle.connection.specs.State.{zeros, padded, isZero}

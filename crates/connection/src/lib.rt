@@ -10,8 +10,7 @@ use wire::Refusal;
 use wire::Written;
 ghost use mathlib.Core.Path.{_≡_};
 ghost use Prim.Native.Nat.{_+_, _-_, _≤_, _<_};
-ghost use mathlib.Core.List.{List, [], _∷_, _++_};
-ghost use lib.ListN.{length, take, drop};
+ghost use lib.ListN.{length, take};
 ghost use lib.Seq.{sets};
 ghost use lib.Dec.{eqb};
 ghost use Rattle.wire.specs.Answers.{accepted, refused, refusal};
@@ -20,7 +19,7 @@ ghost use Rattle.wire.specs.Limits.{baseLimits};
 ghost use Rattle.frame.specs.Frame.{heading};
 ghost use Rattle.stream.specs.Stream.{needed, judgedPacket, judged, settled, refusing, closed, next, taken};
 ghost use Rattle.connection.specs.State.{zeros, fresh, isZero, phaseOf, opened, judgedAt, countOf, wanted};
-ghost use Rattle.connection.specs.Feeding.{outcome, feeding, fed, fedInto, packetIn, fedAs, lentAs};
+ghost use Rattle.connection.specs.Feeding.{outcome, fed, fedInto, packetIn, fedAs, lentAs};
 
 // The bytes gathered so far and zeros behind them, how many they are, and the phase: 0 expects the login, 1 packets, 2 is closed. A fresh one is all zero.
 #[repr(C)]

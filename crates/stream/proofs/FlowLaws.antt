@@ -1,15 +1,13 @@
 -- One feed within a stream, and the states that feeds leave.
-use Prim.Native.Nat.{ℕ, suc, _+_, _≤_}
+use Prim.Native.Nat.{ℕ, _≤_}
 use native.Mathlib.Omega.{arith}
-use mathlib.Core.Path.{_≡_, refl, sym, ap, _∙_, subst}
+use mathlib.Core.Path.{_≡_, refl, sym, ap, subst}
 use mathlib.Core.List.{List, [], _∷_, _++_}
-use lib.ListN.{length, take, drop, length-append}
-use lib.Seq.{take-append-seam, drop-append-seam}
+use lib.ListN.{length, drop}
 use Rattle.wire.specs.declared.Limits.{Limits}
 use Rattle.wire.specs.Numbers.{Bytes}
-use Rattle.wire.specs.Answers.{accepted}
 use Rattle.wire.proofs.Widths.{bytes-append}
-use Rattle.stream.specs.Stream.{Phase, forPacket, Item, login, packet, refusing, Verdict, more, settled, State, waiting, closed, needed, judged, verdictBy, verdict, next, Taken, afterByte, taken, Streamed, cons, byVerdict, stream}
+use Rattle.stream.specs.Stream.{Phase, forPacket, Item, login, packet, refusing, Verdict, more, settled, State, waiting, closed, needed, verdictBy, verdict, next, Taken, taken, byVerdict, stream}
 use Rattle.stream.proofs.StreamLaws.{one-more, one-settles}
 
 -- a state that feeds leave: closed, or more is needed

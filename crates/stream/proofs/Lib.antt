@@ -1,2 +1,3 @@
 pub mod StreamLaws
 pub mod FlowLaws
+pub mod ItemLaws

@@ -1,13 +1,13 @@
 -- Bytes that are fed in one block, and the same bytes one by one.
 use Prim.Native.Nat.{ℕ, zero, suc, _+_, _-_, _*_, _≤_, _<_}
 use native.Mathlib.Omega.{arith}
-use mathlib.Core.Path.{_≡_, refl, sym, ap, ap₂, _∙_, subst}
+use mathlib.Core.Path.{_≡_, refl, sym, ap, ap₂, _∙_}
 use mathlib.Core.Bool.{Bool, true, false}
 use mathlib.Core.List.{List, [], _∷_, _++_, append-assoc, append-nil}
 use lib.ListN.{length, take, drop, getD, length-append, take-append-drop, List·getD-append}
 use lib.Seq.{split-at, take-suc, take-all, length-take-le}
 use lib.Dec.{leb, eqb}
-use borrow.Author.Tests.{le-leb, lt-leb, leb-true, leb-false}
+use borrow.Author.Tests.{le-leb, lt-leb, leb-false}
 use Rattle.wire.specs.declared.Limits.{Limits}
 use Rattle.wire.specs.declared.Refusal.{Refusal}
 use Rattle.wire.specs.Numbers.{numberAt, pick}
@@ -15,7 +15,7 @@ use Rattle.wire.specs.Answers.{Answer, accepted, refused, check, onAccepted}
 use Rattle.wire.proofs.Accepting.{by-length, onAccepted-accepted}
 use Rattle.frame.specs.Frame.{fieldLength, header, heading}
 use Rattle.frame.proofs.FramingLaws.{header-field}
-use Rattle.stream.specs.Stream.{Phase, forLogin, forPacket, Item, Verdict, more, settled, refusing, State, waiting, closed, needed, judged, verdictBy, verdict, next, Taken, afterByte, taken, Streamed, cons, byVerdict, stream}
+use Rattle.stream.specs.Stream.{Phase, forLogin, forPacket, Item, more, settled, refusing, waiting, closed, needed, judged, verdictBy, verdict, next, Taken, afterByte, taken}
 
 -- ---- bytes behind the first eight do not change what is needed
 
@@ -256,3 +256,16 @@ module _ (limits : Limits) where
       by-length 8 (length s)
       (λ h. let i = onAccepted-accepted (header (limits .largest) s) _ (sym (needed-long s h) ∙ e) in let same : i .0 + 12 ≡ n = cc (i .2) in omega arith)
       (λ h. let same : 8 ≡ n = cc (needed-short s h, e) in omega arith)
+
+  -- as long as there are fewer bytes than are judged together, more is needed
+  pub still-more : (phase : Phase) (held s : List ℕ) (n : ℕ) → needed limits phase held ≡ accepted n → length held + length s < n → verdict limits phase (held ++ s) ≡ more
+  unfolding needed
+  still-more forLogin held s n e h = verdict-more forLogin (held ++ s) n e (omega (arith, h, length-append held s))
+  still-more forPacket held s n e h =
+      let less : length (held ++ s) < n = omega (arith, h, length-append held s) in
+      by-length 8 (length held)
+      (λ k. verdict-more forPacket (held ++ s) n (needed-append forPacket held s k ∙ e) less)
+      (λ k.
+      let eight : 8 ≡ n = cc (needed-short held k, e) in
+      let short : length (held ++ s) < 8 = omega (arith, less, eight) in
+      verdict-more forPacket (held ++ s) 8 (needed-short (held ++ s) short) short)

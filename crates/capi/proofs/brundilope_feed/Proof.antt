@@ -6,20 +6,13 @@ use mathlib.Core.Path.{_≡_, sym, ap, _∙_}
 use borrow.Author.Needs.{needs}
 use Rattle.capi.proofs.brundilope_feed.Statement.{statement}
 use Rattle.capi.proofs.brundilope_feed.Tie as tie
-use Rattle.capi.proofs.brundilope_feed.Reads as reads
-use Rattle.capi.proofs.brundilope_feed.Lts as lts
-use Rattle.capi.proofs.flat_lent.Reads as flat-lent-reads
-use Rattle.connection.proofs.Connection.feed.Reads as feed-reads
 
--- src/lib.rt:526:9
 feed-requires : tie.Need-feed-requires
 feed-requires c κs = search needs
 
--- src/lib.rt:530:9
 flat-lent-requires : tie.Need-flat-lent-requires
 flat-lent-requires c κs = search needs
 
--- src/lib.rt:522:1
 returns : tie.Need-returns
 unfolding flatLent flatFed
 returns c = ap (λ l. record { number = l .number; index = l .index; used = l .used; item = l .item; imei = l .imei; size = l .size; packet = c .before .before .before .feed .result .packet; state = c .before .before .before .feed .result .state }) (c .flat-lent .ensures) ∙ ap flatFed (c .before .before .before .feed .ensures)

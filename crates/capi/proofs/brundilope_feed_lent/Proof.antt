@@ -3,28 +3,19 @@ use mathlib.Core.Path.{sym, ap, _∙_}
 use borrow.Author.Needs.{needs}
 use Rattle.capi.proofs.brundilope_feed_lent.Statement.{statement}
 use Rattle.capi.proofs.brundilope_feed_lent.Tie as tie
-use Rattle.capi.proofs.brundilope_feed_lent.Reads as reads
-use Rattle.capi.proofs.brundilope_feed_lent.Lts as lts
-use Rattle.capi.proofs.flat_lent.Reads as flat-lent-reads
-use Rattle.connection.proofs.feed_lent.Reads as feed-lent-reads
 
--- src/lib.rt:519:15
 feed-lent-requires : tie.Need-feed-lent-requires
 feed-lent-requires c κs = search needs
 
--- src/lib.rt:519:5
 flat-lent-requires : tie.Need-flat-lent-requires
 flat-lent-requires c κs = search needs
 
--- src/lib.rt:513:1
 same-length : tie.Need-same-length
 same-length c = search needs
 
--- src/lib.rt:513:1
 same-length-2 : tie.Need-same-length-2
 same-length-2 c = search needs
 
--- src/lib.rt:513:1
 returns : tie.Need-returns
 returns c = (c .flat-lent .ensures ∙ ap flatLent (c .before .before .before .before .before .feed-lent .ensures .0), c .before .before .before .before .before .feed-lent .ensures .1)
 

@@ -4,40 +4,31 @@ use mathlib.Core.Path.{sym, ap}
 use borrow.Author.Needs.{needs}
 use Rattle.capi.proofs.flat_lent.Statement.{statement}
 use Rattle.capi.proofs.flat_lent.Tie as tie
-use Rattle.capi.proofs.flat_lent.Reads as reads
-use Rattle.capi.proofs.flat_lent.Lts as lts
 
 enum-told : tie.Need-enum-told
 enum-told c = search needs
 
--- src/lib.rt:497:21
 enum-known-item : tie.Need-enum-known-item
 enum-known-item c = search needs
 
--- src/lib.rt:501:22
 enum-known-item-2 : tie.Need-enum-known-item-2
 enum-known-item-2 c = search needs
 
--- src/lib.rt:505:23
 enum-known-item-3 : tie.Need-enum-known-item-3
 enum-known-item-3 c = search needs
 
--- src/lib.rt:481:1
 returns : tie.Need-returns
 unfolding flatLent itemNumber itemImei itemSize itemRefusal
 returns c = ap (λ x. flatLent (record { phase = c .before .before .args .l .phase; fill = c .before .before .args .l .fill; used = c .before .before .args .l .used; item = x })) (sym (c .enum-told .given .1))
 
--- src/lib.rt:481:1
 returns-2 : tie.Need-returns-2
 unfolding flatLent itemNumber itemImei itemSize itemRefusal
 returns-2 c = ap (λ x. flatLent (record { phase = c .before .before .before .args .l .phase; fill = c .before .before .before .args .l .fill; used = c .before .before .before .args .l .used; item = x })) (sym (c .before .item .given .1))
 
--- src/lib.rt:481:1
 returns-3 : tie.Need-returns-3
 unfolding flatLent itemNumber itemImei itemSize itemRefusal
 returns-3 c = ap (λ x. flatLent (record { phase = c .before .before .before .args .l .phase; fill = c .before .before .before .args .l .fill; used = c .before .before .before .args .l .used; item = x })) (sym (c .before .item2 .given .1))
 
--- src/lib.rt:481:1
 returns-4 : tie.Need-returns-4
 unfolding flatLent itemNumber itemImei itemSize itemRefusal
 returns-4 c = ap (λ x. flatLent (record { phase = c .before .before .before .args .l .phase; fill = c .before .before .before .args .l .fill; used = c .before .before .before .args .l .used; item = x })) (sym (c .before .item3 .given .1))

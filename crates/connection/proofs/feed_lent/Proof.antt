@@ -2,66 +2,48 @@ use Rattle.connection.specs.Feeding.{outcome, lentAs, itemAs, packetIn}
 use Rattle.connection.proofs.FeedLaws.{by-outcome, shut-into, tight-into, open-into}
 use Rattle.connection.proofs.OpenLaws.{judged-open, judged-shut}
 use Rattle.connection.proofs.JudgeLaws.{leaving-none}
-use Rattle.connection.specs.Feeding.{lentAs, itemAs, packetIn}
-use Rattle.connection.specs.declared.Connection.{Connection}
-use Rattle.connection.specs.State.{heldBy, countOf, judgedAt}
+use Rattle.connection.specs.State.{heldBy}
 use Rattle.wire.specs.Limits.{baseLimits}
 use lib.Dec.{lit≤}
-use mathlib.Core.Path.{_≡_, sym, _∙_, refl}
+use mathlib.Core.Path.{sym, _∙_, refl}
 use native.Mathlib.Omega.{arith}
 use borrow.Author.Needs.{needs}
 use Rattle.connection.proofs.feed_lent.Statement.{statement}
 use Rattle.connection.proofs.feed_lent.Tie as tie
-use Rattle.connection.proofs.feed_lent.Reads as reads
-use Rattle.connection.proofs.feed_lent.Lts as lts
-use Rattle.connection.proofs.feed_open.Reads as feed-open-reads
-use Rattle.connection.proofs.judged_at.Reads as judged-at-reads
-use Rattle.connection.proofs.unfed.Reads as unfed-reads
 
--- src/lib.rt:292:8
 judged-at-requires : tie.Need-judged-at-requires
 judged-at-requires c κs = search needs
 
--- src/lib.rt:293:9
 unfed-requires : tie.Need-unfed-requires
 unfed-requires c κs = search needs
 
--- src/lib.rt:293:9
 same-length : tie.Need-same-length
 same-length c = search needs
 
--- src/lib.rt:293:9
 returns : tie.Need-returns
 unfolding lentAs itemAs packetIn
 returns c = by-outcome (c .before .before .before .before .before .before .before .args .packet .now) (shut-into baseLimits 1280 (record { held = c .before .before .before .before .before .before .before .args .held .now; fill = c .before .before .before .before .before .before .before .args .fill; phase = c .before .before .before .before .before .before .before .args .phase }) (c .before .before .before .before .before .before .before .args .bytes .now) (c .before .before .before .before .before .before .before .args .packet .now) (judged-shut baseLimits 1280 (record { held = c .before .before .before .before .before .before .before .args .held .now; fill = c .before .before .before .before .before .before .before .args .fill; phase = c .before .before .before .before .before .before .before .args .phase }) (sym (c .before .before .judged-at .ensures) ∙ c .before .if1 .taken))) (c .unfed .ensures) refl (sym (leaving-none (c .before .before .before .before .before .before .before .args .packet .now)))
 
--- src/lib.rt:296:9
 unfed-requires-2 : tie.Need-unfed-requires-2
 unfed-requires-2 c κs = search needs
 
--- src/lib.rt:296:9
 same-length-2 : tie.Need-same-length-2
 same-length-2 c = search needs
 
--- src/lib.rt:296:9
 returns-2 : tie.Need-returns-2
 unfolding lentAs itemAs packetIn
 returns-2 c = by-outcome (c .before .before .before .before .before .before .before .before .args .packet .now) (tight-into baseLimits 1280 (record { held = c .before .before .before .before .before .before .before .before .args .held .now; fill = c .before .before .before .before .before .before .before .before .args .fill; phase = c .before .before .before .before .before .before .before .before .args .phase }) (c .before .before .before .before .before .before .before .before .args .bytes .now) (c .before .before .before .before .before .before .before .before .args .packet .now) (judged-open baseLimits 1280 (record { held = c .before .before .before .before .before .before .before .before .args .held .now; fill = c .before .before .before .before .before .before .before .before .args .fill; phase = c .before .before .before .before .before .before .before .before .args .phase }) (omega (arith, c .before .before .before .judged-at .ensures, c .before .before .if1 .left))) (c .before .if2 .taken)) (c .unfed2 .ensures) refl (sym (leaving-none (c .before .before .before .before .before .before .before .before .args .packet .now)))
 
--- src/lib.rt:298:5
 feed-open-requires : tie.Need-feed-open-requires
 unfolding heldBy
 feed-open-requires c κs = (judged-open baseLimits 1280 (record { held = c .before .before .before .before .before .before .before .before .before .args .held .now; fill = c .before .before .before .before .before .before .before .before .before .args .fill; phase = c .before .before .before .before .before .before .before .before .before .args .phase }) (omega (arith, c .before .before .before .before .judged-at .ensures, c .before .before .before .if1 .left)), (lit≤ tt, c .before .before .if2 .left))
 
--- src/lib.rt:287:1
 same-length-3 : tie.Need-same-length-3
 same-length-3 c = search needs
 
--- src/lib.rt:287:1
 same-length-4 : tie.Need-same-length-4
 same-length-4 c = search needs
 
--- src/lib.rt:287:1
 returns-3 : tie.Need-returns-3
 unfolding heldBy outcome
 returns-3 c = by-outcome (c .before .before .before .before .before .before .before .before .before .before .before .before .before .before .args .packet .now) (open-into baseLimits 1280 (record { held = c .before .before .before .before .before .before .before .before .before .before .before .before .before .before .args .held .now; fill = c .before .before .before .before .before .before .before .before .before .before .before .before .before .before .args .fill; phase = c .before .before .before .before .before .before .before .before .before .before .before .before .before .before .args .phase }) (c .before .before .before .before .before .before .before .before .before .before .before .before .before .before .args .bytes .now) (c .before .before .before .before .before .before .before .before .before .before .before .before .before .before .args .packet .now) (judged-open baseLimits 1280 (record { held = c .before .before .before .before .before .before .before .before .before .before .before .before .before .before .args .held .now; fill = c .before .before .before .before .before .before .before .before .before .before .before .before .before .before .args .fill; phase = c .before .before .before .before .before .before .before .before .before .before .before .before .before .before .args .phase }) (omega (arith, c .before .before .before .before .before .before .before .before .before .judged-at .ensures, c .before .before .before .before .before .before .before .before .if1 .left))) (c .before .before .before .before .before .before .before .if2 .left)) (c .before .before .before .before .feed-open .ensures .0) (c .before .before .before .before .feed-open .ensures .1 .0) (c .before .before .before .before .feed-open .ensures .1 .1)

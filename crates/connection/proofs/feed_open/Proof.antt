@@ -10,62 +10,45 @@ use native.Mathlib.Omega.{arith}
 use borrow.Author.Needs.{needs}
 use Rattle.connection.proofs.feed_open.Statement.{statement}
 use Rattle.connection.proofs.feed_open.Tie as tie
-use Rattle.connection.proofs.feed_open.Reads as reads
-use Rattle.connection.proofs.feed_open.Lts as lts
-use Rattle.connection.proofs.gather.Reads as gather-reads
-use Rattle.connection.proofs.needed.Reads as needed-reads
-use Rattle.connection.proofs.settle.Reads as settle-reads
 
--- src/lib.rt:274:15
 needed-requires : tie.Need-needed-requires
 needed-requires c κs = search needs
 
 enum-told : tie.Need-enum-told
 enum-told c = search needs
 
--- src/lib.rt:276:27
 enum-known-n : tie.Need-enum-known-n
 enum-known-n c = search needs
 
--- src/lib.rt:278:50
 sub-settle : tie.Need-sub-settle
 sub-settle c = search needs
 
--- src/lib.rt:278:50
 part-settle-start : tie.Need-part-settle-start
 part-settle-start c = search needs
 
--- src/lib.rt:278:50
 part-settle-end : tie.Need-part-settle-end
 part-settle-end c = search needs
 
--- src/lib.rt:278:21
 settle-requires : tie.Need-settle-requires
 unfolding heldBy
 settle-requires c κs = let k = at-once-part (c .before .before .before .before .before .before .before .before .before .before .before .args .limits) 1280 (record { held = c .before .before .before .before .before .before .before .before .before .before .before .args .held .now; fill = c .before .before .before .before .before .before .before .before .before .before .before .args .fill; phase = c .before .before .before .before .before .before .before .before .before .before .before .args .phase }) (c .before .before .before .before .before .before .before .before .before .before .before .args .bytes .now) (lit≤ tt) (c .before .before .before .before .before .before .before .before .before .before .before .pre .1 .0) (c .before .before .before .before .before .before .before .before .before .before .before .pre .0) (c .before .before .before .before .before .before .before .if1 .taken) (c .before .before .before .before .n .given .0 .0) (sym (c .before .before .before .before .before .before .needed .ensures) ∙ c .before .before .before .before .n .given .1) (c .before .before .if2 .taken) in (k .0, omega (arith, k .1, c .before .before .before .before .before .before .before .before .before .before .before .pre .1 .1))
 
--- src/lib.rt:278:21
 same-length : tie.Need-same-length
 same-length c = search needs
 
--- src/lib.rt:278:21
 returns : tie.Need-returns
 unfolding heldBy outcome
 returns c = by-taken 1280 (c .before .before .before .before .before .before .before .before .before .before .before .before .before .before .args .out .now) (at-once-taken (c .before .before .before .before .before .before .before .before .before .before .before .before .before .before .args .limits) 1280 (record { held = c .before .before .before .before .before .before .before .before .before .before .before .before .before .before .args .held .now; fill = c .before .before .before .before .before .before .before .before .before .before .before .before .before .before .args .fill; phase = c .before .before .before .before .before .before .before .before .before .before .before .before .before .before .args .phase }) (c .before .before .before .before .before .before .before .before .before .before .before .before .before .before .args .bytes .now) (lit≤ tt) (c .before .before .before .before .before .before .before .before .before .before .before .before .before .before .pre .1 .0) (c .before .before .before .before .before .before .before .before .before .before .before .before .before .before .pre .0) (c .before .before .before .before .before .before .before .before .before .before .if1 .taken) (c .before .before .before .before .before .before .before .n .given .0 .0) (sym (c .before .before .before .before .before .before .before .before .before .needed .ensures) ∙ c .before .before .before .before .before .before .before .n .given .1) (c .before .before .before .before .before .if2 .taken)) (c .before .before .settle .ensures .0) (at-once-held (c .before .before .before .before .before .before .before .before .before .before .before .before .before .before .args .limits) 1280 (record { held = c .before .before .before .before .before .before .before .before .before .before .before .before .before .before .args .held .now; fill = c .before .before .before .before .before .before .before .before .before .before .before .before .before .before .args .fill; phase = c .before .before .before .before .before .before .before .before .before .before .before .before .before .before .args .phase }) (c .before .before .before .before .before .before .before .before .before .before .before .before .before .before .args .bytes .now) (lit≤ tt) (c .before .before .before .before .before .before .before .before .before .before .before .before .before .before .pre .1 .0) (c .before .before .before .before .before .before .before .before .before .before .before .before .before .before .pre .0) (c .before .before .before .before .before .before .before .before .before .before .if1 .taken) (c .before .before .before .before .before .before .before .n .given .0 .0) (sym (c .before .before .before .before .before .before .before .before .before .needed .ensures) ∙ c .before .before .before .before .before .before .before .n .given .1) (c .before .before .before .before .before .if2 .taken) (judged (c .before .before .before .before .before .before .before .before .before .before .before .before .before .before .args .limits) (phaseOf (c .before .before .before .before .before .before .before .before .before .before .before .before .before .before .args .phase)) (take (c .before .before .before .before .before .before .before .n .given .0 .0 - 0) (drop 0 (c .before .before .before .before .before .before .before .before .before .before .before .before .before .before .args .bytes .now))))) (c .before .before .settle .ensures .1)
 
--- src/lib.rt:283:5
 gather-requires : tie.Need-gather-requires
 gather-requires c κs = search needs
 
--- src/lib.rt:266:1
 same-length-2 : tie.Need-same-length-2
 same-length-2 c = search needs
 
--- src/lib.rt:266:1
 same-length-3 : tie.Need-same-length-3
 same-length-3 c = search needs
 
--- src/lib.rt:266:1
 returns-2 : tie.Need-returns-2
 returns-2 c = search needs
 

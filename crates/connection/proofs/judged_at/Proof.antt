@@ -1,97 +1,72 @@
-use Rattle.connection.specs.State.{heldBy}
+use Rattle.connection.specs.State.{heldBy, isZero, phaseOf, opened, countOf, judgedAt}
 use Rattle.frame.specs.Frame.{heading}
 use Rattle.stream.specs.Stream.{needed}
 use Rattle.connection.proofs.PaddedLaws.{front-part, rest-part}
 use Rattle.connection.specs.declared.Connection.{Connection}
 use Rattle.connection.proofs.OpenLaws.{needed-unframed, at-more, at-full, at-refused}
-use Rattle.connection.specs.State.{isZero, phaseOf, opened, countOf, judgedAt}
 use Rattle.frame.proofs.FramingLaws.{heading-accepted}
 use Rattle.wire.specs.Answers.{check, onAccepted}
 use borrow.Author.Tests.{le-leb, lt-leb, eq-eqb, ne-eqb}
-use lib.ListN.{length, take, drop}
-use mathlib.Core.List.{List}
-use mathlib.Core.Path.{_≡_, sym, ap, _∙_, refl}
-use Prim.Native.Nat.{ℕ, _-_}
-use native.Mathlib.Omega.{arith}
+use lib.ListN.{drop}
+use mathlib.Core.Path.{_≡_, sym, ap, _∙_}
 use borrow.Author.Needs.{needs}
 use Rattle.connection.proofs.judged_at.Statement.{statement}
 use Rattle.connection.proofs.judged_at.Tie as tie
-use Rattle.connection.proofs.judged_at.Reads as reads
-use Rattle.connection.proofs.judged_at.Lts as lts
-use Rattle.connection.proofs.needed.Reads as needed-reads
-use Rattle.connection.proofs.union.Reads as union-reads
 
--- src/lib.rt:103:9
 returns : tie.Need-returns
 unfolding countOf judgedAt opened check onAccepted
 returns c = simp (lt-leb _ _ (c .if1 .taken))
 
--- src/lib.rt:106:9
 returns-2 : tie.Need-returns-2
 unfolding countOf judgedAt opened check onAccepted
 returns-2 c = simp (le-leb _ _ (c .before .if1 .left), ne-eqb _ _ (c .if2 .taken))
 
--- src/lib.rt:109:9
 returns-3 : tie.Need-returns-3
 unfolding countOf judgedAt opened check onAccepted
 returns-3 c = simp (le-leb _ _ (c .before .before .if1 .left), eq-eqb _ _ (c .before .if2 .left), lt-leb _ _ (c .if3 .taken))
 
--- src/lib.rt:111:14
 sub-union : tie.Need-sub-union
 sub-union c = search needs
 
--- src/lib.rt:111:14
 part-union-start : tie.Need-part-union-start
 part-union-start c = search needs
 
--- src/lib.rt:111:14
 part-union-end : tie.Need-part-union-end
 part-union-end c = search needs
 
--- src/lib.rt:111:8
 union-requires : tie.Need-union-requires
 union-requires c κs = search needs
 
--- src/lib.rt:112:9
 returns-4 : tie.Need-returns-4
 unfolding countOf judgedAt opened check onAccepted
 returns-4 c = let spare : isZero (drop (c .before .before .before .before .before .before .before .args .fill) (c .before .before .before .before .before .before .before .args .held .now)) ≡ _ = sym (c .before .union .ensures ∙ ap isZero (rest-part (c .before .before .before .before .before .before .before .args .held .now) (c .before .before .before .before .before .before .before .args .fill))) in simp (le-leb _ _ (c .before .before .before .before .before .if1 .left), eq-eqb _ _ (c .before .before .before .before .if2 .left), le-leb _ _ (c .before .before .before .if3 .left), spare, ne-eqb _ _ (c .if4 .taken))
 
--- src/lib.rt:114:33
 sub-needed : tie.Need-sub-needed
 sub-needed c = search needs
 
--- src/lib.rt:114:33
 part-needed-start : tie.Need-part-needed-start
 part-needed-start c = search needs
 
--- src/lib.rt:114:33
 part-needed-end : tie.Need-part-needed-end
 part-needed-end c = search needs
 
--- src/lib.rt:114:11
 needed-requires : tie.Need-needed-requires
 needed-requires c κs = search needs
 
--- src/lib.rt:115:32
 enum-told : tie.Need-enum-told
 enum-told c = search needs
 
--- src/lib.rt:116:23
 enum-known-n : tie.Need-enum-known-n
 enum-known-n c = search needs
 
--- src/lib.rt:118:17
 returns-5 : tie.Need-returns-5
 unfolding heldBy
 returns-5 c = let held = c .before .before .before .before .before .before .before .before .before .before .before .before .before .args .held .now in let k : Connection = record { held = held; fill = c .before .before .before .before .before .before .before .before .before .before .before .before .before .args .fill; phase = c .before .before .before .before .before .before .before .before .before .before .before .before .before .args .phase } in let spare = sym (c .before .before .before .before .before .before .before .union .ensures ∙ ap isZero (rest-part held (c .before .before .before .before .before .before .before .before .before .before .before .before .before .args .fill))) ∙ eq-eqb _ _ (c .before .before .before .before .before .before .if4 .left) in let tells = sym (c .before .before .before .before .needed .ensures ∙ ap (λ s. heading (needed (c .before .before .before .before .before .before .before .before .before .before .before .before .before .args .limits) (phaseOf (c .before .before .before .before .before .before .before .before .before .before .before .before .before .args .phase)) s)) (front-part held (c .before .before .before .before .before .before .before .before .before .before .before .before .before .args .fill))) ∙ c .before .before .n .given .1 in sym (at-more (c .before .before .before .before .before .before .before .before .before .before .before .before .before .args .limits) 1280 k (c .before .before .before .before .before .before .before .before .before .before .before .if1 .left) (c .before .before .before .before .before .before .before .before .before .before .if2 .left) (c .before .before .before .before .before .before .before .before .before .if3 .left) spare _ (heading-accepted _ tells) (c .if5 .taken))
 
--- src/lib.rt:99:1
 returns-6 : tie.Need-returns-6
 unfolding heldBy
 returns-6 c = let held = c .before .before .before .before .before .before .before .before .before .before .before .args .held .now in let k : Connection = record { held = held; fill = c .before .before .before .before .before .before .before .before .before .before .before .args .fill; phase = c .before .before .before .before .before .before .before .before .before .before .before .args .phase } in let spare = sym (c .before .before .before .before .before .union .ensures ∙ ap isZero (rest-part held (c .before .before .before .before .before .before .before .before .before .before .before .args .fill))) ∙ eq-eqb _ _ (c .before .before .before .before .if4 .left) in let tells = sym (c .before .before .needed .ensures ∙ ap (λ s. heading (needed (c .before .before .before .before .before .before .before .before .before .before .before .args .limits) (phaseOf (c .before .before .before .before .before .before .before .before .before .before .before .args .phase)) s)) (front-part held (c .before .before .before .before .before .before .before .before .before .before .before .args .fill))) ∙ c .enum-told .given .1 in sym (at-refused (c .before .before .before .before .before .before .before .before .before .before .before .args .limits) 1280 k (c .before .before .before .before .before .before .before .before .before .if1 .left) (c .before .before .before .before .before .before .before .before .if2 .left) (c .before .before .before .before .before .before .before .if3 .left) spare (needed-unframed (c .before .before .before .before .before .before .before .before .before .before .before .args .limits) (phaseOf (c .before .before .before .before .before .before .before .before .before .before .before .args .phase)) _ _ tells))
 
--- src/lib.rt:99:1
 returns-7 : tie.Need-returns-7
 unfolding heldBy
 returns-7 c = let held = c .before .before .before .before .before .before .before .before .before .before .before .before .before .args .held .now in let k : Connection = record { held = held; fill = c .before .before .before .before .before .before .before .before .before .before .before .before .before .args .fill; phase = c .before .before .before .before .before .before .before .before .before .before .before .before .before .args .phase } in let spare = sym (c .before .before .before .before .before .before .before .union .ensures ∙ ap isZero (rest-part held (c .before .before .before .before .before .before .before .before .before .before .before .before .before .args .fill))) ∙ eq-eqb _ _ (c .before .before .before .before .before .before .if4 .left) in let tells = sym (c .before .before .before .before .needed .ensures ∙ ap (λ s. heading (needed (c .before .before .before .before .before .before .before .before .before .before .before .before .before .args .limits) (phaseOf (c .before .before .before .before .before .before .before .before .before .before .before .before .before .args .phase)) s)) (front-part held (c .before .before .before .before .before .before .before .before .before .before .before .before .before .args .fill))) ∙ c .before .before .n .given .1 in sym (at-full (c .before .before .before .before .before .before .before .before .before .before .before .before .before .args .limits) 1280 k (c .before .before .before .before .before .before .before .before .before .before .before .if1 .left) (c .before .before .before .before .before .before .before .before .before .before .if2 .left) (c .before .before .before .before .before .before .before .before .before .if3 .left) spare _ (heading-accepted _ tells) (c .if5 .left))

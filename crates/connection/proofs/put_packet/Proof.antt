@@ -4,19 +4,13 @@ use mathlib.Core.Path.{sym, _∙_}
 use borrow.Author.Needs.{needs}
 use Rattle.connection.proofs.put_packet.Statement.{statement}
 use Rattle.connection.proofs.put_packet.Tie as tie
-use Rattle.connection.proofs.put_packet.Reads as reads
-use Rattle.connection.proofs.put_packet.Lts as lts
-use Rattle.wire.proofs.put_bytes.Reads as put-bytes-reads
 
--- src/lib.rt:131:5
 put-bytes-requires : tie.Need-put-bytes-requires
 put-bytes-requires c κs = search needs
 
--- src/lib.rt:126:1
 same-length : tie.Need-same-length
 same-length c = search needs
 
--- src/lib.rt:126:1
 returns : tie.Need-returns
 unfolding writtenAs
 returns c = (sym (writing-done (c .before .before .before .before .before .before .args .p .now) (c .before .before .before .before .before .before .args .out .now) (c .before .before .before .before .before .before .pre)), c .before .before .put-bytes .ensures ∙ sets-front (c .before .before .before .before .before .before .args .p .now) (c .before .before .before .before .before .before .args .out .now) (c .before .before .before .before .before .before .pre) ∙ sym (leaving-done (c .before .before .before .before .before .before .args .p .now) (c .before .before .before .before .before .before .args .out .now) (c .before .before .before .before .before .before .pre)))

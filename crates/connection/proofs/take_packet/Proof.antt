@@ -1,97 +1,71 @@
 use Rattle.connection.proofs.JudgeLaws.{command-taken, command-not, data-taken, data-not}
 use Rattle.login.specs.Login.{isAccepted}
 use Rattle.command.specs.Commands.{commandAs}
-use Rattle.command.specs.Layouts.{layoutOf, rowAs}
-use Rattle.command.specs.declared.Row.{Row}
+use Rattle.command.specs.Layouts.{rowAs}
 use Rattle.walk.proofs.TakenLaws.{taken, not-taken}
 use Rattle.packet.specs.DataPackets.{readPacket}
 use Rattle.wire.proofs.Widths.{getD-bytes}
 use Rattle.wire.specs.Buffers.{writing, leaving, writtenAs}
-use Rattle.wire.specs.Answers.{accepted, refused, onAccepted}
-use mathlib.Core.Path.{_≡_, sym, ap, _∙_, refl}
-use native.Mathlib.Omega.{arith}
+use Rattle.wire.specs.Answers.{onAccepted}
+use mathlib.Core.Path.{sym, ap, _∙_}
 use borrow.Author.Needs.{needs}
 use Rattle.connection.proofs.take_packet.Statement.{statement}
 use Rattle.connection.proofs.take_packet.Tie as tie
-use Rattle.connection.proofs.take_packet.Reads as reads
-use Rattle.connection.proofs.take_packet.Lts as lts
-use Rattle.command.proofs.judge_command.Reads as judge-command-reads
-use Rattle.command.proofs.layout_of.Reads as layout-of-reads
-use Rattle.connection.proofs.put_packet.Reads as put-packet-reads
-use Rattle.packet.proofs.judge_packet.Reads as judge-packet-reads
 
--- src/lib.rt:141:30
 shared-slice-read-layout-of : tie.Need-shared-slice-read-layout-of
 shared-slice-read-layout-of c = search needs
 
--- src/lib.rt:141:11
 layout-of-requires : tie.Need-layout-of-requires
 layout-of-requires c κs = search needs
 
--- src/lib.rt:142:29
 enum-told : tie.Need-enum-told
 enum-told c = search needs
 
--- src/lib.rt:142:29
 judge-command-requires : tie.Need-judge-command-requires
 judge-command-requires c κs = search needs
 
--- src/lib.rt:143:57
 enum-told-2 : tie.Need-enum-told-2
 enum-told-2 c = search needs
 
--- src/lib.rt:143:43
 put-packet-requires : tie.Need-put-packet-requires
 put-packet-requires c κs = c .before .before .before .before .before .before .before .before .before .before .pre .1
 
--- src/lib.rt:144:36
 enum-known-r : tie.Need-enum-known-r
 enum-known-r c = search needs
 
--- src/lib.rt:146:31
 enum-told-3 : tie.Need-enum-told-3
 enum-told-3 c = search needs
 
--- src/lib.rt:146:31
 judge-packet-requires : tie.Need-judge-packet-requires
 judge-packet-requires c κs = search needs
 
--- src/lib.rt:151:32
 enum-told-4 : tie.Need-enum-told-4
 enum-told-4 c = search needs
 
--- src/lib.rt:151:18
 put-packet-requires-2 : tie.Need-put-packet-requires-2
 put-packet-requires-2 c κs = c .before .before .before .before .before .before .before .before .before .before .pre .1
 
--- src/lib.rt:152:31
 enum-known-r-2 : tie.Need-enum-known-r-2
 enum-known-r-2 c = search needs
 
--- src/lib.rt:136:1
 same-length : tie.Need-same-length
 same-length c = search needs
 
--- src/lib.rt:136:1
 returns : tie.Need-returns
 unfolding rowAs isAccepted commandAs
 returns c = let p = c .before .before .before .before .before .before .before .before .before .before .before .before .before .args .p .now in let out = c .before .before .before .before .before .before .before .before .before .before .before .before .before .args .out .now in let row = ap isAccepted (sym (c .before .before .before .before .before .before .before .before .before .layout-of .ensures) ∙ ap rowAs (c .before .before .before .before .before .before .before .enum-told .given .1)) in let k = command-taken (c .before .before .before .before .before .before .before .before .before .before .before .before .before .args .limits) p row (sym (c .before .before .before .before .before .before .judge-command .ensures) ∙ ap commandAs (c .before .before .before .before .enum-told2 .given .1)) in (c .before .before .put-packet .ensures .0 ∙ ap (λ r. writing r out) (sym k), c .before .before .put-packet .ensures .1 ∙ ap (λ r. leaving r out) (sym k))
 
--- src/lib.rt:136:1
 returns-2 : tie.Need-returns-2
 unfolding rowAs isAccepted commandAs writtenAs writing leaving onAccepted
 returns-2 c = let p = c .before .before .before .before .before .before .before .before .before .before .args .p .now in let out = c .before .before .before .before .before .before .before .before .before .before .args .out .now in let row = ap isAccepted (sym (c .before .before .before .before .before .before .layout-of .ensures) ∙ ap rowAs (c .before .before .before .before .enum-told .given .1)) in let k = command-not (c .before .before .before .before .before .before .before .before .before .before .args .limits) p row (getD-bytes p (λ i. c .before .before .before .before .before .before .before .before .before .shared-slice-known .given i .fits)) (sym (c .before .before .before .judge-command .ensures) ∙ ap commandAs (c .before .r .given .1)) in (ap (λ r. writing r out) (sym k), ap (λ r. leaving r out) (sym k))
 
--- src/lib.rt:136:1
 same-length-2 : tie.Need-same-length-2
 same-length-2 c = search needs
 
--- src/lib.rt:136:1
 returns-3 : tie.Need-returns-3
 unfolding rowAs isAccepted
 returns-3 c = let p = c .before .before .before .before .before .before .before .before .before .before .before .before .before .args .p .now in let out = c .before .before .before .before .before .before .before .before .before .before .before .before .before .args .out .now in let row = ap isAccepted (sym (c .before .before .before .before .before .before .before .before .before .layout-of .ensures) ∙ ap rowAs (c .before .before .before .before .before .before .before .enum-told3 .given .1)) in let k = data-taken (c .before .before .before .before .before .before .before .before .before .before .before .before .before .args .limits) p row (taken 0 (readPacket (c .before .before .before .before .before .before .before .before .before .before .before .before .before .args .limits) p) (sym (c .before .before .before .before .before .before .judge-packet .ensures) ∙ c .before .before .before .before .enum-told4 .given .1) .accepts) in (c .before .before .put-packet2 .ensures .0 ∙ ap (λ r. writing r out) (sym k), c .before .before .put-packet2 .ensures .1 ∙ ap (λ r. leaving r out) (sym k))
 
--- src/lib.rt:136:1
 returns-4 : tie.Need-returns-4
 unfolding rowAs isAccepted writtenAs writing leaving onAccepted
 returns-4 c = let p = c .before .before .before .before .before .before .before .before .before .before .args .p .now in let out = c .before .before .before .before .before .before .before .before .before .before .args .out .now in let row = ap isAccepted (sym (c .before .before .before .before .before .before .layout-of .ensures) ∙ ap rowAs (c .before .before .before .before .enum-told3 .given .1)) in let k = data-not (c .before .before .before .before .before .before .before .before .before .before .args .limits) p row (not-taken 0 (readPacket (c .before .before .before .before .before .before .before .before .before .before .args .limits) p) (sym (c .before .before .before .judge-packet .ensures) ∙ c .before .r2 .given .1)) in (ap (λ r. writing r out) (sym k), ap (λ r. leaving r out) (sym k))

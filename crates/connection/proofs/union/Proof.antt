@@ -13,8 +13,6 @@ use native.Mathlib.Omega.{arith}
 use borrow.Author.Needs.{needs}
 use Rattle.connection.proofs.union.Statement.{statement}
 use Rattle.connection.proofs.union.Tie as tie
-use Rattle.connection.proofs.union.Reads as reads
-use Rattle.connection.proofs.union.Lts as lts
 
 abbrev Inv-loop : tie.InvT-loop
 Inv-loop s all₀ i₀ all i = (i ≤ length s) × (pick (eqb all 0) (isZero (drop i s)) false ≡ isZero s)
@@ -22,27 +20,21 @@ Inv-loop s all₀ i₀ all i = (i ≤ length s) × (pick (eqb all 0) (isZero (dr
 abbrev μ-loop : tie.MeasureT-loop
 μ-loop s all₀ i₀ all i = length s - i
 
--- src/lib.rt:63:5
 loop-holds : tie.Need-loop-holds Inv-loop μ-loop
 loop-holds c = (omega arith, refl)
 
--- src/lib.rt:64:21
 shared-slice-read-all : tie.Need-shared-slice-read-all Inv-loop μ-loop
 shared-slice-read-all c = search needs
 
--- src/lib.rt:65:9
 add-i : tie.Need-add-i Inv-loop μ-loop
 add-i c = search needs
 
--- src/lib.rt:63:5
 loop-less : tie.Need-loop-less Inv-loop μ-loop
 loop-less c = search needs
 
--- src/lib.rt:63:5
 loop-again : tie.Need-loop-again Inv-loop μ-loop
 loop-again c = let i = c .before .before .loop .i in let s = c .before .before .before .args .s .now in let next : i + 1 ≡ suc i = omega arith in (omega arith, ap (λ (k : ℕ). pick (eqb (bitOr (c .before .before .loop .all) (getD s i 0)) 0) (isZero (drop k s)) false) next ∙ union-on (c .before .before .loop .all) (getD s i 0) (drop (suc i) s) ∙ ap (λ l. pick (eqb (c .before .before .loop .all) 0) (isZero l) false) (sym (drop-cons s i 0 (c .before .loop-test .taken))) ∙ c .before .before .loop .inv .1)
 
--- src/lib.rt:58:1
 returns : tie.Need-returns Inv-loop μ-loop
 returns c = let done : drop (c .before .loop .i) (c .before .before .args .s .now) ≡ [] = drop-of-length-le (c .before .before .args .s .now) {i = c .before .loop .i} (omega arith) in sym (union-done (c .before .loop .all)) ∙ ap (λ l. pick (eqb (c .before .loop .all) 0) (isZero l) false) (sym done) ∙ c .before .loop .inv .1
 

@@ -1,24 +1,18 @@
 use Rattle.connection.specs.State.{wanted}
-use mathlib.Core.Path.{sym, ap, _∙_}
+use mathlib.Core.Path.{ap}
 use Prim.Native.Nat.{ℕ, _-_}
 use native.Mathlib.Omega.{arith}
 use borrow.Author.Needs.{needs}
 use Rattle.connection.proofs.wanted.Statement.{statement}
 use Rattle.connection.proofs.wanted.Tie as tie
-use Rattle.connection.proofs.wanted.Reads as reads
-use Rattle.connection.proofs.wanted.Lts as lts
-use Rattle.connection.proofs.judged_at.Reads as judged-at-reads
 
--- src/lib.rt:305:9
 judged-at-requires : tie.Need-judged-at-requires
 judged-at-requires c κs = search needs
 
--- src/lib.rt:307:9
 returns : tie.Need-returns
 unfolding wanted
 returns c = omega (arith, c .before .judged-at .ensures, c .if1 .taken)
 
--- src/lib.rt:302:1
 returns-2 : tie.Need-returns-2
 unfolding wanted
 returns-2 c = ap (λ (n : ℕ). n - c .before .before .before .args .fill) (c .before .judged-at .ensures)

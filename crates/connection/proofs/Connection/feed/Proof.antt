@@ -4,28 +4,19 @@ use lib.Dec.{lit≤}
 use borrow.Author.Needs.{needs}
 use Rattle.connection.proofs.Connection.feed.Statement.{statement}
 use Rattle.connection.proofs.Connection.feed.Tie as tie
-use Rattle.connection.proofs.Connection.feed.Reads as reads
-use Rattle.connection.proofs.Connection.feed.Lts as lts
-use Rattle.connection.proofs.feed_lent.Reads as feed-lent-reads
-use Rattle.connection.proofs.none.Reads as none-reads
 
--- src/lib.rt:345:26
 none-requires : tie.Need-none-requires
 none-requires c κs = search needs
 
--- src/lib.rt:346:53
 slice-aggregate-feed-lent : tie.Need-slice-aggregate-feed-lent
 slice-aggregate-feed-lent c = search needs
 
--- src/lib.rt:346:71
 slice-aggregate-feed-lent-2 : tie.Need-slice-aggregate-feed-lent-2
 slice-aggregate-feed-lent-2 c = search needs
 
--- src/lib.rt:346:13
 feed-lent-requires : tie.Need-feed-lent-requires
 feed-lent-requires c κs = search needs
 
--- src/lib.rt:341:5
 returns : tie.Need-returns
 returns c = fed-value baseLimits 1280 (c .before .before .before .before .before .before .before .before .args .self) (c .before .before .before .before .before .before .before .before .args .bytes .now) (c .before .before .before .before .before .none .result) _ _ (c .before .before .feed-lent .result) (lit≤ tt) (lit≤ tt) (c .before .before .before .before .before .none .ensures) (c .before .before .feed-lent .ensures .0) (c .before .before .feed-lent .ensures .1 .0) (c .before .before .feed-lent .ensures .1 .1)
 
