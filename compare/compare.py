@@ -7,7 +7,7 @@ DRIVER answers the calls for C, VIEWS those that give views. First the published
 examples and the edges of the rules, with the answers the papers give, then N
 generated lines. Each program is started anew for each batch, gets its lines on
 its standard input and must answer each with one line. Exit 1 on a difference,
-and if a refusal that document 01 lets a call give was never reached.
+and if a refusal that the papers let a call give was never reached.
 """
 
 import argparse

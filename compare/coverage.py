@@ -1,10 +1,10 @@
-"""What document 01 lets each call answer, and how often a run reached it."""
+"""What documents 01 and 02 let each call answer, and how often a run reached it."""
 
 from collections import Counter
 
 import reference
 
-NUMBERS = range(1, 19)
+NUMBERS = range(1, 20)
 CODECS = {0x08: "8", 0x8E: "8E", 0x10: "16"}
 
 # The refusals of each input in the order of document 01, each with its places: the parts of the rule.
@@ -22,6 +22,11 @@ INPUTS = {
                   "record's length", "priority", "event ID", "generation type", "generation type outside 16",
                   "no record before it", "kind", "order", "element's length", "value's length", "ID", "no record",
                   "record's size", "packet's size"]},
+    "connection": {2: [""], 3: ["under", "over"], 5: ["upper", "lower"], 6: [""],
+                   7: ["zero", "differ", "first", "second"], 8: ["timestamp", "left over", "type", "size"], 9: [""],
+                   10: [""], 11: [""], 12: [""], 13: [""], 14: ["size", "under 8", "text with 11"],
+                   15: ["length", "digit", "first digit"]},
+    "state": {},
 }
 
 # The walk of a data packet or datagram, codec by codec: the fields that can be missing, and the other rules.
@@ -38,9 +43,18 @@ def walk_places(codec):
     return [(8, field) for field in fields] + [(number, "") for number in WALK[1:] if codec == 0x10 or number != 11]
 
 
-# Each call: its input, and what it can give behind that input's refusals. A lent buffer is too short by one byte or
-# word or by more, or it is as long as the result or longer.
+# Each call: its input, and what it can give behind or before that input's refusals. A lent buffer is too short by one
+# byte or word or by more, or it is as long as the result or longer.
 ROOM = {18: ["by one"], None: ["exact", "longer"]}
+
+# Why a state gets 19; the last ones hold an item, or what a refusal should have taken out of it.
+NO_STATE = {19: ["closed", "phase", "length", "fill", "spare byte", "login held", "packet held", "2 held", "3 held",
+                 "5 held", "15 held"]}
+
+# Where a feed begins, and where it ends.
+BEFORE = ("fresh", "in a login", "between packets", "in a header", "in a packet")
+AFTER = ("no bytes", "more", "item", "item, bytes left", "refusal", "refusal, bytes left")
+FEEDS = [f"{before}: {after}" for before in BEFORE for after in AFTER]
 CALLS = {
     "read_packet": ("packet", {}),
     "read_datagram": ("datagram", {}),
@@ -70,14 +84,21 @@ CALLS = {
     "packet_of_form": ("form", ROOM),
     "contents_of_packet": ("packet", ROOM),
     "contents_of_datagram": ("datagram", ROOM),
+    "feed": ("connection", NO_STATE | {18: ["by one", "by more"], None: FEEDS}),
+    "stream": ("connection", {}),
+    "wanted": ("state", NO_STATE),
+    "reset": ("state", {}),
+    "fresh": ("state", {}),
 }
 
-# Calls that do not show the refusal behind their answer, and one that does. Views need none: the reference tells.
+# Calls that do not show the refusal behind their answer, and one that does. Of views and of what is wanted the
+# reference tells it.
 BEHIND = {"acknowledge_packet": "read_packet", "answer_login": "read_login"}
+HIDING = {name for name, (sort, _, _) in reference.CALLS.items() if sort == "view"} | set(BEHIND) | {"wanted"}
 
 
 def allowed(row):
-    """The refusals that document 01 lets a call give, or hide."""
+    """The refusals that the papers let a call give, or hide."""
     source, more = CALLS[row]
     numbers = set(INPUTS[source]) | set(more)
     return numbers | set(WALK) if source in ("packet", "datagram") else numbers
@@ -90,6 +111,22 @@ def from_older(words, refusal):
     return refusal.number != 16 and reference.evaluate(f"read_packet {words[0]}")[1] is None
 
 
+def feed_kind(words, answer):
+    """Where a feed begins and ends, one of FEEDS."""
+    phase, fill, _, _, data, _ = words
+    number, _, used, item = answer.split(" lent ")[1].split()[1:5]
+    if fill == "0":
+        before = "fresh" if phase == "0" else "between packets"
+    else:
+        before = "in a login" if phase == "0" else "in a header" if int(fill) < 8 else "in a packet"
+    if data == "-":
+        return f"{before}: no bytes"
+    if (number, item) == ("0", "0"):
+        return f"{before}: more"
+    left = "" if len(data) == 2 * int(used) else ", bytes left"
+    return f"{before}: {'item' if number == '0' else 'refusal'}{left}"
+
+
 class Coverage:
     def __init__(self):
         self.reached = Counter()        # (row of CALLS, codec or None, number or None, place)
@@ -98,7 +135,7 @@ class Coverage:
     def count(self, line, answer, refusal):
         """Notes what a line reached."""
         name, *words = line.split()
-        row, data = name, words[0]
+        row, data = name, "".join(words[:1])
         if name in BEHIND and refusal is None:
             refusal = reference.evaluate(f"{BEHIND[name]} {data}")[1]
         if name.startswith("last_known") and from_older(words, refusal):
@@ -112,7 +149,9 @@ class Coverage:
         if answer.startswith("written"):
             _, size, lent = answer.split()
             exact = len(lent) == 2 * int(size) * reference.unit(name)
-            self.reached[row, "room", None, "exact" if exact else "longer"] += 1
+            self.reached[row, "kind", None, "exact" if exact else "longer"] += 1
+        if name == "feed" and number not in (18, 19):
+            self.reached[row, "kind", None, feed_kind(words, answer)] += 1
 
     def times(self, rows, codec, number, place):
         return sum(self.reached[row, codec, number, place] for row in rows)
@@ -130,8 +169,8 @@ class Coverage:
                     yield f"{row} with {number or 'an acceptance'}"
             for number, places in more.items():
                 for place in places:
-                    if not self.times([row], None if number else "room", number, place):
-                        yield f"{row} with {number or 'a buffer'}, {place}"
+                    if not self.times([row], None if number else "kind", number, place):
+                        yield f"{row} with {number or 'a call'}, {place}"
         for source, rules in INPUTS.items():
             rows = [row for row, (of, _) in CALLS.items() if of == source]
             for number, places in rules.items():
@@ -145,7 +184,7 @@ class Coverage:
                             yield f"{source} of codec {name} with {number}, {place or 'the rule'}"
 
     def unforeseen(self):
-        """What document 01 does not let a call give and the reference gave."""
+        """What the papers do not let a call give and the reference gave."""
         for row, _, number, _ in self.reached:
             if number is not None and number not in allowed(row):
                 yield f"{row} with {number}"
@@ -153,16 +192,15 @@ class Coverage:
     # ------------------------------------------------------------ tables
 
     def calls_table(self):
-        views = {name for name, (sort, _, _) in reference.CALLS.items() if sort == "view"}
         sums = Counter()
         yield f"{'calls and refusals':24}" + "".join(f"{number:>7}" for number in ("none", *NUMBERS))
         for row in CALLS:
             given = Counter()
             for (name, codec, number, _), times in self.reached.items():
-                if name == row and codec != "room":
+                if name == row and codec != "kind":
                     given[number] += times
             sums += given
-            hiding = row.split(",")[0] in views | set(BEHIND)
+            hiding = row.split(",")[0] in HIDING
             cells = [given[number] if number in allowed(row) | {None} else "." for number in (None, *NUMBERS)]
             yield f"{row + ('*' if hiding else ''):24}" + "".join(f"{cell:>7}" for cell in cells)
         yield f"{'sum':24}" + "".join(f"{sums[number]:>7}" for number in (None, *NUMBERS))
@@ -185,7 +223,14 @@ class Coverage:
             rows = [row for row, (of, _) in CALLS.items() if of == source]
             cells = [f"{number}{' ' + place if place else ''}: {self.times(rows, None, number, place)}"
                      for number, places in rules.items() for place in places]
-            yield f"{source}: " + ", ".join(cells)
+            if cells:
+                yield f"{source}: " + ", ".join(cells)
+        for row in ("feed", "wanted"):
+            cells = [f"{place}: {self.times([row], None, 19, place)}" for place in NO_STATE[19]]
+            yield f"{row} with 19, " + ", ".join(cells)
+        for before in BEFORE:
+            cells = [f"{after}: {self.times(['feed'], 'kind', None, f'{before}: {after}')}" for after in AFTER]
+            yield f"feed, {before}, " + "; ".join(cells)
         for number, indices in self.indices.items():
             yield f"refusal {number} at {len(indices)} record indices, the greatest {max(indices, default='none')}"
 
@@ -194,7 +239,7 @@ class Coverage:
         for part in (self.calls_table, self.walk_table, self.places_lines):
             print("\n".join(part()) + "\n")
         missing, unforeseen = list(self.missing()), sorted(set(self.unforeseen()))
-        for title, found in (("never reached", missing), ("not in document 01", unforeseen)):
+        for title, found in (("never reached", missing), ("not in the papers", unforeseen)):
             if found:
                 print(f"{title}: " + "; ".join(found))
         return not missing and not unforeseen

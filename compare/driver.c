@@ -1,8 +1,9 @@
 /* Answers calls from standard input, one a line, as compare/reference.py does: the library's side of the comparison.
  * An answer has every field of its struct, on refusals too. Every input and buffer stands between two guards, and the
  * line says so if a call changed a byte of them or of an input. A buffer of 64-bit words is given and shown as its
- * bytes; one that is no whole number of words ends the driver. `driver bare` lends blocks of the exact size instead, so
- * that a tool sees a read or a write past them. */
+ * bytes; one that is no whole number of words ends the driver. The bytes of a connection's state are given and shown
+ * without the zeros at their end. `driver bare` lends blocks of the exact size instead, so that a tool sees a read or a
+ * write past them. */
 #include <inttypes.h>
 #include <stdio.h>
 #include <stdlib.h>
@@ -12,9 +13,10 @@
 
 enum { MOST_WORDS = 8, GUARD = 64 };
 
-/* The bytes of a word, in a block of their own. */
+/* The bytes of a word and zeros behind them, in a block of their own. */
 struct bytes {
     const char *word;
+    size_t given; /* how many are the word's */
     uint8_t *block;
     uint8_t *at;
     size_t size;
@@ -35,29 +37,44 @@ static _Noreturn void fail(const char *why, const char *word) {
 
 /* ---- blocks */
 
-static uint8_t byte_of(const char *word, size_t i) {
-    int high = digit(word[2 * i]), low = digit(word[2 * i + 1]);
-    if (high < 0 || low < 0) fail("not lower-case hexadecimal", word);
+static uint8_t byte_of(struct bytes b, size_t i) {
+    if (i >= b.given) return 0;
+    int high = digit(b.word[2 * i]), low = digit(b.word[2 * i + 1]);
+    if (high < 0 || low < 0) fail("not lower-case hexadecimal", b.word);
     return (uint8_t)(high * 16 + low);
 }
 
 /* What a guard holds at a place; neighbours differ, and no place holds 0. */
 static uint8_t guard_byte(size_t i) { return (uint8_t)(0x5B + 37 * (i % 4)); }
 
-/* A word of hexadecimal, '-' for no bytes and a null pointer. */
-static struct bytes bytes_of(const char *word) {
-    struct bytes b = {word, NULL, NULL, 0};
-    if (strcmp(word, "-") == 0) return b;
-    if (strlen(word) % 2) fail("an odd number of digits", word);
-    b.size = strlen(word) / 2;
-    size_t room = guard + b.size + guard;
-    b.block = malloc(room ? room : 1);
+/* A block that holds what guards do; a null pointer for no bytes. */
+static struct bytes block_of(const char *word, size_t size) {
+    struct bytes b = {word, 0, NULL, NULL, size};
+    if (size == 0) return b;
+    size_t room = guard + size + guard;
+    b.block = malloc(room);
     if (!b.block) fail("no memory", word);
     for (size_t i = 0; i < room; i++) b.block[i] = guard_byte(i);
     b.at = b.block + guard;
-    for (size_t i = 0; i < b.size; i++) b.at[i] = byte_of(word, i);
     return b;
 }
+
+/* How many bytes a word of hexadecimal gives, '-' for none. */
+static size_t size_of(const char *word) {
+    if (strcmp(word, "-") == 0) return 0;
+    if (strlen(word) % 2) fail("an odd number of digits", word);
+    return strlen(word) / 2;
+}
+
+/* The bytes of a word, cut or with zeros behind them: so many as are asked for. */
+static struct bytes bytes_up_to(const char *word, size_t size) {
+    struct bytes b = block_of(word, size);
+    b.given = size_of(word);
+    for (size_t i = 0; i < size; i++) b.at[i] = byte_of(b, i);
+    return b;
+}
+
+static struct bytes bytes_of(const char *word) { return bytes_up_to(word, size_of(word)); }
 
 static void check_guards(struct bytes b) {
     for (size_t i = 0; b.block && i < guard; i++) {
@@ -76,7 +93,7 @@ static void done_buffer(struct bytes b) {
 /* After the call: an input, which has to be as it was. */
 static void done_input(struct bytes b) {
     for (size_t i = 0; i < b.size; i++)
-        if (b.at[i] != byte_of(b.word, i)) printf(" CHANGED: byte %zu of an input", i);
+        if (b.at[i] != byte_of(b, i)) printf(" CHANGED: byte %zu of an input", i);
     done_buffer(b);
 }
 
@@ -190,6 +207,124 @@ static void last_known(char **w) {
     done_input(older);
 }
 
+/* ---- connections */
+
+/* The first `least` bytes, and those behind them up to the last that is not zero. */
+static void print_ended(const uint8_t *at, size_t size, size_t least) {
+    while (size > least && at[size - 1] == 0) size--;
+    print_bytes(at, size);
+}
+
+static void print_state(uint8_t phase, size_t fill, const uint8_t *held, size_t size) {
+    printf(" %u %zu ", phase, fill);
+    print_ended(held, size, 0);
+}
+
+static struct brundilope_connection state_of(char **w) {
+    struct brundilope_connection c;
+    struct bytes held = bytes_up_to(w[3], sizeof c.held);
+    c.phase = (uint8_t)number(w[1]);
+    c.fill = number(w[2]);
+    memcpy(c.held, held.at, sizeof c.held);
+    done_input(held);
+    return c;
+}
+
+static void state(struct brundilope_connection c) {
+    printf("state");
+    print_state(c.phase, c.fill, c.held, sizeof c.held);
+}
+
+static void fed(struct brundilope_fed f) {
+    head("fed", f.number, f.index);
+    printf("%zu %u %" PRIu64 " %zu ", f.used, f.item, f.imei, f.size);
+    print_ended(f.packet, sizeof f.packet, f.size);
+    print_state(f.state.phase, f.state.fill, f.state.held, sizeof f.state.held);
+}
+
+static void taken(struct brundilope_taken t, struct bytes held, struct bytes packet) {
+    size_t shown = t.size < packet.size ? t.size : packet.size;
+    head("fed", t.number, t.index);
+    printf("%zu %u %" PRIu64 " %zu ", t.used, t.item, t.imei, t.size);
+    print_bytes(packet.at, shown);
+    print_state(t.phase, t.fill, held.at, held.size);
+    for (size_t i = shown; i < packet.size; i++)
+        if (packet.at[i] != guard_byte(guard + i)) printf(" CHANGED: byte %zu behind the packet", i - shown);
+}
+
+/* A feed by value, if the state has its length, and of a lent state. */
+static void feed(char **w) {
+    struct bytes held = bytes_up_to(w[3], number(w[4])), p = bytes_of(w[5]), packet = block_of(w[6], number(w[6]));
+    if (held.size == BRUNDILOPE_LARGEST) fed(brundilope_feed(state_of(w), p.at, p.size));
+    else putchar('-');
+    printf(" lent ");
+    taken(brundilope_feed_lent((uint8_t)number(w[1]), number(w[2]), held.at, held.size, p.at, p.size, packet.at, packet.size), held,
+          packet);
+    done_buffer(held);
+    done_input(p);
+    done_buffer(packet);
+}
+
+static void wanted(char **w) {
+    struct bytes held = bytes_up_to(w[3], number(w[4]));
+    printf("wanted %zu", brundilope_wanted((uint8_t)number(w[1]), number(w[2]), held.at, held.size));
+    done_input(held);
+}
+
+typedef struct brundilope_taken feed_call(struct brundilope_connection *c, const uint8_t *bytes, size_t bytes_len,
+                                          uint8_t *packet, size_t packet_len);
+
+/* A feed by value as one of a lent state. */
+static struct brundilope_taken feed_by_value(struct brundilope_connection *c, const uint8_t *bytes, size_t bytes_len,
+                                             uint8_t *packet, size_t packet_len) {
+    struct brundilope_fed f = brundilope_feed(*c, bytes, bytes_len);
+    *c = f.state;
+    memcpy(packet, f.packet, packet_len);
+    return (struct brundilope_taken){f.number, f.index, f.used, f.item, f.imei, f.size, f.state.fill, f.state.phase};
+}
+
+/* Feeds the pieces of a stream, each unused rest again, until it is closed; sizes of pieces go over and over. */
+static void stream(feed_call *call, const char *sizes, struct bytes p) {
+    struct brundilope_connection c = brundilope_fresh();
+    struct brundilope_taken t = {0};
+    uint8_t packet[BRUNDILOPE_LARGEST];
+    const char *next = sizes;
+    size_t used = 0, end = 0;
+    if (strspn(sizes, "0,") == strlen(sizes)) fail("no piece with a byte", sizes);
+    printf("items");
+    while (end < p.size && t.number == 0) {
+        char *behind;
+        size_t piece = strtoull(next, &behind, 10);
+        next = *behind == ',' ? behind + 1 : sizes;
+        end = piece < p.size - used ? used + piece : p.size;
+        do {
+            t = call(&c, p.at + used, end - used, packet, sizeof packet);
+            if (t.item == 1) printf(" login %" PRIu64, t.imei);
+            if (t.item == 2) {
+                printf(" packet ");
+                print_bytes(packet, t.size);
+            }
+            if (t.used > end - used || (t.used == 0 && used < end)) {
+                printf(" WRONG: %zu of %zu bytes used", t.used, end - used);
+                return;
+            }
+            used += t.used;
+        } while (used < end && t.number == 0);
+    }
+    printf(" end %zu %zu %zu", t.number, t.index, used);
+    print_state(c.phase, c.fill, c.held, sizeof c.held);
+}
+
+static void streams(char **w) {
+    struct bytes p = bytes_of(w[2]);
+    stream(feed_by_value, w[1], p);
+    printf(" lent ");
+    stream(brundilope_feed_at, w[1], p);
+    done_input(p);
+}
+
+/* ---- lines */
+
 /* How many words follow the name of a call; -1 for an unknown one. */
 static int words_after(const char *call) {
     static const struct {
@@ -201,6 +336,8 @@ static int words_after(const char *call) {
         {"id_in_packet", 3},       {"id_in_datagram", 3},       {"last_known", 3},         {"answer_login", 3},
         {"acknowledge_packet", 2}, {"acknowledge_datagram", 2}, {"form_of_packet", 2},     {"form_of_datagram", 2},
         {"packet_of_form", 2},     {"contents_of_datagram", 2}, {"contents_of_packet", 2}, {"write_command", 5},
+        {"fresh", 0},              {"reset", 3},                {"wanted", 4},             {"feed", 6},
+        {"stream", 2},
     };
     for (size_t i = 0; i < sizeof calls / sizeof *calls; i++)
         if (!strcmp(call, calls[i].call)) return calls[i].words;
@@ -216,6 +353,11 @@ static void answer(char *line) {
     else if (words != n - 1) printf("error wrong number of words");
     else if (!strcmp(w[0], "write_command")) write_command(w);
     else if (!strcmp(w[0], "last_known")) last_known(w);
+    else if (!strcmp(w[0], "fresh")) state(brundilope_fresh());
+    else if (!strcmp(w[0], "reset")) state(brundilope_reset(state_of(w)));
+    else if (!strcmp(w[0], "wanted")) wanted(w);
+    else if (!strcmp(w[0], "feed")) feed(w);
+    else if (!strcmp(w[0], "stream")) streams(w);
     else {
         struct bytes p = bytes_of(w[1]);
         if (!on_input(w[0], p, w)) on_buffer(w[0], p, w);

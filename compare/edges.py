@@ -1,11 +1,11 @@
 """Calls at the edges of the rules: (name, call line, expected answer or None).
 
 Damage is done before length and CRC are put on, so that every rule and every
-field is reached. The expected answers follow from document 01 and from the way
-an input is built here; with None the two programs only have to agree.
+field is reached. The expected answers follow from documents 01 and 02 and from the
+way an input is built here; with None the two programs only have to agree.
 """
 
-from examples import SAMPLE
+from examples import SAMPLE, both, fed
 from generate import CODECS, CONTENTS_LIMIT, KINDS, LEAST, PACKET_LIMIT, WIDTHS, Maker, Record, little, number, shown
 
 MAKER = Maker(1)
@@ -682,8 +682,222 @@ def command_texts():
         yield "answer", f"answer_login {shown(data)} 1 -", "refused 18 0 -"
 
 
+# ---------------------------------------------------------------- connections
+
+NONE = "0 0 0 -"                # what a feed without an item says of it
+
+
+def held_words(phase, held):
+    return phase, len(held), shown(held.rstrip(b"\0"))
+
+
+def feeding(phase, held, data, room=1280):
+    return f"feed {phase} {len(held)} {shown(held)} 1280 {shown(data)} {room}"
+
+
+def finishing(name, phase, item, answer, places=(0, 1, 7, 8, 9, 16)):
+    """Feeds up to the byte before the item's last, up to it and beyond it, with so many bytes of the item held, or
+    all but one. The answer is the head, the item and the phase of what the last byte gives."""
+    head, told, after = answer
+    for kept in sorted({*places, len(item) - 1}):
+        held, rest = item[:kept], item[kept:]
+        if not rest:
+            break
+        for behind in (b"", b"\0", LOGIN):
+            yield name, feeding(phase, held, rest + behind), both(fed(head, len(rest), told, after))
+        for part in sorted({b"", rest[:1], rest[:-1]} - {rest}):
+            more = fed("fed 0 0", len(part), NONE, *held_words(phase, held + part))
+            yield name, feeding(phase, held, part), both(more)
+
+
+def least_data(codec):
+    return tcp(data_field(codec, [MAKER.record(codec, LEAST[codec])]))
+
+
+def good_packets():
+    """(name, packet) for packets that a connection takes: of each codec, the shortest and the longest."""
+    for codec in CODECS:
+        yield "data", tcp(data_field(codec, pair(codec)))
+        yield "shortest data", least_data(codec)
+        records = [MAKER.record(codec, 253) for _ in range(5)]
+        yield "longest data", tcp(data_field(codec, records))
+    for codec, most in ((0x0C, 1260), (0x0E, 1252)):
+        yield "command", tcp(command_field(codec))
+        yield "shortest command", tcp(command_field(codec, text=b""))
+        yield "longest command", tcp(command_field(codec, 6, bytes(range(1, 21)) * (most // 20) + bytes(most % 20)))
+
+
+def refused_headers():
+    """(number, first 8 bytes): a login is none either."""
+    for place in range(4):
+        yield 2, changed(bytes(7) + b"\x21", place, 1)
+    yield 2, LOGIN[:8]
+    yield 2, b"\x80" + bytes(7)
+    yield 2, bytes(3) + b"\xff" * 5
+    for length in (0, 1, 2, 1269, 1280, 65536 + 33, 1 << 31, (1 << 32) - 12, (1 << 32) - 1):
+        yield 3, bytes(4) + number(length, 4)
+
+
+def refused_packets():
+    """(number, index, packet) for the refusals of whole packets."""
+    for codec in CODECS:
+        for refusal, index, data in refused_inputs("packet", codec):
+            if refusal in (5, 7, 8, 9, 10, 11, 12):
+                yield refusal, index, data
+        yield 7, 0, tcp(data_field(codec, []))
+    good = tcp(command_field(0x0E))
+    for place in range(1, 5):
+        yield 5, 0, changed(good, len(good) - place, good[-place] ^ 128)
+    for codec in (0x00, 0x07, 0x0B, 0x0D, 0x0F, 0x8C, 0xFF):
+        yield 6, 0, tcp(bytes([codec, 1, 1]))
+    yield 8, 0, tcp(b"\x08\x01\x01")
+    yield 8, 0, tcp(b"\x0c\x01\x01")
+    yield 8, 0, tcp(b"\x0e\x01\x05\x00\x01")
+    for codec in (0x0C, 0x0E):
+        yield 7, 0, tcp(bytes([codec, 2]) + command_field(codec)[2:])
+        yield 7, 0, tcp(command_field(codec)[:-1] + b"\x02")
+        yield 13, 0, tcp(command_field(codec, 7))
+        yield 14, 0, tcp(command_field(codec, size=4))
+    yield 13, 0, tcp(command_field(0x0C, 0x11, b""))
+    yield 14, 0, tcp(command_field(0x0E, 0x11, b"", imei=bytes(7)))
+    yield 14, 0, tcp(command_field(0x0E, 0x11))
+    yield 15, 0, tcp(command_field(0x0E, imei=b"\x10" + bytes(7)))
+    yield 15, 0, tcp(command_field(0x0E, imei=bytes(7) + b"\x0a"))
+
+
+def feeds():
+    """Each item with its every refusal, cut where something is judged."""
+    yield from finishing("login", 0, LOGIN, ("fed 0 0", f"1 {int(IMEI)} 0 -", 1))
+    yield from finishing("login", 0, LOGIN[:2] + b"0" * 15, ("fed 0 0", "1 0 0 -", 1))
+    for bad in (bytes(17), changed(LOGIN, 0, 1), changed(LOGIN, 1, 16), changed(LOGIN, 2, 0x2F),
+                changed(LOGIN, 16, 0x3A), tcp(command_field(0x0C))[:17]):
+        yield from finishing("login refused", 0, bad, (refused(15), NONE, 2))
+    for refusal, header in refused_headers():
+        yield from finishing("header refused", 1, header, (refused(refusal), NONE, 2))
+    for name, data in good_packets():
+        yield from finishing(name, 1, data, ("fed 0 0", f"2 0 {len(data)} {shown(data)}", 1))
+    for refusal, index, data in refused_packets():
+        yield from finishing("packet refused", 1, data, (refused(refusal, index), NONE, 2), (0, 9))
+    for length in (3, 1268):
+        header = bytes(4) + number(length, 4)
+        yield "header", feeding(1, b"", header), both(fed("fed 0 0", 8, NONE, *held_words(1, header)))
+
+
+def unreachable():
+    """States that no feeds from a fresh one give, a closed one first: phase, fill, bytes held, how many are lent."""
+    good, bad = tcp(command_field(0x0C)), tcp(b"\x0d\x01\x01")
+    for held in (b"", LOGIN[:5], good[:12]):
+        fill = len(held)
+        yield 2, fill, held, 1280
+        for phase in (3, 4, 127, 128, 255):
+            yield phase, fill, held, 1280
+        for phase in (0, 1):
+            for lent in (0, 1, 8, 17, 1268, 1279, 1281, 2560):
+                yield phase, fill, held, lent
+            for wrong in (1281, 65536 + fill, (1 << 32) + fill, (1 << 63) + fill, (1 << 64) - 1, (1 << 64) - 1280):
+                yield phase, wrong, held, 1280
+            for spare in (fill, fill + 1, 1279):
+                yield phase, fill, held.ljust(spare, b"\0") + b"\x01", 1280
+    yield 0, 0, LOGIN, 1280
+    yield 0, 16, LOGIN, 1280
+    yield 0, 1280, b"", 1280
+    for held in (LOGIN, LOGIN + b"\0", changed(LOGIN, 9, 0x41), bytes(17)):
+        yield 0, len(held), held, 1280
+    for _, header in refused_headers():
+        for more in (0, 1, 30, 1272):
+            yield 1, 8 + more, header, 1280
+    for data in (good, bad, changed(good, 24, 0), least_data(0x08)):
+        for more in (0, 1, 8, 1280 - len(data)):
+            yield 1, len(data) + more, data, 1280
+    for data in (tcp(command_field(0x0C, 6, bytes(1260))), bytes(6) + b"\x04\xf4"):
+        yield 1, 1280, data, 1280
+
+
+def unused(number, phase, fill, held):
+    """The answer of a feed that uses and changes nothing."""
+    return f"refused {number} 0 0 {NONE} {phase} {fill} {shown(held.rstrip(bytes(1)))}"
+
+
+def refused_states():
+    """19 comes first: with no bytes too, and with no room for a packet; any state can be reset."""
+    for phase, fill, held, lent in unreachable():
+        answer = unused(19, phase, fill, held[:lent])
+        expected = both(answer if lent == 1280 else "-", answer)
+        for data, room in ((b"", 1280), (LOGIN, 1280), (tcp(command_field(0x0C)), 1280), (b"", 0), (LOGIN, 1279)):
+            yield "no state", f"feed {phase} {fill} {shown(held)} {lent} {shown(data)} {room}", expected
+        yield "no state", f"wanted {phase} {fill} {shown(held)} {lent}", "wanted 0"
+        yield "reset", f"reset {phase} {fill} {shown(held)}", "state 0 0 -"
+    yield "fresh", "fresh", "state 0 0 -"
+
+
+def packet_rooms():
+    """A packet's buffer too short, whatever is fed, just long enough and longer."""
+    good = tcp(command_field(0x0C))
+    for phase, held, data, value in (
+            (0, b"", b"", fed("fed 0 0", 0, NONE, 0)),
+            (0, LOGIN[:3], LOGIN[3:], fed("fed 0 0", 14, f"1 {int(IMEI)} 0 -", 1)),
+            (1, good[:9], b"", fed("fed 0 0", 0, NONE, *held_words(1, good[:9]))),
+            (1, b"", good[:9], fed("fed 0 0", 9, NONE, *held_words(1, good[:9]))),
+            (1, good[:9], good[9:], fed("fed 0 0", len(good) - 9, f"2 0 {len(good)} {shown(good)}", 1)),
+            (1, b"", b"\x01" * 8, fed(refused(2), 8, NONE, 2))):
+        for room in (0, 1, len(good), 1279, 1280, 1281, 2000):
+            lent = value if room >= 1280 else unused(18, phase, len(held), held)
+            yield "packet's room", feeding(phase, held, data, room), both(value, lent)
+
+
+def wanted():
+    """How many bytes are wanted in each state on the way to an item."""
+    for held in range(17):
+        yield "wanted", f"wanted 0 {held} {shown(LOGIN[:held])} 1280", f"wanted {17 - held}"
+    for _, data in good_packets():
+        for held in (0, 1, 7, 8, 9, 12, len(data) - 1):
+            whole = len(data) if held >= 8 else 8
+            yield "wanted", f"wanted 1 {held} {shown(data[:held])} 1280", f"wanted {whole - held}"
+    # what is held need not be the beginning of an item that is accepted
+    for held in range(1, 17):
+        yield "wanted", f"wanted 0 {held} {'ff' * held} 1280", f"wanted {17 - held}"
+        if held < 8:
+            yield "wanted", f"wanted 1 {held} {'ff' * held} 1280", f"wanted {8 - held}"
+
+
+def streaming(name, sizes, data, items, number=0, index=0, used=None, phase=1, held=b""):
+    """A stream cut into pieces of these sizes; items are the login and the packets."""
+    used = len(data) if used is None else used
+    told = [f"login {int(item[2:])}" if len(item) == 17 else f"packet {shown(item)}" for item in items]
+    answer = " ".join(("items", *told, f"end {number} {index} {used}", *map(str, held_words(phase, held))))
+    return name, f"stream {sizes} {shown(data)}", both(answer)
+
+
+def streams():
+    """Whole connections, cut in every way; those that end within an item, and those that are closed."""
+    short = [LOGIN, tcp(command_field(0x0C, text=b"")), least_data(0x08), tcp(command_field(0x0E))]
+    data = b"".join(short)
+    for cut in range(len(data)):
+        yield streaming("two pieces", f"{cut},{len(data)}", data, short)
+    whole = [LOGIN] + [packet for _, packet in good_packets()]
+    for sizes in ("1", "0,1", "2", "7", "8", "9", "16", "17", "18", "8,9", "17,8", "1,1280", "1279", "1280", "99999"):
+        yield streaming("pieces", sizes, data, short)
+    for sizes in ("17", "255", "1279", "1280", "99999"):
+        yield streaming("pieces", sizes, b"".join(whole), whole)
+    yield streaming("nothing", "1", b"", [], phase=0)
+    ends = [sum(map(len, short[:many])) for many in range(len(short) + 1)]
+    for size in range(len(data)):
+        done = max(many for many in range(len(ends)) if ends[many] <= size)
+        for sizes in ("1", "99999"):
+            yield streaming("beginning", sizes, data[:size], short[:done], phase=min(done, 1),
+                            held=data[ends[done]:size])
+    closing = [(refusal, 0, header) for refusal, header in refused_headers()] + list(refused_packets())
+    for refusal, index, last in closing:
+        for sizes in ("1", "8", "99999"):
+            yield streaming("closed", sizes, data + last + LOGIN, short, refusal, index, len(data + last), 2)
+    for sizes in ("1", "16", "17", "99999"):
+        yield streaming("login refused", sizes, bytes(17) + data, [], 15, 0, 17, 2)
+        yield streaming("a second login", sizes, LOGIN + data, [LOGIN], 2, 0, 25, 2)
+
+
 def edge_calls():
     for part in (beginnings, frames, codecs_and_counts, cuts, fields, counts_and_lengths, past_the_record, sizes,
                  wraps, command_rules, imeis, lookups, twice, last_known, buffers, sample_contents, contents,
-                 form_entries, form_rules, walk_orders, head_orders, command_orders, everywhere, command_texts):
+                 form_entries, form_rules, walk_orders, head_orders, command_orders, everywhere, command_texts,
+                 feeds, refused_states, packet_rooms, wanted, streams):
         yield from part()

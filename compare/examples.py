@@ -70,8 +70,25 @@ def refused_calls(name, kind, text, number):
          f"{answer} {'ee' * 7}" if kind == "datagram" else "written 4 00000000eeeeee")]
 
 
+def fed(head, used, item, phase, fill=0, held="-"):
+    """The answer of a feed."""
+    return f"{head} {used} {item} {phase} {fill} {held}"
+
+
+def both(value, lent=None):
+    """The answers of a call by value and with a lent state, which are mostly the same."""
+    return f"{value} lent {lent or value}"
+
+
+def packet_fed(name, text):
+    """A packet fed whole to a connection that expects one."""
+    size = len(text) // 2
+    return name, f"feed 1 0 - 1280 {text} 1280", both(fed("fed 0 0", size, f"2 0 {size} {text}", 1))
+
+
 def login_calls(name, text, imei):
     return [(name, f"read_login {text}", f"accepted {imei}"),
+            (name, f"feed 0 0 - 1280 {text} 1280", both(fed("fed 0 0", 17, f"1 {imei} 0 -", 1))),
             (name, f"answer_login {text} 1 ee", "written 1 01"),
             (name, f"answer_login {text} 0 ee", "written 1 00")]
 
@@ -82,6 +99,7 @@ def command_calls(name, text, codec, kind, imei, sent=""):
     size = len(text) // 2
     return [(name, f"read_command {text}", f"accepted {codec} {kind} {imei} {start} {len(sent) // 2}"),
             (name, f"command_text {text}", f"bytes {sent or '-'}"),
+            packet_fed(name, text),
             (name, f"write_command {codec} {kind} {given} {sent or '-'} {'ee' * size}", f"written {size} {text}")]
 
 
@@ -102,6 +120,7 @@ def data_calls(name, kind, text, codec, count, reply):
             (name, f"form_of_{kind} {text} {lent}", f"written {len(form)} {form.hex()}eeee"),
             (name, f"packet_of_form {form.hex()} {'ee' * len(packet)}", f"written {len(packet)} {packet.hex()}"),
             (name, f"contents_of_{kind} {text} {'ee' * 512}", None),
+            packet_fed(name, packet.hex()),
             (name, f"record_in_{kind} {text} {count}", "refused 16 0")]
 
 

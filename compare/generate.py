@@ -609,18 +609,18 @@ class Maker:
             imei[place] = imei[place] & 0x0F | self.pick((0xA0, 0xB0, 0xF0))
         return bytes(imei)
 
-    def login(self):
+    def login(self, valid=0.4):
         data = b"\x00\x0f" + self.digits()
-        style = self.rng.random()
-        if style < 0.4:
+        if self.chance(valid):
             return data
-        if style < 0.52:
+        style = self.rng.random()
+        if style < 0.2:
             return data[:self.pick((0, 1, 2, 16, 16, self.upto(17)))]
-        if style < 0.62:
+        if style < 0.37:
             return data + self.bytes(self.pick((1, 1, 2, 17, 100)))
-        if style < 0.84:
+        if style < 0.74:
             return self.wrong_imei(data)
-        if style < 0.9:
+        if style < 0.84:
             return self.bytes(17)
         return self.huge(self.raw_damage(data), 0.03)
 
@@ -772,6 +772,68 @@ class Maker:
     def form_size(self, codec, records):
         return sum(4 + len(body) for _, _, body in self.form_entries(codec, records))
 
+    # ------------------------------------------------------------ connections
+
+    def item(self, phase, valid):
+        """A login, or a packet of either sort: its bytes."""
+        if phase == 0:
+            return self.login(valid)
+        return self.packet(valid)[0] if self.chance(0.6) else self.command(valid)
+
+    def state(self):
+        """A state and what its item lacks: phase, fill, bytes held, how many are lent, the item's other bytes."""
+        phase = self.pick((0, 1, 1, 1))
+        item = self.item(phase, 0.5)
+        fill = min(self.pick((0, 0, 1, 7, 8, 9, 16, max(len(item) - 1, 0), self.upto(len(item) + 1))), len(item))
+        held, rest, lent = item[:fill], item[fill:], PACKET_LIMIT
+        if self.chance(0.8):
+            return phase, fill, held, lent, rest
+        style = self.upto(6)
+        if style == 0:
+            phase = self.pick((2, 2, 2, 3, 255, 1 - phase, self.upto(256)))
+        elif style == 1:
+            fill = self.pick((fill + 1, max(fill - 1, 0), 17, 1279, 1280, 1281, (1 << 32) + fill, (1 << 64) - 1))
+        elif style == 2:
+            held += bytes(self.pick((0, 0, 1, 8, max(1279 - fill, 0), self.upto(1280)))) + b"\x01"
+        elif style == 3:
+            lent = self.pick((0, fill & 1023, 17, 1279, 1281, self.upto(1500)))
+        elif style == 4:
+            held, fill = item, len(item)
+        else:
+            held, fill = item + b"\0", len(item) + 1
+        return phase, fill, held, lent, rest
+
+    def next_bytes(self, rest):
+        """What comes behind a state's bytes: the rest of its item, a part of it, or more."""
+        return self.pick((rest, rest, rest + self.bytes(1 + self.upto(30)), rest + self.login(0.9),
+                          rest[:self.upto(len(rest) + 1)], rest[:-1], rest[:1], b""))
+
+    def stream(self):
+        """The words of a stream: sizes of its pieces, which go over and over, and its bytes."""
+        data = self.item(0, 0.9) + b"".join(self.item(1, 0.75) for _ in range(self.pick((0, 1, 1, 2, 2, 3))))
+        if self.chance(0.3):
+            data = data[:self.upto(len(data) + 1)]
+        style = self.rng.random()
+        if style < 0.25:
+            sizes = [len(data) + 1]
+        elif style < 0.5 and len(data) < 250:       # thousands of feeds cost time
+            sizes = [1]
+        else:
+            sizes = [self.pick((0, 1, 7, 8, 9, 16, 17, 18, 45, self.upto(400))) for _ in range(self.upto(6))]
+            sizes.append(1 + self.upto(1400))
+        return f"{','.join(map(str, sizes))} {shown(data)}"
+
+    def connection_words(self, name):
+        """The words of a call that takes a connection's state."""
+        phase, fill, held, lent, rest = self.state()
+        words = f"{phase} {fill} {shown(held)}"
+        if name == "reset":
+            return words
+        if name == "wanted":
+            return f"{words} {lent}"
+        room = PACKET_LIMIT if self.chance(0.8) else self.pick((0, 1279, self.upto(1280), 1281, 1400))
+        return f"{words} {lent} {shown(self.next_bytes(rest))} {room}"
+
     # ------------------------------------------------------------ calls
 
     def record_word(self, records):
@@ -845,6 +907,10 @@ class Maker:
             return f"{name} {shown(form)} {shown(self.buffer(size))}"
         if name in ("last_known", "last_known_view"):
             return f"{name} {self.two_packets()}"
+        if name == "stream":
+            return f"{name} {self.stream()}"
+        if name in ("feed", "wanted", "reset"):
+            return f"{name} {self.connection_words(name)}"
         data, codec, records = self.any_input(self.datagram if name.endswith("datagram") else self.packet)
         records = records or [self.record(codec)]
         start = f"{name} {shown(data)}"
@@ -869,7 +935,8 @@ NAMES = (
     "id_in_packet", "id_in_datagram", "view_in_packet", "view_in_datagram",
     "id_view_in_packet", "id_view_in_datagram", "last_known", "last_known_view",
     "acknowledge_packet", "acknowledge_datagram", "answer_login", "write_command",
-    "form_of_packet", "form_of_datagram", "packet_of_form", "contents_of_packet", "contents_of_datagram")
+    "form_of_packet", "form_of_datagram", "packet_of_form", "contents_of_packet", "contents_of_datagram",
+    "feed", "feed", "stream", "wanted", "reset")
 
 
 def lines(count, seed):

@@ -1,14 +1,16 @@
 #!/usr/bin/env python3
-"""A second implementation of the packet rules of document 01.
+"""A second implementation of the rules of document 01 and of request 1 of document 02.
 
     python3 reference.py     answers calls from standard input, one a line
 
 It is written from the papers alone and is meant to be read beside them; only how
-the calls for C lay an answer out (`flat`) and the words of a table of contents
-are from include/brundilope.h.
+the calls for C lay an answer out (`flat`), the words of a table of contents, and
+what a feed of a lent state adds to document 02 are from include/brundilope.h.
 Byte strings in a call are lower-case hexadecimal, '-' stands for none. A buffer
 of 64-bit words is given and shown as its bytes, each word's lowest first; one
-that is no whole number of words is an error.
+that is no whole number of words is an error. The bytes of a connection's state
+are given and shown without the zeros at their end, a feed's packet buffer is
+given as its length.
 """
 
 import re
@@ -57,6 +59,7 @@ FIXED_FIELDS = slice(Record._fields.index("elements"))
 Packet = namedtuple("Packet", "codec records")
 Datagram = namedtuple("Datagram", "codec records imei packet unused avl")
 Command = namedtuple("Command", "codec type imei offset size")
+Item = namedtuple("Item", "kind imei packet")
 
 
 class Refused(Exception):
@@ -203,15 +206,21 @@ def read_data_field(data, start, end):
 
 # ---------------------------------------------------------------- reading inputs
 
-def check_frame(data):
-    """What all TCP packets share: refusals 1 to 5."""
-    if len(data) < 8:
-        raise Refused(1)
+def check_header(data):
+    """The data length in the first 8 bytes of a TCP packet: refusals 2 and 3."""
     if data[:4] != bytes(4):
         raise Refused(2)
     length = big(data[4:8])
     if not 3 <= length <= LENGTH_LIMIT:
         raise Refused(3, place="under" if length < 3 else "over")
+    return length
+
+
+def check_frame(data):
+    """What all TCP packets share: refusals 1 to 5."""
+    if len(data) < 8:
+        raise Refused(1)
+    length = check_header(data)
     if len(data) != length + 12:
         raise Refused(4, place="missing" if len(data) < length + 12 else "too many")
     if big(data[-4:]) != crc16(data[8:-4]):
@@ -515,6 +524,81 @@ def login_answer(data, known):
     return bytes([known])
 
 
+# ---------------------------------------------------------------- connections (document 02, request 1)
+
+EXPECTS_LOGIN, EXPECTS_PACKET, CLOSED = range(3)    # the phases
+NO_ITEM = Item(0, 0, b"")
+
+
+class Connection:
+    """A connection, which takes its bytes one by one."""
+
+    def __init__(self):
+        self.phase, self.held = EXPECTS_LOGIN, b""
+
+    def due(self):
+        """How many bytes are held when something is judged next."""
+        if self.phase == EXPECTS_LOGIN:
+            return 17
+        return 8 if len(self.held) < 8 else big(self.held[4:8]) + 12
+
+    def judged(self):
+        """The item that the bytes held are, now that they are as many as were due."""
+        if self.phase == EXPECTS_LOGIN:
+            return Item(1, read_login(self.held), b"")
+        if len(self.held) == 8:
+            check_header(self.held)
+            return NO_ITEM
+        reader = read_command if self.held[8] in TYPES else read_packet
+        reader(self.held)
+        return Item(2, 0, self.held)
+
+    def feed(self, data):
+        """How many bytes are used, the item that they finish and the refusal that they give, or None."""
+        for used, byte in enumerate(data, 1):
+            due = self.due()
+            self.held += bytes([byte])
+            if len(self.held) < due:
+                continue
+            try:
+                item = self.judged()
+            except Refused as refusal:
+                self.phase, self.held = CLOSED, b""
+                return used, NO_ITEM, refusal
+            if item != NO_ITEM:
+                self.phase, self.held = EXPECTS_PACKET, b""
+                return used, item, None
+        return len(data), NO_ITEM, None
+
+    def state(self):
+        return self.phase, len(self.held), self.held.ljust(PACKET_LIMIT, b"\0")
+
+
+def connection_in(phase, fill, held):
+    """The connection in a state; 19 if it is closed, or if no feeds from a fresh one give it. That is found out by
+    feeding: a state tells only of the item not yet finished, so its bytes, behind a login where one has been, are all
+    that can matter."""
+    if phase == CLOSED:
+        raise Refused(19, place="closed")
+    if phase > CLOSED:
+        raise Refused(19, place="phase")
+    if len(held) != PACKET_LIMIT:
+        raise Refused(19, place="length")
+    if fill > PACKET_LIMIT:
+        raise Refused(19, place="fill")
+    connection = Connection()
+    if phase == EXPECTS_PACKET:
+        connection.feed(b"\x00\x0f" + b"0" * 15)
+    _, item, refusal = connection.feed(held[:fill])
+    if refusal:
+        raise Refused(19, place=f"{refusal.number} held")
+    if item != NO_ITEM:
+        raise Refused(19, place="login held" if item.kind == 1 else "packet held")
+    if connection.state() != (phase, fill, held):
+        raise Refused(19, place="spare byte")
+    return connection
+
+
 # ---------------------------------------------------------------- the calls
 
 def shown(data):
@@ -573,8 +657,68 @@ def contents_of_datagram(data):
     return contents(datagram, datagram.packet, datagram.unused, datagram.avl, datagram.imei)
 
 
+def lent_held(held, length):
+    return held.ljust(length, b"\0")[:length]
+
+
+def state_words(phase, fill, held):
+    return f"{phase} {fill} {shown(held.rstrip(bytes(1)))}"
+
+
+def fed_words(used, item, refusal, state):
+    head = f"refused {refusal.number} {refusal.index}" if refusal else "fed 0 0"
+    return f"{head} {used} {item.kind} {item.imei} {len(item.packet)} {shown(item.packet)} {state_words(*state)}"
+
+
+def fed(phase, fill, held, data, room):
+    """A feed with room for the packet."""
+    try:
+        connection = connection_in(phase, fill, held)
+        if room < PACKET_LIMIT:
+            raise Refused(18, place="by one" if room == PACKET_LIMIT - 1 else "by more")
+    except Refused as refusal:
+        return fed_words(0, NO_ITEM, refusal, (phase, fill, held)), refusal
+    used, item, refusal = connection.feed(data)
+    return fed_words(used, item, refusal, connection.state()), refusal
+
+
+def feed(phase, fill, held, length, data, room):
+    """A feed by value, whose answer has the room, if the state has its length; and one with a lent state and buffer."""
+    held = lent_held(held, length)
+    value = fed(phase, fill, held, data, PACKET_LIMIT)[0] if length == PACKET_LIMIT else "-"
+    lent, refusal = fed(phase, fill, held, data, room)
+    return f"{value} lent {lent}", refusal
+
+
+def wanted(phase, fill, held, length):
+    try:
+        connection = connection_in(phase, fill, lent_held(held, length))
+    except Refused as refusal:
+        return "wanted 0", refusal
+    return f"wanted {connection.due() - len(connection.held)}", None
+
+
+def stream(_, data):
+    """The items and the end of a stream. Where it is cut changes nothing."""
+    connection, used, refusal = Connection(), 0, None
+    answer = "items"
+    while used < len(data) and not refusal:
+        more, item, refusal = connection.feed(data[used:])
+        used += more
+        answer += ("", f" login {item.imei}", f" packet {shown(item.packet)}")[item.kind]
+    number, index = (refusal.number, refusal.index) if refusal else (0, 0)
+    answer += f" end {number} {index} {used} {state_words(*connection.state())}"
+    return f"{answer} lent {answer}", refusal
+
+
+def fresh(*_):
+    """A fresh connection, which is also what any other is reset to."""
+    return "state " + state_words(*Connection().state()), None
+
+
 # Each call: its sort of answer, the sorts of its words, its function. The last
-# word of a 'write' call, the lent buffer, does not go to the function.
+# word of a 'write' call, the lent buffer, does not go to the function. That of a
+# 'whole' call gives the answer itself, and the refusal in it or behind it.
 CALLS = {
     "read_packet": ("read", "P", packet_words),
     "read_datagram": ("read", "P", datagram_words),
@@ -602,9 +746,14 @@ CALLS = {
     "packet_of_form": ("write", "PP", packet_of_form),
     "contents_of_packet": ("write", "PW", contents_of_packet),
     "contents_of_datagram": ("write", "PW", contents_of_datagram),
+    "fresh": ("whole", "", fresh),
+    "reset": ("whole", "BNP", fresh),
+    "wanted": ("whole", "BNPL", wanted),
+    "feed": ("whole", "BNPLPL", feed),
+    "stream": ("whole", "SP", stream),
 }
 
-# How many fields an answer of C has besides the number and the index.
+# How many fields an answer of C has besides the number and the index, all 0 on a refusal.
 FIELDS = {
     "read_packet": 2, "read_datagram": 6, "read_login": 1, "read_command": 5, "record_in_packet": 11,
     "record_in_datagram": 11, "value_in_packet": 4, "value_in_datagram": 4, "id_in_packet": 4, "id_in_datagram": 4,
@@ -612,9 +761,11 @@ FIELDS = {
     "form_of_packet": 1, "form_of_datagram": 1, "packet_of_form": 1, "contents_of_packet": 1, "contents_of_datagram": 1,
 }
 
-# The sorts of words: P bytes; W a buffer of 64-bit words; numbers below these bounds.
-BOUNDS = {"N": 1 << 64, "I": 1 << 16, "B": 1 << 8, "K": 2}
+# The sorts of words: P bytes; W a buffer of 64-bit words; S sizes of pieces, which go over and over; numbers below
+# these bounds.
+BOUNDS = {"N": 1 << 64, "I": 1 << 16, "L": 1 << 16, "B": 1 << 8, "K": 2}
 DECIMAL = re.compile(r"[0-9]{1,20}")
+SIZES = re.compile(r"(?=.*[1-9])[0-9]{1,9}(,[0-9]{1,9})*")
 
 
 def argument(sort, word):
@@ -628,6 +779,10 @@ def argument(sort, word):
         if sort == "W" and len(data) % WORD:
             raise ValueError("no whole number of 64-bit words")
         return data
+    if sort == "S":
+        if not SIZES.fullmatch(word):
+            raise ValueError("not sizes of pieces")
+        return word
     if not DECIMAL.fullmatch(word) or int(word) >= BOUNDS[sort]:
         raise ValueError("not a number of this place")
     return int(word)
@@ -639,8 +794,8 @@ def unit(name):
 
 
 def evaluate(line):
-    """The answer to a call line, and the refusal behind it or None. A view shows
-    no refusal; it is given all the same."""
+    """The answer to a call line, and the refusal behind it or None. A view or how
+    many bytes are wanted shows no refusal; it is given all the same."""
     words = line.split()
     if not words or words[0] not in CALLS:
         return "error unknown call", None
@@ -651,6 +806,8 @@ def evaluate(line):
         arguments = [argument(sort, word) for sort, word in zip(sorts, words[1:])]
     except ValueError as error:
         return "error " + str(error), None
+    if answered == "whole":
+        return function(*arguments)
     lent = arguments.pop() if answered == "write" else b""
     try:
         result = function(*arguments)

@@ -3,7 +3,8 @@
  *
  * Every call judges its input itself and answers every input. `number` is 0 where the input is accepted. Else it is
  * the refusal's number, and `index` is the record's index from 0, which goes with 8 to 12 in data packets and
- * datagrams (left-over bytes: the number of records). `index` is 0 otherwise, and on a refusal all other fields are 0.
+ * datagrams (left-over bytes: the number of records). `index` is 0 otherwise, and on a refusal all other fields are 0;
+ * only a feed still says how many bytes it used and what the connection's state is.
  *
  *    1  under 8 bytes (TCP packet), 17 (login), 26 (UDP)
  *    2  first four bytes not zero
@@ -23,11 +24,12 @@
  *   16  no such record, element or ID
  *   17  not the TLV form of any acceptable TCP data packet
  *   18  lent buffer too short for the result
+ *   19  connection closed, or a state that no feeds from a fresh one give
  *
  * An input is a pointer and a length; a null pointer with length 0 is an empty input, and so for buffers. A call that
  * writes puts its result at the start of the lent buffer `out` and changes nothing behind it; a refusal changes no
- * byte. Inputs and buffers must not overlap. The library allocates nothing and keeps nothing between calls, so calls
- * may run in any number of threads at once.
+ * byte of it. Inputs, buffers and lent states must not overlap. The library allocates nothing and keeps nothing between
+ * calls (a connection's state is the caller's), so calls may run in any number of threads at once.
  */
 #ifndef BRUNDILOPE_H
 #define BRUNDILOPE_H
@@ -253,6 +255,89 @@ static inline uint16_t brundilope_contents_value_id(uint64_t v) { return (uint16
 static inline uint8_t brundilope_contents_value_kind(uint64_t v) { return (uint8_t)(v >> 16); }
 static inline size_t brundilope_contents_value_offset(uint64_t v) { return (uint16_t)(v >> 32); }
 static inline size_t brundilope_contents_value_size(uint64_t v) { return (uint16_t)(v >> 48); }
+
+/* ---- a connection: fed as the socket gives the bytes, cut anywhere
+ *
+ * A connection is one login, then data or command packets. A feed takes the state and the next bytes. It uses every
+ * byte up to the one that finishes or refuses an item and none after it, and says how many it used; the unused rest is
+ * fed again. A login is judged when 17 bytes are gathered (15), a packet's header at 8 (2, 3), the rest when the whole
+ * packet is (5, then 7, 8, 13, 14, 15 for codecs 0x0C and 0x0E, and 6 to 12 for all others); 1 and 4 never occur.
+ * However the bytes are cut, the items, the closing refusal and the state at the end are the same.
+ *
+ * Any refusal but 18 and 19 closes the connection, and each later feed gives 19. So does a feed of a state that no
+ * feeds from a fresh one give, for example with a byte behind `fill` that is not zero. 19 comes before all others, on
+ * an empty feed too; it uses no byte and changes nothing.
+ *
+ * A unit forgets its records once they are acknowledged: store a data packet that a feed gave, then answer it with the
+ * bytes 0, 0, 0 and brundilope_count_of(packet); brundilope_acknowledge_packet gives the same and judges it again. */
+
+/* The state of a connection: what is gathered of the next item. All zero bytes are a fresh one. All fields are the
+ * library's: the caller keeps them and hands them back as they are, and may read them. */
+struct brundilope_connection {
+    uint8_t held[BRUNDILOPE_LARGEST]; /* the bytes gathered so far, zeros behind them */
+    size_t fill;                      /* how many they are */
+    uint8_t phase;                    /* 0 the login is expected, 1 packets are, 2 closed */
+};
+
+/* What a feed gives, with the state by value. */
+struct brundilope_fed {
+    size_t number;
+    size_t index;
+    size_t used;   /* how many of the bytes were used */
+    uint8_t item;  /* 1 a login, 2 a packet; 0 none: more bytes are needed, unless `number` says why */
+    uint64_t imei; /* of the login, below 10^15; else 0 */
+    size_t size;   /* of the packet; else 0 */
+    uint8_t packet[BRUNDILOPE_LARGEST]; /* its bytes, zeros behind them; all zero where there is none */
+    struct brundilope_connection state; /* for the next feed; without bytes after an item or a refusal but 19 */
+};
+
+/* What a feed of a lent state gives; fields of the same name mean the same. */
+struct brundilope_taken {
+    size_t number;
+    size_t index;
+    size_t used;
+    uint8_t item;
+    uint64_t imei;
+    size_t size; /* of the packet, which stands at the start of the lent buffer */
+    size_t fill; /* the state's, for the next feed, as is `phase` */
+    uint8_t phase;
+};
+
+/* A fresh connection: all zero bytes. */
+struct brundilope_connection brundilope_fresh(void);
+
+/* Feeds the next bytes. Refusals 19, 15 for a login, 2, 3, 5 to 15 for a packet. */
+struct brundilope_fed brundilope_feed(struct brundilope_connection state, const uint8_t *bytes, size_t bytes_len);
+
+/* A fresh connection in place of any state, a closed one or a broken one too. */
+struct brundilope_connection brundilope_reset(struct brundilope_connection state);
+
+/* The same feed for a state that is lent. `held` are the state's BRUNDILOPE_LARGEST bytes (19 if `held_len` is another
+ * number), and afterwards it holds what the state by value would: it is unchanged where nothing was held and the item
+ * is whole in `bytes`. A packet is put at the start of the buffer `packet`; nothing behind it is changed, and no byte
+ * where there is no packet. Refusals: 19, then 18, then those of brundilope_feed. 18 says that `packet_len` is under
+ * BRUNDILOPE_LARGEST, whatever the bytes are; it uses no byte, changes nothing and does not close. */
+struct brundilope_taken brundilope_feed_lent(uint8_t phase, size_t fill, uint8_t *held, size_t held_len,
+                                             const uint8_t *bytes, size_t bytes_len,
+                                             uint8_t *packet, size_t packet_len);
+
+/* How many more bytes are wanted before anything is judged; 0 where a feed gives 19. */
+size_t brundilope_wanted(uint8_t phase, size_t fill, const uint8_t *held, size_t held_len);
+
+/* Feeds a state where it stands: for callers who keep many, of 1,296 bytes each. */
+static inline struct brundilope_taken brundilope_feed_at(struct brundilope_connection *c,
+                                                         const uint8_t *bytes, size_t bytes_len,
+                                                         uint8_t *packet, size_t packet_len) {
+    struct brundilope_taken taken =
+        brundilope_feed_lent(c->phase, c->fill, c->held, sizeof c->held, bytes, bytes_len, packet, packet_len);
+    c->fill = taken.fill;
+    c->phase = taken.phase;
+    return taken;
+}
+
+/* Of a packet that a feed gave: its codec, and its number of records, 1 for a command. */
+static inline uint8_t brundilope_codec_of(const uint8_t *packet) { return packet[8]; }
+static inline uint8_t brundilope_count_of(const uint8_t *packet) { return packet[9]; }
 
 /* ---- answering */
 

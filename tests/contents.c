@@ -1,19 +1,9 @@
 /* Each function of the header that reads a table of contents, on a datagram: its last record begins behind byte 255 and
  * has no two fields alike, the others have priorities 0 to 2 and else zeros. Valid in C and in C++. */
-#include <stdio.h>
 #include <string.h>
 
 #include "brundilope.h"
-
-#define HOLD(given, expected) hold(#given, (long long)(given), expected)
-
-static int wrong;
-
-static void hold(const char *what, long long given, long long expected) {
-    if (given == expected) return;
-    printf("%s is %lld, not %lld\n", what, given, expected);
-    wrong = 1;
-}
+#include "hold.h"
 
 enum { BARE = 8, BARE_SIZE = 32, WORDS = 2 + 4 * (BARE + 1) + 3 }; /* records before the last; their size */
 

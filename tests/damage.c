@@ -1,7 +1,7 @@
-/* Linked around three calls by the linker's --wrap, does what DAMAGE says: what the driver has to see. */
+/* Linked around five calls by the linker's --wrap, does what DAMAGE says: what the driver has to see. */
 #include "brundilope.h"
 
-enum { COUNT = 1, BEFORE, BEHIND, INPUT, WORD };
+enum { COUNT = 1, BEFORE, BEHIND, INPUT, WORD, STATE, SPARE, HELD, LENT };
 
 struct brundilope_packet __real_brundilope_read_packet(const uint8_t *p, size_t p_len);
 struct brundilope_packet __wrap_brundilope_read_packet(const uint8_t *p, size_t p_len);
@@ -9,6 +9,13 @@ struct brundilope_written __real_brundilope_acknowledge_packet(const uint8_t *p,
 struct brundilope_written __wrap_brundilope_acknowledge_packet(const uint8_t *p, size_t p_len, uint8_t *out, size_t out_len);
 struct brundilope_written __real_brundilope_contents_of_packet(const uint8_t *p, size_t p_len, uint64_t *out, size_t out_len);
 struct brundilope_written __wrap_brundilope_contents_of_packet(const uint8_t *p, size_t p_len, uint64_t *out, size_t out_len);
+
+struct brundilope_fed __real_brundilope_feed(struct brundilope_connection state, const uint8_t *bytes, size_t bytes_len);
+struct brundilope_fed __wrap_brundilope_feed(struct brundilope_connection state, const uint8_t *bytes, size_t bytes_len);
+struct brundilope_taken __real_brundilope_feed_lent(uint8_t phase, size_t fill, uint8_t *held, size_t held_len, const uint8_t *bytes,
+                                                    size_t bytes_len, uint8_t *packet, size_t packet_len);
+struct brundilope_taken __wrap_brundilope_feed_lent(uint8_t phase, size_t fill, uint8_t *held, size_t held_len, const uint8_t *bytes,
+                                                    size_t bytes_len, uint8_t *packet, size_t packet_len);
 
 struct brundilope_packet __wrap_brundilope_read_packet(const uint8_t *p, size_t p_len) {
     struct brundilope_packet answer = __real_brundilope_read_packet(p, p_len);
@@ -27,5 +34,20 @@ struct brundilope_written __wrap_brundilope_acknowledge_packet(const uint8_t *p,
 struct brundilope_written __wrap_brundilope_contents_of_packet(const uint8_t *p, size_t p_len, uint64_t *out, size_t out_len) {
     struct brundilope_written answer = __real_brundilope_contents_of_packet(p, p_len, out, out_len);
     if (DAMAGE == WORD) out[out_len] ^= 1;
+    return answer;
+}
+
+struct brundilope_fed __wrap_brundilope_feed(struct brundilope_connection state, const uint8_t *bytes, size_t bytes_len) {
+    struct brundilope_fed answer = __real_brundilope_feed(state, bytes, bytes_len);
+    if (DAMAGE == STATE) answer.state.held[answer.state.fill] = 1;
+    if (DAMAGE == SPARE) answer.packet[answer.size] = 1;
+    return answer;
+}
+
+struct brundilope_taken __wrap_brundilope_feed_lent(uint8_t phase, size_t fill, uint8_t *held, size_t held_len, const uint8_t *bytes,
+                                                    size_t bytes_len, uint8_t *packet, size_t packet_len) {
+    struct brundilope_taken answer = __real_brundilope_feed_lent(phase, fill, held, held_len, bytes, bytes_len, packet, packet_len);
+    if (DAMAGE == HELD) held[answer.fill] = 1;
+    if (DAMAGE == LENT) packet[answer.size] ^= 1;
     return answer;
 }
