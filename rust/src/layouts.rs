@@ -1,7 +1,7 @@
 //! Holds the structs of `raw` to the lines of tests/layouts, as tests/layouts.c holds the header's.
 use core::mem::{offset_of, size_of};
 
-use crate::raw::{Command, Datagram, Known, Login, Packet, Record, Value, Written};
+use crate::raw::{Command, Connection, Datagram, Known, Login, Packet, Record, Taken, Value, Written};
 
 fn size_of_field<S, F>(_: fn(&S) -> &F) -> usize {
     size_of::<F>()
@@ -26,7 +26,8 @@ macro_rules! lines {
 #[test]
 fn layouts_are_those_of_the_header() {
     let told = include_str!("../../tests/layouts");
-    let told: Vec<&str> = told.lines().filter(|line| line.ends_with(')')).collect();
+    // all but `fed`, which holds a connection by value: no call of this crate gives it
+    let told: Vec<&str> = told.lines().filter(|line| line.ends_with(')') && !line.contains("(fed,")).collect();
     let own = lines! {
         Packet as "packet" { number, index, codec, count }
         Datagram as "datagram" { number, index, codec, count, packet_id, unused, avl_packet_id, imei }
@@ -39,6 +40,8 @@ fn layouts_are_those_of_the_header() {
         Value as "value" { number, index, id, kind, offset, size }
         Known as "known" { number, index, older, id, kind, offset, size }
         Written as "written" { number, index, written }
+        Connection as "connection" { held, fill, phase }
+        Taken as "taken" { number, index, used, item, imei, size, fill, phase }
     };
     assert_eq!(own.as_slice(), told.as_slice());
 }

@@ -22,6 +22,23 @@
 //! # Ok::<(), brundilope::Refusal>(())
 //! ```
 //!
+//! A [`Connection`] takes what comes from a unit's socket, cut anyhow, and gives out each login, data packet and command
+//! as soon as it is whole; `examples/gateway.rs` is a gateway around it:
+//!
+//! ```
+//! use brundilope::{samples, Connection, Item};
+//!
+//! let mut connection = Connection::new();
+//! let received = [samples::LOGIN, samples::CODEC8].concat();
+//! for item in connection.items(&received) {
+//!     match item {
+//!         Item::Login(login) => assert_eq!(login.answer(true), [1]),
+//!         Item::Data(data) => assert_eq!(data.ack(), [0, 0, 0, 1]),
+//!         other => println!("{other:?}"),
+//!     }
+//! }
+//! ```
+//!
 //! The functions are for one thing at a time, such as a value by its ID ([`id_in_packet`]): each call judges its whole
 //! input anew.
 //!
@@ -48,6 +65,7 @@ pub const LARGEST_FORM: usize = 4 * LARGEST;
 /// The most words of a table of contents: it has at most one for every two bytes of its packet or datagram.
 pub const LARGEST_CONTENTS: usize = LARGEST / 2;
 
+mod connection;
 mod contents;
 #[cfg(test)]
 mod layouts;
@@ -60,6 +78,7 @@ mod refusal;
 pub mod samples;
 mod writing;
 
+pub use connection::{Connection, Fed, Item, Items, Phase, ReceivedCommand, ReceivedData};
 pub use contents::{Contents, DataDatagram, DataPacket, OwnedDatagram, OwnedPacket};
 pub use lookup::{
     id_in_datagram, id_in_packet, last_known, record_in_datagram, record_in_packet, value_in_datagram, value_in_packet,

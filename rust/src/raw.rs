@@ -2,6 +2,8 @@
 use core::mem::MaybeUninit;
 use core::slice;
 
+use crate::LARGEST;
+
 #[repr(C)]
 pub struct Packet {
     pub number: usize,
@@ -83,6 +85,26 @@ pub struct Written {
     pub number: usize,
     pub index: usize,
     pub written: usize,
+}
+
+#[repr(C)]
+#[derive(Clone, PartialEq, Eq, Hash)]
+pub struct Connection {
+    pub held: [u8; LARGEST],
+    pub fill: usize,
+    pub phase: u8,
+}
+
+#[repr(C)]
+pub struct Taken {
+    pub number: usize,
+    pub index: usize,
+    pub used: usize,
+    pub item: u8,
+    pub imei: u64,
+    pub size: usize,
+    pub fill: usize,
+    pub phase: u8,
 }
 
 /// Declares calls on one input: its pointer and length, then numbers.
@@ -185,4 +207,60 @@ pub fn write_command(codec: u8, message_type: u8, imei: &[u8], text: &[u8], out:
     unsafe {
         brundilope_write_command(codec, message_type, imei_at, imei.len(), text_at, text.len(), out_at, out.len())
     }
+}
+
+extern "C" {
+    fn brundilope_feed_lent(
+        phase: u8,
+        fill: usize,
+        held: *mut u8,
+        held_len: usize,
+        bytes: *const u8,
+        bytes_len: usize,
+        packet: *mut u8,
+        packet_len: usize,
+    ) -> Taken;
+
+    fn brundilope_wanted(phase: u8, fill: usize, held: *const u8, held_len: usize) -> usize;
+}
+
+/// A packet by value, or none yet: its bytes at the start of a room for any, nothing behind them.
+#[derive(Clone)]
+pub struct Given {
+    room: [MaybeUninit<u8>; LARGEST],
+    size: usize,
+}
+
+impl Given {
+    #[inline]
+    pub const fn none() -> Self {
+        Given { room: [MaybeUninit::uninit(); LARGEST], size: 0 }
+    }
+
+    #[inline]
+    pub fn bytes(&self) -> &[u8] {
+        let written = &self.room[..self.size];
+        // SAFETY: only `feed` sets `size`, to the number of bytes that the call has written at the room's start, and
+        // these are they.
+        unsafe { slice::from_raw_parts(written.as_ptr().cast(), written.len()) }
+    }
+}
+
+#[inline]
+pub fn feed(state: &mut Connection, bytes: &[u8], packet: &mut Given) -> Taken {
+    let (held, room) = (&mut state.held, &mut packet.room);
+    let (held_at, room_at) = (held.as_mut_ptr(), room.as_mut_ptr().cast());
+    let (bytes_at, bytes_len) = (bytes.as_ptr(), bytes.len());
+    // SAFETY: pointers and lengths are those of two arrays and a slice, which do not overlap since the arrays are
+    // `&mut`; the call writes only within the arrays, does not read the room and keeps none of them.
+    let taken = unsafe {
+        brundilope_feed_lent(state.phase, state.fill, held_at, held.len(), bytes_at, bytes_len, room_at, room.len())
+    };
+    (state.fill, state.phase, packet.size) = (taken.fill, taken.phase, taken.size);
+    taken
+}
+
+pub fn wanted(state: &Connection) -> usize {
+    // SAFETY: pointer and length are those of an array, which the call only reads, and it keeps neither.
+    unsafe { brundilope_wanted(state.phase, state.fill, state.held.as_ptr(), state.held.len()) }
 }

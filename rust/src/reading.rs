@@ -35,6 +35,20 @@ pub struct Login {
     pub imei: u64,
 }
 
+impl Login {
+    /// The answer: 01 to a unit that the caller knows, else 00. That to a refused login is 00.
+    ///
+    /// ```
+    /// let login = brundilope::read_login(brundilope::samples::LOGIN)?;
+    /// assert_eq!(login.answer(login.imei == 356_307_042_441_013), [1]);
+    /// # Ok::<(), brundilope::Refusal>(())
+    /// ```
+    #[must_use]
+    pub fn answer(self, known: bool) -> [u8; 1] {
+        [known.into()]
+    }
+}
+
 /// A command packet.
 #[derive(Clone, Copy, Debug, PartialEq, Eq, Hash)]
 pub struct Command<'a> {

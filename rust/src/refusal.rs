@@ -2,8 +2,8 @@
 use std::error::Error;
 use std::fmt::{Display, Formatter, Result as Printed};
 
-/// The meanings of refusals 1 to 18, as in include/brundilope.h.
-const MEANINGS: [&str; 18] = [
+/// The meanings of refusals 1 to 19, as in include/brundilope.h.
+const MEANINGS: [&str; 19] = [
     "under 8 bytes (TCP packet), 17 (login), 26 (UDP)",
     "first four bytes not zero",
     "data length outside 3 to 1,268; datagram over 1,280",
@@ -22,6 +22,7 @@ const MEANINGS: [&str; 18] = [
     "no such record, element or ID",
     "not the TLV form of any acceptable TCP data packet",
     "lent buffer too short for the result",
+    "connection closed, or a state that no feeds from a fresh one give",
 ];
 
 /// Why an input was refused.
@@ -39,7 +40,7 @@ const MEANINGS: [&str; 18] = [
 /// ```
 #[derive(Clone, Copy, Debug, PartialEq, Eq, Hash)]
 pub struct Refusal {
-    /// The number, 1 to 18.
+    /// The number, 1 to 19.
     pub number: usize,
     /// The record's index, from 0. It goes with 8 to 12 in data packets and datagrams; left-over bytes have the number
     /// of records.

@@ -179,12 +179,12 @@ fn all_samples_are_accepted() {
 #[test]
 fn meanings_are_those_of_the_header() {
     let header = include_str!("../../include/brundilope.h");
-    for number in 1..=18 {
+    for number in 1..=19 {
         let meaning = Refusal { number, record: None }.meaning();
         let line = format!("\n *   {number:2}  {meaning}\n");
         assert!(header.contains(&line), "not in the header: {line}");
     }
-    assert_eq!(Refusal { number: 0, record: None }.meaning(), Refusal { number: 19, record: None }.meaning());
+    assert_eq!(Refusal { number: 0, record: None }.meaning(), Refusal { number: 20, record: None }.meaning());
 }
 
 #[test]

@@ -1,0 +1,261 @@
+//! A connection gives the same items however its bytes are cut, and those that the calls for one thing each accept.
+use brundilope::*;
+use inputs::{long_form, packet, with, DATA};
+
+#[allow(dead_code)] // the rest is for other tests
+mod inputs;
+
+const CODEC: usize = 8;
+
+/// What a unit might send, item by item.
+fn sent() -> Vec<Vec<u8>> {
+    use samples::*;
+    [LOGIN, CODEC8, CODEC12_RESPONSE, &packet(&DATA), CODEC14_RESPONSE, CODEC16].map(<[u8]>::to_vec).into()
+}
+
+/// All items of bytes that come in these pieces; every feed uses all of its bytes.
+fn items<'a>(connection: &mut Connection, pieces: impl IntoIterator<Item = &'a [u8]>) -> Vec<Item> {
+    let mut all = Vec::new();
+    for piece in pieces {
+        let mut items = connection.items(piece);
+        all.extend(items.by_ref());
+        assert_eq!(items.used(), piece.len());
+    }
+    all
+}
+
+/// A connection after the login.
+fn logged_in() -> Connection {
+    let mut connection = Connection::new();
+    assert_eq!(connection.feed(samples::LOGIN).item, Item::Login(read_login(samples::LOGIN).unwrap()));
+    connection
+}
+
+/// The bytes of an item.
+fn bytes(item: &Item) -> &[u8] {
+    match item {
+        Item::Login(_) => samples::LOGIN,
+        Item::Data(data) => data.bytes(),
+        Item::Command(command) => command.bytes(),
+        other => panic!("{other:?}"),
+    }
+}
+
+#[test]
+fn items_are_the_same_however_they_are_cut() {
+    let stream = sent().concat();
+    let whole = items(&mut Connection::new(), [&stream[..]]);
+    assert_eq!(whole.iter().map(bytes).collect::<Vec<_>>(), sent());
+    for cut in 0..=stream.len() {
+        let (first, second) = stream.split_at(cut);
+        assert_eq!(items(&mut Connection::new(), [first, second]), whole, "cut at {cut}");
+    }
+    for size in [1, 2, 7, 64] {
+        assert_eq!(items(&mut Connection::new(), stream.chunks(size)), whole, "pieces of {size}");
+    }
+}
+
+#[test]
+fn states_are_the_same_however_they_are_fed() {
+    let (mut bytewise, mut fed) = (Connection::new(), Vec::new());
+    for (n, item) in sent().into_iter().enumerate() {
+        let (phase, head) = if n == 0 { (Phase::Login, 17) } else { (Phase::Packets, 8) };
+        for (held, byte) in item.iter().enumerate() {
+            let mut at_once = Connection::new();
+            items(&mut at_once, [&fed[..]]);
+            assert_eq!(bytewise, at_once, "after {} bytes", fed.len());
+            assert_eq!((bytewise.phase(), bytewise.held()), (phase, &item[..held]));
+            assert_eq!(bytewise.wanted(), if held < head { head } else { item.len() } - held);
+            items(&mut bytewise, [&[*byte][..]]);
+            fed.push(*byte);
+        }
+    }
+}
+
+#[test]
+fn who_reads_what_is_wanted_never_reads_too_much() {
+    let stream = sent().concat();
+    let (mut connection, mut rest, mut given) = (Connection::default(), &stream[..], Vec::new());
+    while !rest.is_empty() {
+        let (wanted, behind) = rest.split_at(connection.wanted());
+        let fed = connection.feed(wanted);
+        assert_eq!(fed.used, wanted.len());
+        given.push(fed.item);
+        rest = behind;
+    }
+    given.retain(|item| *item != Item::More);
+    assert_eq!(given.iter().map(bytes).collect::<Vec<_>>(), sent());
+}
+
+#[test]
+fn a_feed_stops_behind_its_item() {
+    let stream = sent().concat();
+    let (mut connection, mut rest) = (Connection::new(), &stream[..]);
+    for item in sent() {
+        let Fed { used, item: given } = connection.feed(rest);
+        assert_eq!((used, bytes(&given)), (item.len(), &item[..]));
+        assert_eq!(connection.held(), []);
+        rest = &rest[used..];
+    }
+    assert_eq!(connection.feed(rest), Fed { used: 0, item: Item::More });
+}
+
+#[test]
+fn an_empty_feed_changes_nothing() {
+    let mut connection = Connection::new();
+    for byte in sent().concat() {
+        let before = connection.clone();
+        assert_eq!(connection.feed(&[]), Fed { used: 0, item: Item::More });
+        assert_eq!(connection.items(&[]).next(), None);
+        assert_eq!(connection, before);
+        let _ = connection.feed(&[byte]);
+    }
+}
+
+#[test]
+fn packets_are_read_as_by_themselves() {
+    let mut longest = vec![0; LARGEST];
+    assert_eq!(packet_of_form(&long_form(108), &mut longest), Ok(LARGEST));
+    let mut long_command = vec![0; LARGEST];
+    assert_eq!(write_command(0x0C, 0x06, b"", &[b'x'; LARGEST - 20], &mut long_command), Ok(LARGEST));
+    let mut connection = logged_in();
+    for input in [longest, long_command].iter().chain(&sent()[1..]) {
+        let (mut room, mut own) = (Contents::new(), Contents::new());
+        match connection.feed(input).item {
+            Item::Data(data) => {
+                assert_eq!(Ok(data.read(&mut room)), DataPacket::read(input, &mut own));
+                assert_eq!(Ok(Packet { codec: data.codec(), count: data.count() }), read_packet(input));
+                assert_eq!(data.ack(), data.read(&mut room).ack());
+            }
+            Item::Command(command) => assert_eq!(Ok(command.read()), read_command(input)),
+            other => panic!("{other:?}"),
+        }
+    }
+}
+
+#[test]
+fn a_login_is_answered_as_by_itself() {
+    for known in [false, true] {
+        let mut answer = [0xEE];
+        assert_eq!(answer_login(samples::LOGIN, known, &mut answer), Ok(1));
+        assert_eq!(read_login(samples::LOGIN).unwrap().answer(known), answer);
+    }
+}
+
+/// The connection is closed, and says so as often as it is fed.
+fn stays_closed(connection: &mut Connection) {
+    let closed = Item::Refused(Refusal { number: 19, record: None });
+    let before = connection.clone();
+    assert!(connection.is_closed());
+    assert_eq!((connection.phase(), connection.held(), connection.wanted()), (Phase::Closed, &[][..], 0));
+    for input in [samples::CODEC8, samples::LOGIN, &[]] {
+        assert_eq!(connection.feed(input), Fed { used: 0, item: closed.clone() });
+        let mut items = connection.items(input);
+        assert_eq!(items.next(), Some(closed.clone()));
+        assert_eq!((items.next(), items.next(), items.used()), (None, None, 0));
+    }
+    assert_eq!(*connection, before);
+    connection.reset();
+    assert_eq!(*connection, Connection::new());
+}
+
+/// A refused item closes the connection with this refusal once so many of its bytes are there, wherever it is cut.
+fn refused(fresh: &Connection, input: &[u8], used: usize, refusal: Refusal) {
+    let behind = [input, samples::CODEC8].concat();
+    for cut in 0..used {
+        let mut connection = fresh.clone();
+        assert_eq!(connection.feed(&behind[..cut]), Fed { used: cut, item: Item::More });
+        let item = Item::Refused(refusal);
+        assert_eq!(connection.feed(&behind[cut..]), Fed { used: used - cut, item }, "cut at {cut}");
+        stays_closed(&mut connection);
+    }
+}
+
+#[test]
+fn refusals_close() {
+    let no = |number| Refusal { number, record: None };
+    let login = with(samples::LOGIN, 16, b':');
+    refused(&Connection::new(), &login, 17, no(15));
+    refused(&Connection::new(), samples::CODEC8, 17, no(15));
+    let open = logged_in();
+    refused(&open, samples::LOGIN, 8, no(2));
+    for length in [0, 2, 1269, 1 << 24] {
+        refused(&open, &[0; 4].into_iter().chain(u32::to_be_bytes(length)).collect::<Vec<_>>(), 8, no(3));
+    }
+    let crc = with(samples::CODEC8, 65, 0);
+    refused(&open, &crc, 66, no(5));
+    let fields = [
+        (no(6), vec![0x0D, 1, 1]),
+        (no(7), vec![0x08, 0, 0]),
+        (Refusal { number: 8, record: Some(0) }, vec![0x08, 1, 1]),
+        (Refusal { number: 10, record: Some(1) }, with(&DATA, 48, 3)),
+        (no(7), vec![0x0C, 2, 2]),
+        (no(8), vec![0x0C, 1, 1]),
+        (no(8), vec![0x0E, 1, 1]),
+        (no(13), vec![0x0C, 1, 0x11, 0, 0, 0, 0, 1]),
+        (no(14), vec![0x0C, 1, 5, 0, 0, 0, 1, 1]),
+        (no(15), vec![0x0E, 1, 5, 0, 0, 0, 8, 0x10, 0, 0, 0, 0, 0, 0, 0, 1]),
+    ];
+    for (refusal, data) in fields {
+        refused(&open, &packet(&data), data.len() + 12, refusal);
+    }
+}
+
+#[test]
+fn refusals_are_those_of_reading() {
+    let open = logged_in();
+    for (place, byte) in DATA.into_iter().enumerate() {
+        for wrong in [0, 3, 0x0C, byte.wrapping_add(1)] {
+            let input = packet(&with(&DATA, place, wrong));
+            let expected = match input[CODEC] {
+                0x0C | 0x0E => read_command(&input).map(|_| ()),
+                _ => read_packet(&input).map(|_| ()),
+            };
+            let fed = open.clone().feed(&input);
+            assert_eq!(fed.used, input.len());
+            match fed.item {
+                Item::Refused(refusal) => assert_eq!(Err(refusal), expected),
+                item => assert_eq!((bytes(&item), expected), (&input[..], Ok(()))),
+            }
+        }
+    }
+}
+
+#[test]
+fn items_end_with_the_refusal() {
+    let input = [samples::LOGIN, samples::CODEC8, b"no packet", samples::CODEC16].concat();
+    let mut connection = Connection::new();
+    let mut items = connection.items(&input);
+    let given: Vec<Item> = items.by_ref().collect();
+    assert_eq!(given.iter().take(2).map(bytes).collect::<Vec<_>>(), [samples::LOGIN, samples::CODEC8]);
+    assert_eq!(given[2..], [Item::Refused(Refusal { number: 2, record: None })]);
+    assert_eq!((items.next(), items.used()), (None, 17 + 66 + 8));
+    stays_closed(&mut connection);
+}
+
+#[test]
+fn items_not_asked_for_are_not_fed() {
+    let stream = sent().concat();
+    let mut connection = Connection::new();
+    drop(connection.items(&stream));
+    assert_eq!(connection, Connection::new());
+    let mut items = connection.items(&stream);
+    assert_eq!(items.by_ref().take(2).count(), 2);
+    let used = items.used();
+    assert_eq!((used, connection.held()), (17 + 66, &[][..]));
+    assert_eq!(connection.items(&stream[used..]).count(), 4);
+}
+
+#[test]
+fn all_can_be_shown() {
+    let mut connection = logged_in();
+    let fed = connection.feed(&[0, 0]);
+    assert_eq!(format!("{fed:?}"), "Fed { used: 2, item: More }");
+    assert_eq!(format!("{connection:?}"), "Connection { phase: Packets, held: [0, 0] }");
+    assert_eq!(
+        format!("{:?}", logged_in().feed(samples::CODEC8).item),
+        format!("Data(ReceivedData({:?}))", samples::CODEC8)
+    );
+    let command = samples::CODEC12_COMMAND;
+    assert_eq!(format!("{:?}", logged_in().feed(command).item), format!("Command(ReceivedCommand({command:?}))"));
+}
