@@ -1,7 +1,8 @@
 //! The answers of all sides compared, on whole and damaged inputs of every kind.
 
+use crate::hand::Connection;
 use crate::input::{self, Random};
-use crate::library::Sum;
+use crate::library::{Sum, Taken};
 use crate::{combinator, hand, library, CODECS, SIZES};
 use brundilope::Contents;
 use std::fmt::Debug;
@@ -9,13 +10,13 @@ use std::fmt::Debug;
 #[derive(Default)]
 pub struct Check {
     pub compared: usize,
-    pub refusals: [usize; 19],
+    pub refusals: [usize; 20],
     room: Contents,
 }
 
 impl Check {
     fn note(&mut self, number: usize) {
-        self.refusals[number.min(18)] += 1;
+        self.refusals[number.min(19)] += 1;
     }
 
     /// Stops if an answer differs from the library's.
@@ -228,6 +229,55 @@ fn check_login(c: &mut Check, random: &mut Random, damaged: bool, known: bool) {
     written!(c, answer_login(&p, known), random.below(3), hand);
 }
 
+/// A connection fed in pieces of at most so many bytes, until it is closed: answers, packets and what is held.
+fn check_feeds(c: &mut Check, random: &mut Random, mut stream: &[u8], most: usize) {
+    let (mut value, mut lent, mut hand) = (Connection::FRESH, Connection::FRESH, Connection::FRESH);
+    let mut number = 0;
+    while number != 19 && !stream.is_empty() {
+        let piece = &stream[..random.below(most + 1).min(stream.len())];
+        let (mut a, mut b) = ([0xA5u8; 1290], [0xA5u8; 1290]);
+        let library = library::feed_lent(&mut lent, piece, &mut a);
+        c.note(library.number);
+        let other = Taken::by_hand(hand.feed(piece, &mut b), &hand);
+        c.same("feed_lent", "hand", &library, &other, &[&piece]);
+        c.same("feed_lent", "hand, packet", &a, &b, &[&piece]);
+        c.same("feed_lent", "hand, held", &&lent.held[..lent.fill], &&hand.held[..hand.fill], &[&piece]);
+        let fed = library::feed(value, piece);
+        c.same("feed_lent", "by value", &library, &Taken::from(&fed), &[&piece]);
+        c.same("feed_lent", "by value, packet", &&a[..library.size], &&fed.packet[..fed.size], &[&piece]);
+        c.same("feed_lent", "by value, held", &lent.held, &fed.state.held, &[&piece]);
+        c.same("feed", "bytes behind", &fed.packet[fed.size..].iter().all(|&x| x == 0), &true, &[&piece]);
+        value = fed.state;
+        number = library.number;
+        stream = &stream[library.used..];
+    }
+}
+
+/// A connection with packets and commands, whole or damaged, fed and summed up.
+fn check_connection(c: &mut Check, random: &mut Random, damaged: usize) {
+    let mut stream = input::login(random);
+    for _ in 0..random.below(6) {
+        let (kind, most) = (random.below(5), [60, 600, 1268][random.below(3)]);
+        let mut data = match kind {
+            0..3 => input::data(random, CODECS[kind].0, 50, most, 160).bytes,
+            _ => input::command(random, [0x0C, 0x0E][kind - 3], most - 20),
+        };
+        if damaged == 1 && random.below(4) == 0 {
+            input::damage_data(random, &mut data);
+        }
+        stream.extend(input::tcp(&data));
+    }
+    if damaged == 2 {
+        input::damage(random, &mut stream);
+    }
+    let most = [1, 7, 100, 1500, 9000][random.below(5)];
+    check_feeds(c, random, &stream, most);
+    let library = Sum::from(library::sum_of_stream(&stream, most, &mut brundilope::Connection::new()));
+    let mut state = Connection::FRESH;
+    let other = hand::sum_of_stream(&stream, most, &mut state, &mut [0; 1280]);
+    c.same("sum_of_stream", "hand", &library, &other.into(), &[&stream]);
+}
+
 /// Inputs of a few bytes, and heads alone.
 fn check_short(c: &mut Check, random: &mut Random, size: usize) {
     for length in [0, 2, 3, 4, 1267, 1268, 1269, 1 << 24] {
@@ -269,6 +319,9 @@ pub fn check(random: &mut Random) -> Check {
     }
     for size in 0..40 {
         check_short(&mut c, random, size);
+    }
+    for round in 0..1500 {
+        check_connection(&mut c, random, round % 3);
     }
     c
 }

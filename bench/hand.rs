@@ -122,11 +122,8 @@ pub fn crc(data: &[u8]) -> u16 {
     c
 }
 
-/// The data field of a TCP packet.
-fn frame(p: &[u8]) -> Answer<&[u8]> {
-    let Some((head, rest)) = p.split_first_chunk::<8>() else {
-        return Err(no(1));
-    };
+/// The length of the data field, by the eight bytes before it.
+fn length(head: &[u8; 8]) -> Answer<usize> {
     if head[..4] != [0; 4] {
         return Err(no(2));
     }
@@ -134,6 +131,15 @@ fn frame(p: &[u8]) -> Answer<&[u8]> {
     if !(3..=1268).contains(&length) {
         return Err(no(3));
     }
+    Ok(length)
+}
+
+/// The data field of a TCP packet.
+fn frame(p: &[u8]) -> Answer<&[u8]> {
+    let Some((head, rest)) = p.split_first_chunk::<8>() else {
+        return Err(no(1));
+    };
+    let length = length(head)?;
     if rest.len() != length + 4 {
         return Err(no(4));
     }
@@ -453,6 +459,108 @@ pub fn write_command(codec: u8, kind: u8, imei: &[u8], text: &[u8], out: &mut [u
     data[7 + size] = 1;
     field.copy_from_slice(&u32::from(crc(data)).to_be_bytes());
     Ok(size + 20)
+}
+
+// ---- a connection
+
+/// What has come of the next item: a login (phase 0), a packet (1), nothing more (2). The library's lent state, too.
+#[repr(C)]
+#[derive(Clone, Copy)]
+pub struct Connection {
+    pub held: [u8; 1280],
+    pub fill: usize,
+    pub phase: u8,
+}
+
+pub enum Item {
+    More,
+    Login(u64),
+    Packet(usize),
+}
+
+impl Connection {
+    pub const FRESH: Connection = Connection { held: [0; 1280], fill: 0, phase: 0 };
+    pub const LOGGED_IN: Connection = Connection { phase: 1, ..Connection::FRESH };
+
+    /// The length of the next item; one that is not there yet, where its head is not there yet.
+    #[inline]
+    fn size(&self, bytes: &[u8]) -> Answer<usize> {
+        let mut head = [0; 8];
+        match (self.phase, self.fill, bytes.first_chunk::<8>()) {
+            (0, ..) => return Ok(17),
+            (_, 0, Some(first)) => head = *first,
+            (_, 8.., _) => head.copy_from_slice(&self.held[..8]),
+            (_, held, _) => {
+                let Some(new) = bytes.get(..8 - held) else { return Ok(8) };
+                head[..held].copy_from_slice(&self.held[..held]);
+                head[held..].copy_from_slice(new);
+            }
+        }
+        Ok(length(&head)? + 12)
+    }
+
+    /// Takes the bytes of one item or a part of it, and gives their number; a packet goes to the start of `out`.
+    #[inline(never)]
+    pub fn feed(&mut self, bytes: &[u8], out: &mut [u8]) -> (usize, Answer<Item>) {
+        if self.phase > 1 {
+            return (0, Err(no(19)));
+        }
+        let size = match self.size(bytes) {
+            Ok(size) => size,
+            Err(r) => {
+                let used = 8 - self.fill;
+                (self.fill, self.phase) = (0, 2);
+                return (used, Err(r));
+            }
+        };
+        let Some(new) = bytes.get(..size - self.fill) else {
+            self.held[self.fill..self.fill + bytes.len()].copy_from_slice(bytes);
+            self.fill += bytes.len();
+            return (bytes.len(), Ok(Item::More));
+        };
+        let mut item = new;
+        if self.fill > 0 {
+            self.held[self.fill..size].copy_from_slice(new);
+            item = &self.held[..size];
+        }
+        let judged = if self.phase == 0 { read_login(item).map(Item::Login) } else { received(item, out) };
+        (self.fill, self.phase) = (0, if judged.is_ok() { 1 } else { 2 });
+        (new.len(), judged)
+    }
+}
+
+/// Judges a packet that is whole, and copies it.
+fn received(p: &[u8], out: &mut [u8]) -> Answer<Item> {
+    if matches!(p[8], 0x0C | 0x0E) {
+        read_command(p)?;
+    } else {
+        read_packet(p)?;
+    }
+    out[..p.len()].copy_from_slice(p);
+    Ok(Item::Packet(p.len()))
+}
+
+/// What the caller makes of a packet that a connection gives.
+pub fn sum_of_received(p: &[u8]) -> u64 {
+    p.len() as u64 + u64::from(p[8]) + u64::from(p[9])
+}
+
+/// The sum of what comes on a connection, so many bytes at a time.
+#[inline(never)]
+pub fn sum_of_stream(stream: &[u8], most: usize, connection: &mut Connection, out: &mut [u8]) -> Answer<u64> {
+    let mut sum = 0u64;
+    for mut bytes in stream.chunks(most) {
+        while !bytes.is_empty() {
+            let (used, item) = connection.feed(bytes, out);
+            bytes = &bytes[used..];
+            sum = sum.wrapping_add(match item? {
+                Item::More => 0,
+                Item::Login(imei) => imei,
+                Item::Packet(size) => sum_of_received(&out[..size]),
+            });
+        }
+    }
+    Ok(sum)
 }
 
 // ---- looking up

@@ -130,6 +130,16 @@ pub fn data(random: &mut Random, codec: u8, from: usize, to: usize, most: usize)
     out
 }
 
+/// A TCP packet of exactly so many bytes; its records have 60 to 160 bytes.
+pub fn exact(random: &mut Random, codec: u8, size: usize) -> Vec<u8> {
+    loop {
+        let packet = tcp(&data(random, codec, size - 12, size - 12, 160).bytes);
+        if packet.len() == size {
+            return packet;
+        }
+    }
+}
+
 /// A data field of codec 8 whose records are alike: so many values of one byte in each.
 pub fn alike(random: &mut Random, records: usize, values: usize) -> Vec<u8> {
     let mut b = vec![0x08, records as u8];

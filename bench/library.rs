@@ -1,8 +1,8 @@
-//! The library's C calls, its Rust crate where everything in a packet is asked for, and the hand-written answers in the
-//! same shape.
+//! The library's C calls, its Rust crate where everything in a packet or on a connection is asked for, and the
+//! hand-written answers in the same shape.
 
-use crate::hand::{self, sum_of_bytes, sum_of_fields, Answer};
-use brundilope::{Contents, DataDatagram, DataPacket, Records};
+use crate::hand::{self, sum_of_bytes, sum_of_fields, sum_of_received, Answer, Connection};
+use brundilope::{Contents, DataDatagram, DataPacket, Item, Records};
 
 macro_rules! answer {
     ($name:ident { $($field:ident: $type:ty),* }) => {
@@ -37,6 +37,19 @@ answer!(Record {
 });
 answer!(Value { id: u16, kind: u8, offset: usize, size: usize });
 answer!(Known { older: bool, id: u16, kind: u8, offset: usize, size: usize });
+answer!(Taken { used: usize, item: u8, imei: u64, size: usize, fill: usize, phase: u8 });
+
+#[repr(C)]
+pub struct Fed {
+    pub number: usize,
+    pub index: usize,
+    pub used: usize,
+    pub item: u8,
+    pub imei: u64,
+    pub size: usize,
+    pub packet: [u8; 1280],
+    pub state: Connection,
+}
 
 /// Safe wrappers of C calls that take byte strings, then other values, then perhaps a buffer.
 macro_rules! calls {
@@ -84,6 +97,82 @@ calls! {
     form_of_packet = brundilope_form_of_packet(p: bytes, out: buffer) -> Written;
     form_of_datagram = brundilope_form_of_datagram(p: bytes, out: buffer) -> Written;
     packet_of_form = brundilope_packet_of_form(form: bytes, out: buffer) -> Written;
+    feed = brundilope_feed(state: Connection, p: bytes) -> Fed;
+    feed_parts = brundilope_feed_lent(phase: u8, fill: usize, held: buffer, p: bytes, out: buffer) -> Taken;
+}
+
+// ---- a connection
+
+/// Feeds a state where it stands.
+#[inline(always)]
+pub fn feed_lent(state: &mut Connection, p: &[u8], out: &mut [u8]) -> Taken {
+    let taken = feed_parts(state.phase, state.fill, &mut state.held, p, out);
+    (state.fill, state.phase) = (taken.fill, taken.phase);
+    taken
+}
+
+/// Lets what came before come to its end, as a read from a socket does: else the processor works on several packets at
+/// once, since none waits for another.
+#[inline(always)]
+fn apart() {
+    #[cfg(target_arch = "x86_64")]
+    // SAFETY: the instruction has no operands, and every x86-64 has it.
+    unsafe {
+        std::arch::x86_64::_mm_lfence()
+    }
+}
+
+/// An input in so many pieces of about the same size.
+fn cut(p: &[u8], pieces: usize) -> impl Iterator<Item = &[u8]> {
+    (0..pieces).map(move |i| &p[i * p.len() / pieces..(i + 1) * p.len() / pieces])
+}
+
+/// A packet fed in pieces, the state by value; gives its size.
+#[inline(never)]
+pub fn pieces_by_value(p: &[u8], pieces: usize, state: &mut Connection) -> usize {
+    let mut size = 0;
+    for piece in cut(p, pieces) {
+        apart();
+        let fed = feed(*state, piece);
+        *state = fed.state;
+        size = fed.size;
+    }
+    size
+}
+
+/// The same, the state lent.
+#[inline(never)]
+pub fn pieces_lent(p: &[u8], pieces: usize, state: &mut Connection, out: &mut [u8]) -> usize {
+    cut(p, pieces).fold(0, |_, piece| {
+        apart();
+        feed_lent(state, piece, out).size
+    })
+}
+
+/// What a packet takes that comes whole: it is read, and copied once.
+#[inline(never)]
+pub fn read_and_copy(p: &[u8], out: &mut [u8]) -> Packet {
+    apart();
+    out[..p.len()].copy_from_slice(p);
+    read_packet(p)
+}
+
+/// The sum of what comes on a connection, so many bytes at a time, by the Rust crate.
+#[inline(never)]
+pub fn sum_of_stream(stream: &[u8], most: usize, connection: &mut brundilope::Connection) -> Answer<u64> {
+    let mut sum = 0u64;
+    for bytes in stream.chunks(most) {
+        for item in connection.items(bytes) {
+            sum = sum.wrapping_add(match &item {
+                Item::More => 0,
+                Item::Login(login) => login.imei,
+                Item::Data(data) => sum_of_received(data.bytes()),
+                Item::Command(command) => sum_of_received(command.bytes()),
+                Item::Refused(refusal) => return Err((*refusal).into()),
+            });
+        }
+    }
+    Ok(sum)
 }
 
 // ---- all values, by the Rust crate
@@ -152,3 +241,23 @@ shape!(hand::Value, a => Value { id: a.id, kind: a.kind, offset: a.offset, size:
 shape!((bool, hand::Value), a => Known {
     older: a.0, id: a.1.id, kind: a.1.kind, offset: a.1.offset, size: a.1.size
 });
+
+impl From<&Fed> for Taken {
+    fn from(f: &Fed) -> Self {
+        let Fed { number, index, used, item, imei, size, .. } = *f;
+        Taken { number, index, used, item, imei, size, fill: f.state.fill, phase: f.state.phase }
+    }
+}
+
+impl Taken {
+    /// What a hand-written feed gives that leaves this state.
+    pub fn by_hand((used, judged): (usize, Answer<hand::Item>), state: &Connection) -> Self {
+        let taken = Taken { used, fill: state.fill, phase: state.phase, ..Default::default() };
+        match judged {
+            Ok(hand::Item::More) => taken,
+            Ok(hand::Item::Login(imei)) => Taken { item: 1, imei, ..taken },
+            Ok(hand::Item::Packet(size)) => Taken { item: 2, size, ..taken },
+            Err(r) => Taken { number: usize::from(r.number), index: r.index, ..taken },
+        }
+    }
+}

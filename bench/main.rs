@@ -8,8 +8,9 @@ mod library;
 mod measure;
 
 use brundilope::Contents;
+use hand::Connection;
 use input::{Data, Random};
-use measure::{line, time, Side, HEAD, POOL};
+use measure::{line, time, Side, FEED_HEAD, HEAD, POOL};
 use std::cell::RefCell;
 use std::hint::black_box;
 use std::ops::Range;
@@ -18,6 +19,9 @@ use std::time::Duration;
 const CODECS: [(u8, &str); 3] = [(0x08, "8"), (0x8E, "8E"), (0x10, "16")];
 /// Packet sizes, from and to.
 const SIZES: [(usize, usize); 3] = [(58, 66), (590, 610), (1268, 1280)];
+/// What a connection brings in one line's call, at least, and how much of it in one feed.
+const STREAM: usize = 8192;
+const SEGMENT: usize = 1460;
 
 /// One side of a call. Nothing is known of its inputs, its results go nowhere, and it is never inlined.
 macro_rules! side {
@@ -62,7 +66,7 @@ impl Table {
         places.sort_by_key(|&i| calls.iter().position(|call| *call == calls[i]));
         println!("{HEAD}");
         places.iter().for_each(|&i| println!("{}", lines[i].1));
-        println!("\nAll values: the library is its Rust crate here, and nom makes owned records.");
+        println!("\nAll values, a connection: the library is its Rust crate here, and nom makes owned records.");
     }
 
     /// Look-ups of any record, and of each packet's last value.
@@ -115,6 +119,51 @@ impl Table {
         println!("In datagrams of codec 8, by the library, with 10 values of one byte in each record:");
         println!("12 records {:.1} ({:.1}) ns, 24 records {:.1} ({:.1}) ns,", few.0, few.1, many.0, many.1);
         println!("which is {ratio:.2} ({least:.2}) times as long.");
+    }
+
+    /// The line of packets of one size that come on a connection, one behind another.
+    fn stream_row(&mut self, (from, to): (usize, usize)) {
+        let random = &mut self.random;
+        let mut stream = || {
+            let mut stream = vec![];
+            while stream.len() < STREAM {
+                let codec = CODECS[random.below(3)].0;
+                stream.extend(input::tcp(&input::data(random, codec, from - 12, to - 12, 160).bytes));
+            }
+            stream
+        };
+        let streams: Vec<_> = (0..POOL).map(|_| stream()).collect();
+        let mut library = brundilope::Connection::new();
+        let _ = library.feed(&input::login(random));
+        let (hand, library, out) = (RefCell::new(Connection::LOGGED_IN), RefCell::new(library), &self.out);
+        let stream = |i: usize| &streams[i][..];
+        let sides = [
+            side!(hand::sum_of_stream(|i| stream(i), SEGMENT, &mut *hand.borrow_mut(), &mut out.borrow_mut()[..])),
+            side!(library::sum_of_stream(|i| stream(i), SEGMENT, &mut *library.borrow_mut())),
+        ];
+        let call = format!("a connection (packets of {from} to {to} bytes, {SEGMENT} a feed)");
+        self.row(&call, "all", &streams, &sides);
+    }
+
+    /// The table of a packet that is fed in pieces, beside one that is read and copied.
+    fn feeds(&mut self) {
+        println!("\n{FEED_HEAD}");
+        for size in [61, 1280] {
+            let random = &mut self.random;
+            let tcp: Vec<_> = (0..POOL).map(|i| input::exact(random, CODECS[i % 3].0, size)).collect();
+            let (value, lent) = (RefCell::new(Connection::LOGGED_IN), RefCell::new(Connection::LOGGED_IN));
+            let (p, out) = (|i: usize| &tcp[i][..], &self.out);
+            for (how, pieces) in [("whole", 1), ("in 2 pieces", 2), ("in 10 pieces", 10), ("byte by byte", size)] {
+                let sides = [
+                    side!(library::read_and_copy(|i| p(i), &mut out.borrow_mut()[..])),
+                    side!(library::pieces_by_value(|i| p(i), pieces, &mut *value.borrow_mut())),
+                    side!(library::pieces_lent(|i| p(i), pieces, &mut *lent.borrow_mut(), &mut out.borrow_mut()[..])),
+                ];
+                println!("{}", line(self.budget / 3, how, "all", &tcp, &sides));
+            }
+        }
+        let size = [size_of::<Connection>(), size_of::<brundilope::Connection>()];
+        println!("\nA connection takes {} bytes in C and {} in Rust.", size[0], size[1]);
     }
 
     /// Data fields of one size, their codecs mixed, and packets of them; and datagrams of that size.
@@ -181,7 +230,7 @@ fn main() {
     let mut random = Random(0x9E37_79B9_7F4A_7C15);
     let c = check::check(&mut random);
     println!("Answers compared: {}, none differ. Accepted {}; refused by number:", c.compared, c.refusals[0]);
-    let each: Vec<_> = (1..19).map(|n| format!("{n}: {}", c.refusals[n])).collect();
+    let each: Vec<_> = (1..20).map(|n| format!("{n}: {}", c.refusals[n])).collect();
     println!("{}.\n", each.join(", "));
 
     let before = load();
@@ -198,8 +247,11 @@ fn main() {
     table.command_rows(10);
     table.command_rows(1000);
     table.login_row();
+    table.stream_row(SIZES[0]);
+    table.stream_row(SIZES[2]);
     table.print();
     table.growth();
+    table.feeds();
     let cores = std::thread::available_parallelism().map_or(0, usize::from);
     println!("\n{cores} cores; load average {before} at the start and {} at the end.", load());
 }

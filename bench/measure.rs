@@ -65,14 +65,20 @@ pub const HEAD: &str = "\
 | call | codecs | bytes | by hand, ns | library, ns | library / hand | nom, ns | nom / hand |
 |---|---|---:|---:|---:|---:|---:|---:|";
 
-/// Measures one line of the table: medians, with minimums in brackets; by hand, the library, perhaps nom.
+/// The head of the table of feeds.
+pub const FEED_HEAD: &str = "\
+| a packet fed | codecs | bytes | read_packet and a copy, ns | by value, ns | by value / read | lent, ns | lent / read |
+|---|---|---:|---:|---:|---:|---:|---:|";
+
+/// Measures one line of a table: medians, with minimums in brackets. The others beside the first side: by hand, the
+/// library, perhaps nom; or what the head says.
 pub fn line(budget: Duration, call: &str, codecs: &str, inputs: &[Vec<u8>], sides: &[Side]) -> String {
     let bytes = inputs.iter().map(Vec::len).sum::<usize>() / inputs.len();
     let times: Vec<_> = measure(budget, inputs, sides).into_iter().map(figures).collect();
-    let hand = times[0];
-    let mut line = format!("| {call} | {codecs} | {bytes} | {:.1} ({:.1}) |", hand.0, hand.1);
+    let first = times[0];
+    let mut line = format!("| {call} | {codecs} | {bytes} | {:.1} ({:.1}) |", first.0, first.1);
     for t in &times[1..] {
-        line += &format!(" {:.1} ({:.1}) | {:.2} ({:.2}) |", t.0, t.1, t.0 / hand.0, t.1 / hand.1);
+        line += &format!(" {:.1} ({:.1}) | {:.2} ({:.2}) |", t.0, t.1, t.0 / first.0, t.1 / first.1);
     }
     line + if times.len() < 3 { " | |" } else { "" }
 }
