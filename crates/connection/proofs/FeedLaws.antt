@@ -55,7 +55,7 @@ module _ (limits : Limits) (room : ℕ) (c : Connection) (s : List ℕ) where
     open-into e h = ap (feeding limits room c s) (onAccepted-passed (opened limits room c) _ e ∙ check-passed _ 18 _ (le-leb _ _ h))
 
     -- a long buffer changes nothing
-    pub fed-into : limits .largest ≤ length out → fedInto limits room c s out ≡ fed limits room c s
+    fed-into : limits .largest ≤ length out → fedInto limits room c s out ≡ fed limits room c s
     fed-into h = open-or limits room c (λ e. open-into e h ∙ sym (open-fed e)) (λ e. shut-into e ∙ sym (unopened e))
 
 -- ---- a packet is no longer than a state has room for
@@ -75,7 +75,7 @@ packet-within limits forPacket p = go (judgedPacket limits p) refl
 
 -- what a feed tells, where more was needed before
 module _ (limits : Limits) (room : ℕ) (small : 17 ≤ room) (large : limits .largest ≤ room) (phase : Phase) (held s : List ℕ) (waits : verdict limits phase held ≡ more) where
-  pub told-fits : length (packetIn (taken limits phase held s .told)) ≤ room
+  told-fits : length (packetIn (taken limits phase held s .told)) ≤ room
   unfolding packetIn
   told-fits = go (needed limits phase (held ++ s)) refl
     where
@@ -98,11 +98,11 @@ module _ (limits : Limits) (room : ℕ) (small : 17 ≤ room) (large : limits .l
           (λ h. by (feed-more limits phase held s n e h) (omega arith))
 
 -- zeros behind what is written at the start of zeros
-pub leaving-zeros : (room : ℕ) (p : List ℕ) → length p ≤ room → leaving (accepted p) (zeros room) ≡ padded room p
+leaving-zeros : (room : ℕ) (p : List ℕ) → length p ≤ room → leaving (accepted p) (zeros room) ≡ padded room p
 unfolding padded
 leaving-zeros room p h = leaving-done p (zeros room) (omega (arith, length-zeros room)) ∙ ap (λ (l : List ℕ). p ++ l) (drop-zeros (length p) room)
 
-pub fed-fits : (limits : Limits) (room : ℕ) (c : Connection) (s : List ℕ) → 17 ≤ room → limits .largest ≤ room → length (packetIn (fed limits room c s .told)) ≤ room
+fed-fits : (limits : Limits) (room : ℕ) (c : Connection) (s : List ℕ) → 17 ≤ room → limits .largest ≤ room → length (packetIn (fed limits room c s .told)) ≤ room
 unfolding packetIn outcome
 fed-fits limits room c s small large =
     open-or limits room c

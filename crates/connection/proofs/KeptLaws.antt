@@ -16,7 +16,7 @@ use Rattle.connection.proofs.OpenLaws.{is-open, open-is, open-or, held-
 use Rattle.connection.proofs.GatherLaws.{phase-back}
 use Rattle.connection.proofs.FeedLaws.{open-fed}
 
-pub phase-of : (p : Phase) → phaseOf (phaseNumber p) ≡ p
+phase-of : (p : Phase) → phaseOf (phaseNumber p) ≡ p
 unfolding phaseOf phaseNumber
 phase-of forLogin = refl
 phase-of forPacket = refl
@@ -27,7 +27,7 @@ phase-low forLogin = omega arith
 phase-low forPacket = omega arith
 
 module _ (limits : Limits) (room : ℕ) (small : 17 ≤ room) (large : limits .largest ≤ room) where
-  pub held-fits : (p : Phase) (h : List ℕ) → verdict limits p h ≡ more → length h ≤ room
+  held-fits : (p : Phase) (h : List ℕ) → verdict limits p h ≡ more → length h ≤ room
   held-fits p h e =
       let n = more-needed limits p h e in
       omega (arith, n .2, needed-most limits room small large p h (n .0) (n .1))

@@ -42,7 +42,7 @@ needed-unframed limits forPacket s k e =
 
 -- ---- the test
 
-pub more-is : (v : Verdict) → isMore v ≡ true → v ≡ more
+more-is : (v : Verdict) → isMore v ≡ true → v ≡ more
 unfolding isMore
 more-is more e = refl
 more-is (settled i) e = absurd (let z : _≡_ {A = ℕ} 0 1 = cc in omega arith)

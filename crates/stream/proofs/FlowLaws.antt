@@ -24,7 +24,7 @@ module _ (limits : Limits) where
   unfolding verdict verdictBy needed
   none-held = refl
 
-  pub next-sound : (i : Item) → Sound limits (next i)
+  next-sound : (i : Item) → Sound limits (next i)
   unfolding next
   next-sound (login imei) = none-held
   next-sound (packet p) = none-held

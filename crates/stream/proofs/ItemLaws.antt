@@ -48,7 +48,7 @@ module _ (largest : ℕ) (d p : List ℕ) (rules : FrameRules largest d) (whole 
   framed-parts = parts d p (length p) (rules .bytes) (rules .counted) (between-bytes whole (between-whole p))
 
   -- the first two bytes of the data field
-  pub field-at : (j : ℕ) → j < 3 → getD p (8 + j) 0 ≡ getD d j 0
+  field-at : (j : ℕ) → j < 3 → getD p (8 + j) 0 ≡ getD d j 0
   unfolding fieldOf
   field-at j h =
       let k = framed-parts in

@@ -42,7 +42,7 @@ module _ (limits : Limits) where
   unfolding needed
   needed-short s h = simp (lt-leb 8 (length s) h)
 
-  pub needed-append : (phase : Phase) (s t : List ℕ) → 8 ≤ length s → needed limits phase (s ++ t) ≡ needed limits phase s
+  needed-append : (phase : Phase) (s t : List ℕ) → 8 ≤ length s → needed limits phase (s ++ t) ≡ needed limits phase s
   unfolding needed
   needed-append forLogin s t h = refl
   needed-append forPacket s t h =
@@ -65,11 +65,11 @@ module _ (limits : Limits) where
     unfolding verdict verdictBy
     verdict-more n e h = simp (e, lt-leb n (length s) h)
 
-    pub verdict-judged : (n : ℕ) → needed limits phase s ≡ accepted n → n ≤ length s → verdict limits phase s ≡ settled (judged limits phase s)
+    verdict-judged : (n : ℕ) → needed limits phase s ≡ accepted n → n ≤ length s → verdict limits phase s ≡ settled (judged limits phase s)
     unfolding verdict verdictBy
     verdict-judged n e h = simp (e, le-leb n (length s) h)
 
-    pub verdict-refused : {r : Refusal} → needed limits phase s ≡ refused r → verdict limits phase s ≡ settled (refusing r)
+    verdict-refused : {r : Refusal} → needed limits phase s ≡ refused r → verdict limits phase s ≡ settled (refusing r)
     unfolding verdict verdictBy
     verdict-refused e = simp e
 
@@ -87,7 +87,7 @@ module _ (limits : Limits) where
         go (refused r) q e = absurd (let z : _≡_ {A = ℕ} 0 1 = cc in omega arith)
 
   -- fewer bytes than are judged together settle nothing
-  pub short-more : (phase : Phase) (q t : List ℕ) (n : ℕ) → needed limits phase (q ++ t) ≡ accepted n → length q < n → verdict limits phase q ≡ more
+  short-more : (phase : Phase) (q t : List ℕ) (n : ℕ) → needed limits phase (q ++ t) ≡ accepted n → length q < n → verdict limits phase q ≡ more
   unfolding needed
   short-more forLogin q t n e h = verdict-more forLogin q 17 refl (let same : 17 ≡ n = cc in omega arith)
   short-more forPacket q t n e h =
@@ -96,7 +96,7 @@ module _ (limits : Limits) where
       (λ k. verdict-more forPacket q 8 (needed-short q k) k)
 
   -- nor does less than a header that is refused
-  pub header-more : (phase : Phase) (q t : List ℕ) {r : Refusal} → needed limits phase (q ++ t) ≡ refused r → length q < 8 → verdict limits phase q ≡ more
+  header-more : (phase : Phase) (q t : List ℕ) {r : Refusal} → needed limits phase (q ++ t) ≡ refused r → length q < 8 → verdict limits phase q ≡ more
   unfolding needed
   header-more forLogin q t e h = absurd (let z : _≡_ {A = ℕ} 0 1 = cc in omega arith)
   header-more forPacket q t e h = verdict-more forPacket q 8 (needed-short q h) h
@@ -107,7 +107,7 @@ module _ (limits : Limits) where
   header-long forPacket s {r} e =
       by-length 8 (length s) (λ h. h) (λ h. absurd (let bad : _≡_ {A = Answer ℕ} (accepted 8) (refused r) = sym (needed-short s h) ∙ e in let z : _≡_ {A = ℕ} 0 1 = cc in omega arith))
 
-  pub prefix-more : (phase : Phase) (q t : List ℕ) → verdict limits phase (q ++ t) ≡ more → verdict limits phase q ≡ more
+  prefix-more : (phase : Phase) (q t : List ℕ) → verdict limits phase (q ++ t) ≡ more → verdict limits phase q ≡ more
   prefix-more phase q t e =
       let n = more-needed phase (q ++ t) e in
       short-more phase q t (n .0) (n .1) (omega (arith, n .2, length-append q t))
@@ -141,7 +141,7 @@ module _ (limits : Limits) where
       ∙ ap (λ (l : List ℕ). record { used = suc (length s); told = more; state = waiting phase l }) on
 
   -- bytes up to the one that settles an item are used, and none after it
-  pub taken-settles : (phase : Phase) (a held : List ℕ) (b : ℕ) (s : List ℕ) {i : Item}
+  taken-settles : (phase : Phase) (a held : List ℕ) (b : ℕ) (s : List ℕ) {i : Item}
       → verdict limits phase (held ++ a) ≡ more → verdict limits phase (held ++ (a ++ (b ∷ []))) ≡ settled i
       → taken limits phase held (a ++ (b ∷ s)) ≡ record { used = suc (length a); told = settled i; state = next i }
   taken-settles phase [] held b s e k = one-settles phase held b s k
