@@ -29,7 +29,10 @@ use Rattle.lookup.specs.Answers.{recordAs, valueResult, answerValue, valueAs, a
 use Rattle.contents.specs.Words.{quad, titleWords, recordWords, valueWord}
 use Rattle.contents.specs.Contents.{recordContents, contents, contentsOfPacket, contentsOfDatagram}
 use Rattle.checksum.specs.Bits.{ones, differing}
+use Rattle.stream.specs.Stream.{needed, itemOf, judgedPacket, judged, verdictBy, verdict, next, afterByte, taken, cons, byVerdict, stream}
+use Rattle.connection.specs.State.{padded, phaseNumber, kept, fresh, isZero, isMore, phaseOf, heldBy, opened, countOf, judgedAt, wanted}
+use Rattle.connection.specs.Feeding.{outcome, feeding, fed, fedInto, packetIn, itemAs, fedAs, lentAs}
 
 unfoldable pub computing : Unit {0}
-unfolding onAccepted told check enclosed codecOf firstCount lastCount inner textDigit readImei packed pairUpTo readPacked numberAt digits valueFrom littleAt le signed andThen _>>=_ _>>_ pure here require span number bytes upTo repeat feedback shift shifts absorb crcFrom crc framed fieldLength fieldOf unframe lastFour widthsOf isDataCodec kinds dataBytes readData dataResult valueSize element group groups fixedFields avlRecord tagged inRecord avlRecords atEnd allRecords elementCount total lengthBytes elementBytes groupBytes groupsBytes fixedBytes recordBytes packetBytes readPacket answerPacket acknowledged tcpAcknowledgement packetAs commandField commandBody readField readCommand answerCommand textView textOffset commandAs types layouts findLayout layoutOf answered readLogin isAccepted loginAnswer loginAs readHeader readDatagram answerDatagram acknowledgementBytes udpAcknowledgement datagramAs judgeHeader entryBytes entriesFrom entriesOf fixedEntry elementEntry groupEntries groupsEntries recordsEntries formEntries form formOfPacket formOfDatagram or17 readForm packetOfForm writing leaving writtenAs givenImei packetOf commandBytes entryElement run behind groupsOf fixedOf recordsOf dataOf decoded leadSize locateGroup locateGroups fixedSize elements nth firstWith recordResult placeRecords tcpSource udpSource placedRecord recordByNumber foundIn valueIn valueByNumber valueById view viewOffset valueInLast inOlder orElse lastKnown knownPlace recordAs valueResult answerValue valueAs answerKnown knownAs knownView quad titleWords recordWords valueWord recordContents contents contentsOfPacket contentsOfDatagram ones differing
+unfolding onAccepted told check enclosed codecOf firstCount lastCount inner textDigit readImei packed pairUpTo readPacked numberAt digits valueFrom littleAt le signed andThen _>>=_ _>>_ pure here require span number bytes upTo repeat feedback shift shifts absorb crcFrom crc framed fieldLength fieldOf unframe lastFour widthsOf isDataCodec kinds dataBytes readData dataResult valueSize element group groups fixedFields avlRecord tagged inRecord avlRecords atEnd allRecords elementCount total lengthBytes elementBytes groupBytes groupsBytes fixedBytes recordBytes packetBytes readPacket answerPacket acknowledged tcpAcknowledgement packetAs commandField commandBody readField readCommand answerCommand textView textOffset commandAs types layouts findLayout layoutOf answered readLogin isAccepted loginAnswer loginAs readHeader readDatagram answerDatagram acknowledgementBytes udpAcknowledgement datagramAs judgeHeader entryBytes entriesFrom entriesOf fixedEntry elementEntry groupEntries groupsEntries recordsEntries formEntries form formOfPacket formOfDatagram or17 readForm packetOfForm writing leaving writtenAs givenImei packetOf commandBytes entryElement run behind groupsOf fixedOf recordsOf dataOf decoded leadSize locateGroup locateGroups fixedSize elements nth firstWith recordResult placeRecords tcpSource udpSource placedRecord recordByNumber foundIn valueIn valueByNumber valueById view viewOffset valueInLast inOlder orElse lastKnown knownPlace recordAs valueResult answerValue valueAs answerKnown knownAs knownView quad titleWords recordWords valueWord recordContents contents contentsOfPacket contentsOfDatagram ones differing needed itemOf judgedPacket judged verdictBy verdict next afterByte taken cons byVerdict stream padded phaseNumber kept fresh isZero isMore phaseOf heldBy opened countOf judgedAt wanted outcome feeding fed fedInto packetIn itemAs fedAs lentAs
 computing = tt

@@ -6,4 +6,5 @@ pub mod Demand2Proof
 pub mod RefusalsProof
 pub mod AnswersProof
 pub mod MeasuresProof
+pub mod FeedsProof
 pub mod ConnectionsProof

@@ -2,7 +2,8 @@
 use Prim.Native.Nat.{ℕ}
 use Prim.Native.String.{String}
 use mathlib.Core.Bool.{Bool, true, false}
-use mathlib.Core.List.{List}
+use mathlib.Core.List.{List, []}
+use lib.ListN.{replicate}
 use Rattle.wire.specs.declared.Written.{Written}
 use Rattle.wire.specs.Limits.{baseLimits}
 use Rattle.wire.specs.Answers.{Answer, accepted}
@@ -25,6 +26,12 @@ use Rattle.lookup.specs.declared.KnownAnswer.{KnownAnswer}
 use Rattle.lookup.specs.Lookups.{Found, LastKnown, tcpSource, udpSource, recordByNumber, valueByNumber, valueById, lastKnown, view, viewOffset, knownPlace}
 use Rattle.lookup.specs.Answers.{recordAs, answerValue, valueAs, KnownResult, answerKnown, knownAs, knownView}
 use Rattle.contents.specs.Contents.{contentsOfPacket, contentsOfDatagram}
+use Rattle.stream.specs.Stream.{Item, State, waiting, forLogin, Streamed, stream}
+use Rattle.connection.specs.declared.Connection.{Connection}
+use Rattle.connection.specs.declared.Fed.{Fed}
+use Rattle.connection.specs.declared.Lent.{Lent}
+use Rattle.connection.specs.State.{wanted}
+use Rattle.connection.specs.Feeding.{Outcome, fed, fedInto, packetIn, fedAs, lentAs}
 use Rattle.claims.specs.Rows.{Row, row}
 
 -- ---- readers
@@ -121,3 +128,32 @@ contents-of-packet label p = written label (contentsOfPacket baseLimits p)
 
 abbrev pub contents-of-datagram : String → List ℕ → List ℕ → Written → List ℕ → Row
 contents-of-datagram label p = written label (contentsOfDatagram baseLimits p)
+
+-- ---- a connection: its state, the bytes, and what a feed gives
+
+abbrev pub feed : String → Connection → List ℕ → Fed → Row
+feed label c s r = row label (fedAs 1280 (fed baseLimits 1280 c s)) r
+
+-- the lent state, the bytes, the lent buffer; the answer, then the bytes held and the buffer afterwards
+abbrev pub lent : String → Outcome → List ℕ → Lent → List ℕ → List ℕ → Row
+lent label o out r held after = row {A = Lent × List ℕ × List ℕ} label (lentAs o, o .state .held, leaving (accepted (packetIn (o .told))) out) (r, held, after)
+
+abbrev pub feed-lent : String → Connection → List ℕ → List ℕ → Lent → List ℕ → List ℕ → Row
+feed-lent label c s out = lent label (fedInto baseLimits 1280 c s out) out
+
+-- both calls, where there is no packet: a lent buffer of 1,280 bytes stays as it is
+abbrev pub either : String → Outcome → Outcome → List ℕ → Fed → Row
+either label value o out r =
+    row {A = Fed × Lent × List ℕ × List ℕ} label
+    (fedAs 1280 value, lentAs o, o .state .held, leaving (accepted (packetIn (o .told))) out)
+    (r, record { phase = r .state .phase; fill = r .state .fill; used = r .used; item = r .item }, r .state .held, out)
+
+abbrev pub feed-either : String → Connection → List ℕ → Fed → Row
+feed-either label c s = either label (fed baseLimits 1280 c s) (fedInto baseLimits 1280 c s (replicate 1280 7)) (replicate 1280 7)
+
+abbrev pub want : String → Connection → ℕ → Row
+want label c n = row label (wanted baseLimits 1280 c) n
+
+-- the items of a whole stream, and the state behind it
+abbrev pub streamed : String → List ℕ → List Item → State → Row
+streamed label s items state = row {A = Streamed} label (stream baseLimits s (waiting forLogin [])) (record { items = items; state = state })

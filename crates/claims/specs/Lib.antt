@@ -8,4 +8,5 @@ pub mod Demand2
 pub mod Refusals
 pub mod Answers
 pub mod Measures
+pub mod Feeds
 pub mod Connections

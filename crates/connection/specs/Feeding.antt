@@ -40,7 +40,7 @@ packetIn (settled (login imei)) = []
 packetIn (settled (packet p)) = p
 packetIn (settled (refusing r)) = []
 
--- ---- what the code answers
+-- ---- what the code answers: an item's bytes stand beside it, so a packet is told by its length
 
 unfoldable pub itemAs : Verdict → Item
 itemAs more = More

@@ -39,6 +39,7 @@ unfoldable pub isMore : Verdict → Bool
 isMore more = true
 isMore (settled i) = false
 
+-- of a number that is 0 or 1; of others `opened` makes nothing
 unfoldable pub phaseOf : ℕ → Phase
 phaseOf n = pick (eqb n 0) forLogin forPacket
 
