@@ -1,5 +1,5 @@
 -- A feed by whether the connection is open, and whether the lent buffer is long enough.
-use Prim.Native.Nat.{ℕ, _+_, _-_, _≤_, _<_}
+use Prim.Native.Nat.{ℕ, _≤_, _<_}
 use native.Mathlib.Omega.{arith}
 use mathlib.Core.Path.{_≡_, refl, sym, ap, _∙_, subst}
 use mathlib.Core.List.{List, _++_}
@@ -10,11 +10,11 @@ use Rattle.wire.specs.declared.Limits.{Limits}
 use Rattle.wire.specs.declared.Refusal.{Refusal}
 use Rattle.wire.specs.Answers.{Answer, accepted, refused, refusal}
 use Rattle.wire.specs.Buffers.{leaving}
-use Rattle.wire.proofs.Accepting.{by-length, check-passed, check-failed, onAccepted-passed, onAccepted-refused}
+use Rattle.wire.proofs.Accepting.{check-passed, check-failed, onAccepted-passed, onAccepted-refused}
 use Rattle.wire.proofs.BufferLaws.{leaving-done}
 use Rattle.login.specs.Login.{readLogin}
-use Rattle.stream.specs.Stream.{Phase, forLogin, forPacket, login, packet, refusing, more, settled, needed, itemOf, judgedPacket, judged, verdict, Taken, taken}
-use Rattle.stream.proofs.StreamLaws.{needed-most, held-less, refused-early, feed-more, feed-judged, feed-refused}
+use Rattle.stream.specs.Stream.{Phase, forLogin, forPacket, login, packet, refusing, more, settled, itemOf, judgedPacket, judged, verdict, Taken, taken}
+use Rattle.stream.proofs.StreamLaws.{needed-most, by-feed}
 use Rattle.connection.specs.declared.Connection.{Connection}
 use Rattle.connection.specs.declared.Fed.{Fed}
 use Rattle.connection.specs.declared.Lent.{Lent}
@@ -77,25 +77,13 @@ packet-within limits forPacket p = go (judgedPacket limits p) refl
 module _ (limits : Limits) (room : ℕ) (small : 17 ≤ room) (large : limits .largest ≤ room) (phase : Phase) (held s : List ℕ) (waits : verdict limits phase held ≡ more) where
   told-fits : length (packetIn (taken limits phase held s .told)) ≤ room
   unfolding packetIn
-  told-fits = go (needed limits phase (held ++ s)) refl
-    where
-      by : {t : Taken} → taken limits phase held s ≡ t → length (packetIn (t .told)) ≤ room → length (packetIn (taken limits phase held s .told)) ≤ room
-      by e h = omega (arith, ap (λ (t : Taken). length (packetIn (t .told))) e, h)
-
-      go : (r : Answer ℕ) → needed limits phase (held ++ s) ≡ r → length (packetIn (taken limits phase held s .told)) ≤ room
-      go (refused r) e =
-          let early = refused-early limits phase held s waits e in
-          by (feed-refused limits phase held s (8 - length held) e (omega (arith, early)) (omega (arith, early))) (omega arith)
-      go (accepted n) e =
-          let less = held-less limits phase held s n waits e in
-          let most = needed-most limits room small large phase (held ++ s) n e in
-          by-length n (length held + length s)
-          (λ h.
-          let k = n - length held in
-          let within : k ≤ length s = omega arith in
-          let size : length (held ++ take k s) ≡ n = omega (arith, length-append held (take k s), length-take-le k s within) in
-          by (feed-judged limits phase held s n k e (omega arith) (omega arith) within) (omega (arith, packet-within limits phase (held ++ take k s), size, most)))
-          (λ h. by (feed-more limits phase held s n e h) (omega arith))
+  told-fits =
+      by-feed limits (λ (t : Taken). length (packetIn (t .told)) ≤ room) phase held s waits
+      (λ r k. omega arith)
+      (λ n k e whole within.
+      let size : length (held ++ take k s) ≡ n = omega (arith, whole, length-append held (take k s), length-take-le k s within) in
+      omega (arith, packet-within limits phase (held ++ take k s), size, needed-most limits room small large phase (held ++ s) n e))
+      (omega arith)
 
 -- zeros behind what is written at the start of zeros
 leaving-zeros : (room : ℕ) (p : List ℕ) → length p ≤ room → leaving (accepted p) (zeros room) ≡ padded room p

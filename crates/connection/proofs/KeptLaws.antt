@@ -16,12 +16,12 @@ use Rattle.connection.proofs.OpenLaws.{is-open, open-is, open-or, held-
 use Rattle.connection.proofs.GatherLaws.{phase-back}
 use Rattle.connection.proofs.FeedLaws.{open-fed}
 
-phase-of : (p : Phase) → phaseOf (phaseNumber p) ≡ p
+pub phase-of : (p : Phase) → phaseOf (phaseNumber p) ≡ p
 unfolding phaseOf phaseNumber
 phase-of forLogin = refl
 phase-of forPacket = refl
 
-phase-low : (p : Phase) → phaseNumber p ≤ 1
+pub phase-low : (p : Phase) → phaseNumber p ≤ 1
 unfolding phaseNumber
 phase-low forLogin = omega arith
 phase-low forPacket = omega arith

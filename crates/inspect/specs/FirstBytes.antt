@@ -6,7 +6,7 @@ use lib.ListN.{length}
 use lib.Dec.{eqb, leb}
 use Rattle.wire.specs.Numbers.{numberAt, pick}
 use Rattle.inspect.specs.declared.Task.{Task}
-use Rattle.inspect.specs.declared.Task.the-variants.{Packet, Datagram, Login, Command, Form}
+use Rattle.inspect.specs.declared.Task.the-variants.{Packet, Datagram, Login, Command, Form, Connection}
 
 -- the `w` bytes at `at` are there, and their number is `n`
 unfoldable pub shows : List ℕ → ℕ → ℕ → ℕ → Bool
@@ -28,5 +28,10 @@ isCommand p = pick (shows p 8 1 0x0C) true (shows p 8 1 0x0E)
 unfoldable pub isForm : List ℕ → Bool
 isForm p = pick (shows p 0 4 0x01006400) (pick (shows p 6 2 15) false true) false
 
+-- more than 17 bytes, an IMEI's length first, where a datagram of so many bytes has another; unless an IMEI's length stands at 6, as in a datagram
+unfoldable pub isConnection : List ℕ → Bool
+isConnection p = pick (leb (length p) 17) false (pick (shows p 6 2 15) false (shows p 0 2 15))
+
 unfoldable pub kindOf : List ℕ → Task
-kindOf p = pick (isLogin p) Login (pick (isTcp p) (pick (isCommand p) Command Packet) (pick (isForm p) Form Datagram))
+kindOf p =
+    pick (isLogin p) Login (pick (isTcp p) (pick (isCommand p) Command Packet) (pick (isForm p) Form (pick (isConnection p) Connection Datagram)))

@@ -1,7 +1,7 @@
 // The words and the input: a word among those known, a file read to its end, and the kind of what it holds.
 ghost use mathlib.Core.Path.{_≡_};
 ghost use Prim.Native.Nat.{_≤_};
-ghost use Rattle.inspect.specs.FirstBytes.{shows, isTcp, isLogin, isCommand, isForm, kindOf};
+ghost use Rattle.inspect.specs.FirstBytes.{shows, isTcp, isLogin, isCommand, isForm, isConnection, kindOf};
 ghost use Rattle.inspect.specs.Words.{wordsOf, placeOf, PlaceOfSome};
 ghost use Rattle.inspect.specs.Reading.{ReadInto};
 use crate::Task;
@@ -146,6 +146,18 @@ fn is_form(p: &[u8]) -> bool
     false
 }
 
+fn is_connection(p: &[u8]) -> bool
+    ensures { λ r. ⌜ r ≡ isConnection (now (p .entry)) ⌝ }
+{
+    if p.len() <= 17 {
+        return false;
+    }
+    if shows(p, 6, 2, 0x000F) {
+        return false;
+    }
+    shows(p, 0, 2, 0x000F)
+}
+
 pub fn found(p: &[u8]) -> Task
     ensures { λ r. ⌜ r ≡ kindOf (now (p .entry)) ⌝ }
 {
@@ -160,6 +172,9 @@ pub fn found(p: &[u8]) -> Task
     }
     if is_form(p) {
         return Task::Form;
+    }
+    if is_connection(p) {
+        return Task::Connection;
     }
     Task::Datagram
 }

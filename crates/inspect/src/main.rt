@@ -1,5 +1,5 @@
-// Says what is in a packet, datagram, login, command or TLV form, or why it is refused; turns packets
-// into TLV forms and back; writes commands. `usage` says with which words.
+// Says what is in a packet, datagram, login, command or TLV form, or why it is refused; shows a captured
+// connection item by item; turns packets into TLV forms and back; writes commands. `usage` says with which words.
 mod input;
 
 ghost use mathlib.Core.Path.{_≡_};
@@ -18,6 +18,7 @@ pub enum Task {
     Login,
     Command,
     Form,
+    Connection,
     FormOf,
     PacketOf,
     Write,
@@ -34,7 +35,8 @@ inspect packet-of [FILE]         the TCP data packet of a TLV form, as hex text\
 inspect write MESSAGE TEXT       a command packet of codec 12, as hex text\n\
 inspect write MESSAGE IMEI TEXT  the same of codec 14\n\
 inspect help                     this text\n\
-KIND: packet, datagram, login, command, form, or auto (found out, also if left out)\n\
+KIND: packet, datagram, login, command, form, connection, or auto (found out, also if left out)\n\
+connection: a login and packets one behind another, shown item by item; its bytes count from 0\n\
 FILE: at most 65536 bytes, hex text or as they are; standard input if left out or -\n\
 MESSAGE: 12 or 14 (a command), 12-response, 14-response, 14-mismatch (IMEI doesn't match)\n\
 A refusal is a line 'refused: NUMBER ..' on standard output. The exit status says nothing.\n",
@@ -51,7 +53,7 @@ fn wrong() {
 }
 
 fn task_of(i: usize) -> Task {
-    let words = b"auto packet datagram login command form form-of packet-of write help ";
+    let words = b"auto packet datagram login command form connection form-of packet-of write help ";
     match input::place_of_word(i, words) {
         0 => Task::Auto,
         1 => Task::Packet,
@@ -59,10 +61,11 @@ fn task_of(i: usize) -> Task {
         3 => Task::Login,
         4 => Task::Command,
         5 => Task::Form,
-        6 => Task::FormOf,
-        7 => Task::PacketOf,
-        8 => Task::Write,
-        9 => Task::Help,
+        6 => Task::Connection,
+        7 => Task::FormOf,
+        8 => Task::PacketOf,
+        9 => Task::Write,
+        10 => Task::Help,
         _ => Task::Unknown,
     }
 }
@@ -77,6 +80,7 @@ fn run(task: Task, p: &[u8]) -> usize
         Task::Login => report::show_login(p),
         Task::Command => report::show_command(p),
         Task::Form => report::show_form(p),
+        Task::Connection => report::show_connection(p),
         Task::FormOf => run_form_of(p),
         Task::PacketOf => report::say_packet_of(p),
         Task::Auto => 0,
@@ -117,7 +121,7 @@ fn odd(digits: usize) {
 }
 
 // Hex text is what has hex digits and white space alone, so nothing that is accepted is taken for it:
-// a TCP packet and a login start with 00, a TLV form with 01, a datagram with 00 to 04.
+// a TCP packet, a login and a connection start with 00, a TLV form with 01, a datagram with 00 to 04.
 fn run_on_text(task: Task, s: &[u8]) {
     match text::kind_of(s) {
         Kind::Raw => run_on(task, s),

@@ -1,7 +1,7 @@
 -- What the functions that say something answer: the number of the refusal that is said, 0 where the input is accepted.
 use Prim.Native.Nat.{ℕ, _*_}
 use mathlib.Core.Bool.{Bool}
-use mathlib.Core.List.{List}
+use mathlib.Core.List.{List, [], _∷_}
 use lib.ListN.{replicate}
 use Rattle.wire.specs.Numbers.{pick}
 use Rattle.wire.specs.Limits.{baseLimits}
@@ -14,6 +14,9 @@ use Rattle.command.specs.Commands.{answerCommand}
 use Rattle.command.specs.Writing.{commandBytes}
 use Rattle.tlv.specs.PacketOf.{formOfPacket, formOfDatagram, packetOfForm}
 use Rattle.contents.specs.Contents.{contentsOfPacket, contentsOfDatagram}
+use Rattle.stream.specs.Stream.{forLogin, Item, login, packet, refusing, waiting, stream}
+use Rattle.connection.specs.declared.Item as told
+use Rattle.connection.specs.declared.Item.the-variants.{More, Login, Packet, Refused}
 
 unfoldable pub refusalNumber : {A : Type 0} → Answer A → ℕ
 refusalNumber (accepted a) = 0
@@ -32,6 +35,25 @@ loginRefusal p = refusalNumber (readLogin p)
 
 unfoldable pub commandRefusal : List ℕ → ℕ
 commandRefusal p = refusalNumber (answerCommand baseLimits p)
+
+-- ---- a connection, from a fresh one on
+
+-- of the first item that is refused; a refusal closes, so none is behind it
+unfoldable pub closingRefusal : List Item → ℕ
+closingRefusal [] = 0
+closingRefusal (login imei ∷ items) = closingRefusal items
+closingRefusal (packet p ∷ items) = closingRefusal items
+closingRefusal (refusing r ∷ items) = r .number
+
+unfoldable pub connectionRefusal : List ℕ → ℕ
+connectionRefusal p = closingRefusal (stream baseLimits p (waiting forLogin []) .items)
+
+-- of what a feed tells
+unfoldable pub itemRefusal : told.Item → ℕ
+itemRefusal More = 0
+itemRefusal (Login imei) = 0
+itemRefusal (Packet n) = 0
+itemRefusal (Refused r) = r .number
 
 -- ---- what is written, into a buffer of `size` bytes
 

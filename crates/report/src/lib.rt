@@ -1,14 +1,18 @@
 // What is in an input, in words on standard output, one function for each kind; and what it turns into.
 // Each answers the number of the refusal that it says, 0 if none.
+mod items;
 mod records;
 
 ghost use mathlib.Core.Path.{_≡_};
 ghost use Rattle.wire.specs.Buffers.{writtenAs};
-ghost use Rattle.report.specs.Shown.{refusalNumber, packetRefusal, datagramRefusal, loginRefusal, commandRefusal, packetOfFormRefusal, formOfPacketRefusal, formOfDatagramRefusal, writeRefusal};
+ghost use Rattle.report.specs.Shown.{refusalNumber, packetRefusal, datagramRefusal, loginRefusal, commandRefusal, packetOfFormRefusal, formOfPacketRefusal, formOfDatagramRefusal, writeRefusal, connectionRefusal};
 use command::CommandAnswer;
 use command::CommandFields;
 use datagram::DatagramAnswer;
 use datagram::Header;
+use items::say_closed;
+use items::say_end;
+use items::say_item;
 use login::LoginAnswer;
 use packet::PacketAnswer;
 use records::say_records;
@@ -40,7 +44,8 @@ text size breaks its rule\n\
 IMEI length or digit wrong\n\
 no such record, element or ID\n\
 not the TLV form of any acceptable TCP data packet\n\
-lent buffer too short for the result\n",
+lent buffer too short for the result\n\
+connection closed, or a state that no feeds from a fresh one give\n",
         number,
     );
 }
@@ -82,14 +87,14 @@ fn say_codec(codec: u8) {
 }
 
 // 1 where a word has its plural.
-fn more(n: u8) -> u64 {
+fn more(n: usize) -> u64 {
     if n == 1 { 0 } else { 1 }
 }
 
 // The end of a heading: the codec, the numbers of records and bytes, the acknowledgement.
 fn say_counts(codec: u8, count: u8, size: usize, answer: &[u8]) {
     say_codec(codec);
-    let numbers = [count as u64, more(count), size as u64];
+    let numbers = [count as u64, more(count as usize), size as u64];
     say(b", %1 record^s, %1 bytes; acknowledgement ", &numbers);
     say_hex_line(answer);
 }
@@ -145,13 +150,17 @@ pub fn show_login(p: &[u8]) -> usize
     match login::read_login(p) {
         LoginAnswer::Refused(r) => refuse(r),
         LoginAnswer::Imei(imei) => {
-            say(
-                b"TCP login, IMEI %F\nanswer 01 if the unit is known, else 00\n",
-                &[imei],
-            );
+            say_imei(imei);
             0
         }
     }
+}
+
+fn say_imei(imei: u64) {
+    say(
+        b"TCP login, IMEI %F\nanswer 01 if the unit is known, else 00\n",
+        &[imei],
+    );
 }
 
 pub fn show_command(p: &[u8]) -> usize
@@ -189,6 +198,32 @@ fn say_message(f: CommandFields) {
     if f.codec == 0x0E {
         say(b"IMEI %F\n", &[f.imei]);
     }
+}
+
+// A captured connection: fed to a fresh one, item by item, until it is used up or closed.
+pub fn show_connection(p: &[u8]) -> usize
+    ensures { λ r. ⌜ r ≡ connectionRefusal (now (p .entry)) ⌝ }
+{
+    let mut held = [0u8; wire::LARGEST];
+    let mut packet = [0u8; wire::LARGEST];
+    let mut phase: u8 = 0;
+    let mut fill: usize = 0;
+    let mut at: usize = 0;
+    while at < p.len() {
+        let fed = connection::feed_lent(phase, fill, &mut held, &p[at..], &mut packet);
+        let item = fed.item;
+        let end = at + fed.used;
+        let number = say_item(item, at, &p[at..end], &packet);
+        at = end;
+        phase = fed.phase;
+        fill = fed.fill;
+        if phase == 2 {
+            say_closed(at, p.len() - at);
+            return number;
+        }
+    }
+    say_end(at, fill, connection::wanted(phase, fill, &held));
+    0
 }
 
 // The packet that a TLV form stands for.

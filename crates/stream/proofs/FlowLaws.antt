@@ -8,7 +8,7 @@ use Rattle.wire.specs.declared.Limits.{Limits}
 use Rattle.wire.specs.Numbers.{Bytes}
 use Rattle.wire.proofs.Widths.{bytes-append}
 use Rattle.stream.specs.Stream.{Phase, forPacket, Item, login, packet, refusing, Verdict, more, settled, State, waiting, closed, needed, verdictBy, verdict, next, Taken, taken, byVerdict, stream}
-use Rattle.stream.proofs.StreamLaws.{one-more, one-settles}
+use Rattle.stream.proofs.StreamLaws.{one-more, one-settles, by-feed}
 
 -- a state that feeds leave: closed, or more is needed
 abbrev pub Sound : Limits → State → Type 0
@@ -83,3 +83,12 @@ module _ (limits : Limits) where
         flows = λ later. refl;
       }
   leaves phase (b ∷ s) held e = leaves-on phase held b s (λ q. leaves phase s (held ++ (b ∷ [])) q)
+
+  -- a feed that needs more has used all bytes
+  pub all-used : (phase : Phase) (held s : List ℕ) → verdict limits phase held ≡ more → taken limits phase held s .told ≡ more
+      → taken limits phase held s ≡ record { used = length s; told = more; state = waiting phase (held ++ s) }
+  all-used phase held s waits =
+      by-feed limits (λ (t : Taken). t .told ≡ more → t ≡ record { used = length s; told = more; state = waiting phase (held ++ s) }) phase held s waits
+      (λ r k e. absurd (let z : _≡_ {A = ℕ} 0 1 = cc e in omega (arith, z)))
+      (λ n k q whole within e. absurd (let z : _≡_ {A = ℕ} 0 1 = cc e in omega (arith, z)))
+      (λ e. refl)

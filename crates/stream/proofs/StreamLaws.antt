@@ -1,7 +1,7 @@
 -- Bytes that are fed in one block, and the same bytes one by one.
 use Prim.Native.Nat.{ℕ, zero, suc, _+_, _-_, _*_, _≤_, _<_}
 use native.Mathlib.Omega.{arith}
-use mathlib.Core.Path.{_≡_, refl, sym, ap, ap₂, _∙_}
+use mathlib.Core.Path.{_≡_, refl, sym, ap, ap₂, _∙_, subst}
 use mathlib.Core.Bool.{Bool, true, false}
 use mathlib.Core.List.{List, [], _∷_, _++_, append-assoc, append-nil}
 use lib.ListN.{length, take, drop, getD, length-append, take-append-drop, List·getD-append}
@@ -269,3 +269,28 @@ module _ (limits : Limits) where
       let eight : 8 ≡ n = cc (needed-short held k, e) in
       let short : length (held ++ s) < 8 = omega (arith, less, eight) in
       verdict-more forPacket (held ++ s) 8 (needed-short (held ++ s) short) short)
+
+  -- ---- the three ways in which a feed ends, where more was needed before
+
+  pub by-feed : (P : Taken → Type 0) (phase : Phase) (held s : List ℕ) → verdict limits phase held ≡ more
+      → ((r : Refusal) (k : ℕ) → P (record { used = k; told = settled (refusing r); state = closed }))
+      → ((n k : ℕ) → needed limits phase (held ++ s) ≡ accepted n → length held + k ≡ n → k ≤ length s
+      → let i = judged limits phase (held ++ take k s) in P (record { used = k; told = settled i; state = next i }))
+      → P (record { used = length s; told = more; state = waiting phase (held ++ s) })
+      → P (taken limits phase held s)
+  by-feed P phase held s waits bad good few = go (needed limits phase (held ++ s)) refl
+    where
+      go : (r : Answer ℕ) → needed limits phase (held ++ s) ≡ r → P (taken limits phase held s)
+      go (refused r) e =
+          let early = refused-early phase held s waits e in
+          let k = 8 - length held in
+          subst P (sym (feed-refused phase held s k e (omega (arith, early)) (omega (arith, early)))) (bad r k)
+      go (accepted n) e =
+          let less = held-less phase held s n waits e in
+          let k = n - length held in
+          by-length n (length held + length s)
+          (λ h.
+          let whole : length held + k ≡ n = omega (arith, less) in
+          let within : k ≤ length s = omega (arith, h) in
+          subst P (sym (feed-judged phase held s n k e whole (omega (arith, less)) within)) (good n k e whole within))
+          (λ h. subst P (sym (feed-more phase held s n e h)) few)

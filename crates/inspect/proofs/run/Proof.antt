@@ -37,17 +37,20 @@ show-form-requires c κs = search needs
 enum-told-6 : tie.Need-enum-told-6
 enum-told-6 c = search needs
 
-run-form-of-requires : tie.Need-run-form-of-requires
-run-form-of-requires c κs = search needs
+show-connection-requires : tie.Need-show-connection-requires
+show-connection-requires c κs = search needs
 
 enum-told-7 : tie.Need-enum-told-7
 enum-told-7 c = search needs
 
-say-packet-of-requires : tie.Need-say-packet-of-requires
-say-packet-of-requires c κs = search needs
+run-form-of-requires : tie.Need-run-form-of-requires
+run-form-of-requires c κs = search needs
 
 enum-told-8 : tie.Need-enum-told-8
 enum-told-8 c = search needs
+
+say-packet-of-requires : tie.Need-say-packet-of-requires
+say-packet-of-requires c κs = search needs
 
 enum-told-9 : tie.Need-enum-told-9
 enum-told-9 c = search needs
@@ -57,6 +60,9 @@ enum-told-10 c = search needs
 
 enum-told-11 : tie.Need-enum-told-11
 enum-told-11 c = search needs
+
+enum-told-12 : tie.Need-enum-told-12
+enum-told-12 c = search needs
 
 returns : tie.Need-returns
 unfolding refusalBy
@@ -79,15 +85,15 @@ unfolding refusalBy
 returns-5 c = simp (c .before .enum-told5 .given .1) (c .show-form .ensures)
 
 returns-6 : tie.Need-returns-6
-returns-6 c = simp (c .before .enum-told6 .given .1) (c .run-form-of .ensures)
+unfolding refusalBy
+returns-6 c = simp (c .before .enum-told6 .given .1) (c .show-connection .ensures)
 
 returns-7 : tie.Need-returns-7
-unfolding refusalBy
-returns-7 c = simp (c .before .enum-told7 .given .1) (c .say-packet-of .ensures)
+returns-7 c = simp (c .before .enum-told7 .given .1) (c .run-form-of .ensures)
 
 returns-8 : tie.Need-returns-8
 unfolding refusalBy
-returns-8 c = simp (c .enum-told8 .given .1)
+returns-8 c = simp (c .before .enum-told8 .given .1) (c .say-packet-of .ensures)
 
 returns-9 : tie.Need-returns-9
 unfolding refusalBy
@@ -100,6 +106,10 @@ returns-10 c = simp (c .enum-told10 .given .1)
 returns-11 : tie.Need-returns-11
 unfolding refusalBy
 returns-11 c = simp (c .enum-told11 .given .1)
+
+returns-12 : tie.Need-returns-12
+unfolding refusalBy
+returns-12 c = simp (c .enum-told12 .given .1)
 
 pub run-spec : {M : Type 1} → statement M
 run-spec =
@@ -116,13 +126,15 @@ run-spec =
     enum-told-5
     show-form-requires
     enum-told-6
-    run-form-of-requires
+    show-connection-requires
     enum-told-7
-    say-packet-of-requires
+    run-form-of-requires
     enum-told-8
+    say-packet-of-requires
     enum-told-9
     enum-told-10
     enum-told-11
+    enum-told-12
     returns
     returns-2
     returns-3
@@ -133,4 +145,5 @@ run-spec =
     returns-8
     returns-9
     returns-10
-    returns-11)
+    returns-11
+    returns-12)

@@ -17,14 +17,8 @@ refuse-requires c κs = search needs
 enum-known-imei : tie.Need-enum-known-imei
 enum-known-imei c = search needs
 
-slice-aggregate-say : tie.Need-slice-aggregate-say
-slice-aggregate-say c = search needs
-
-slice-aggregate-say-2 : tie.Need-slice-aggregate-say-2
-slice-aggregate-say-2 c = search needs
-
-say-requires : tie.Need-say-requires
-say-requires c κs = search needs
+say-imei-requires : tie.Need-say-imei-requires
+say-imei-requires c κs = search needs
 
 returns : tie.Need-returns
 unfolding loginRefusal refusalNumber loginAs
@@ -32,7 +26,7 @@ returns c = simp (← c .before .before .before .before .read-login .ensures, c 
 
 returns-2 : tie.Need-returns-2
 unfolding loginRefusal refusalNumber loginAs
-returns-2 c = simp (← c .before .before .before .before .before .before .read-login .ensures, c .before .before .before .before .imei .given .1)
+returns-2 c = simp (← c .before .before .before .before .read-login .ensures, c .before .before .imei .given .1)
 
 pub show-login-spec : {M : Type 1} → statement M
 show-login-spec =
@@ -42,8 +36,6 @@ show-login-spec =
     enum-known-r
     refuse-requires
     enum-known-imei
-    slice-aggregate-say
-    slice-aggregate-say-2
-    say-requires
+    say-imei-requires
     returns
     returns-2)

@@ -32,9 +32,16 @@ returns-4 : tie.Need-returns-4
 unfolding kindOf
 returns-4 c = simp (← c .before .before .before .before .before .is-login .ensures, c .before .before .before .before .if1 .left, ← c .before .before .before .is-tcp .ensures, c .before .before .if2 .left, ← c .before .is-form .ensures, c .if4 .taken)
 
+is-connection-requires : tie.Need-is-connection-requires
+is-connection-requires c κs = search needs
+
 returns-5 : tie.Need-returns-5
 unfolding kindOf
-returns-5 c = simp (← c .before .before .before .before .before .is-login .ensures, c .before .before .before .before .if1 .left, ← c .before .before .before .is-tcp .ensures, c .before .before .if2 .left, ← c .before .is-form .ensures, c .if4 .left)
+returns-5 c = simp (← c .before .before .before .before .before .before .before .is-login .ensures, c .before .before .before .before .before .before .if1 .left, ← c .before .before .before .before .before .is-tcp .ensures, c .before .before .before .before .if2 .left, ← c .before .before .before .is-form .ensures, c .before .before .if4 .left, ← c .before .is-connection .ensures, c .if5 .taken)
+
+returns-6 : tie.Need-returns-6
+unfolding kindOf
+returns-6 c = simp (← c .before .before .before .before .before .before .before .is-login .ensures, c .before .before .before .before .before .before .if1 .left, ← c .before .before .before .before .before .is-tcp .ensures, c .before .before .before .before .if2 .left, ← c .before .before .before .is-form .ensures, c .before .before .if4 .left, ← c .before .is-connection .ensures, c .if5 .left)
 
 pub found-spec : {M : Type 1} → statement M
 found-spec =
@@ -48,4 +55,6 @@ found-spec =
     returns-3
     is-form-requires
     returns-4
-    returns-5)
+    is-connection-requires
+    returns-5
+    returns-6)

@@ -1,0 +1,103 @@
+// The items of a connection, each behind a line that says where it stands; and where the connection ends.
+// Bytes are counted from 0.
+ghost use mathlib.Core.Path.{_≡_};
+ghost use Prim.Native.Nat.{_≤_};
+ghost use Rattle.report.specs.Shown.{itemRefusal};
+use crate::more;
+use crate::refuse;
+use crate::refuse_data;
+use crate::say_imei;
+use crate::show_command;
+use crate::show_packet;
+use command::Row;
+use connection::Item;
+use say::say;
+use wire::Refusal;
+
+// What a feed told of the bytes `s`, which it used from `at` on, and left in `packet`; the number of
+// the refusal, 0 if none.
+pub fn say_item(item: Item, at: usize, s: &[u8], packet: &[u8]) -> usize
+    ensures { λ r. ⌜ r ≡ itemRefusal item ⌝ }
+{
+    match item {
+        Item::More => 0,
+        Item::Login(imei) => {
+            say_place(at, s.len());
+            say_imei(imei);
+            0
+        }
+        Item::Packet(n) => {
+            say_place(at, s.len());
+            if n <= packet.len() {
+                say_whole(&packet[0..n]);
+            }
+            0
+        }
+        Item::Refused(r) => {
+            say_place(at, s.len());
+            refuse_item(s, r)
+        }
+    }
+}
+
+fn say_place(at: usize, size: usize) {
+    say(b"-- from byte %1, %1 bytes\n", &[at as u64, size as u64]);
+}
+
+// By its codec, a packet goes by the command rules or by the data rules.
+fn is_command(p: &[u8]) -> bool {
+    if p.len() <= 8 {
+        return false;
+    }
+    match command::layout_of(p[8]) {
+        Row::Of(_) => true,
+        Row::Unknown => false,
+    }
+}
+
+fn say_whole(p: &[u8]) -> usize {
+    if is_command(p) {
+        return show_command(p);
+    }
+    show_packet(p)
+}
+
+fn refuse_item(s: &[u8], r: Refusal) -> usize
+    ensures { λ n. ⌜ n ≡ r .number ⌝ }
+{
+    if is_command(s) {
+        return refuse(r);
+    }
+    refuse_data(r)
+}
+
+// A refusal has closed the connection; how many bytes stand behind it.
+pub fn say_closed(at: usize, left: usize) {
+    let numbers = [at as u64, left as u64, more(left)];
+    say(
+        b"-- closed at byte %1: %1 byte^s behind it not used\n",
+        &numbers,
+    );
+}
+
+// The input is used up: how many of its last bytes are held, and how many more are wanted.
+pub fn say_end(at: usize, fill: usize, wanted: usize)
+    requires { ⌜ fill ≤ at ⌝ }
+{
+    if fill == 0 {
+        say(b"-- end at byte %1: no bytes held\n", &[at as u64]);
+        return;
+    }
+    let from = at - fill;
+    let numbers = [
+        at as u64,
+        fill as u64,
+        more(fill),
+        from as u64,
+        wanted as u64,
+    ];
+    say(
+        b"-- end at byte %1: %1 byte^s held from byte %1 on, at least %1 more wanted\n",
+        &numbers,
+    );
+}
