@@ -1,9 +1,6 @@
-// The items of a connection, each behind a line that says where it stands; and where the connection ends.
-// Bytes are counted from 0.
+// The items of a connection, each behind a line that says where it stands. Bytes are counted from 0.
 ghost use mathlib.Core.Path.{_≡_};
-ghost use Prim.Native.Nat.{_≤_};
 ghost use Rattle.report.specs.Shown.{itemRefusal};
-use crate::more;
 use crate::refuse;
 use crate::refuse_data;
 use crate::say_imei;
@@ -69,35 +66,4 @@ fn refuse_item(s: &[u8], r: Refusal) -> usize
         return refuse(r);
     }
     refuse_data(r)
-}
-
-// A refusal has closed the connection; how many bytes stand behind it.
-pub fn say_closed(at: usize, left: usize) {
-    let numbers = [at as u64, left as u64, more(left)];
-    say(
-        b"-- closed at byte %1: %1 byte^s behind it not used\n",
-        &numbers,
-    );
-}
-
-// The input is used up: how many of its last bytes are held, and how many more are wanted.
-pub fn say_end(at: usize, fill: usize, wanted: usize)
-    requires { ⌜ fill ≤ at ⌝ }
-{
-    if fill == 0 {
-        say(b"-- end at byte %1: no bytes held\n", &[at as u64]);
-        return;
-    }
-    let from = at - fill;
-    let numbers = [
-        at as u64,
-        fill as u64,
-        more(fill),
-        from as u64,
-        wanted as u64,
-    ];
-    say(
-        b"-- end at byte %1: %1 byte^s held from byte %1 on, at least %1 more wanted\n",
-        &numbers,
-    );
 }

@@ -4,14 +4,13 @@ mod items;
 mod records;
 
 ghost use mathlib.Core.Path.{_≡_};
+ghost use Prim.Native.Nat.{_≤_};
 ghost use Rattle.wire.specs.Buffers.{writtenAs};
 ghost use Rattle.report.specs.Shown.{refusalNumber, packetRefusal, datagramRefusal, loginRefusal, commandRefusal, packetOfFormRefusal, formOfPacketRefusal, formOfDatagramRefusal, writeRefusal, connectionRefusal};
 use command::CommandAnswer;
 use command::CommandFields;
 use datagram::DatagramAnswer;
 use datagram::Header;
-use items::say_closed;
-use items::say_end;
 use items::say_item;
 use login::LoginAnswer;
 use packet::PacketAnswer;
@@ -198,6 +197,37 @@ fn say_message(f: CommandFields) {
     if f.codec == 0x0E {
         say(b"IMEI %F\n", &[f.imei]);
     }
+}
+
+// A refusal has closed the connection; how many bytes stand behind it.
+fn say_closed(at: usize, left: usize) {
+    let numbers = [at as u64, left as u64, more(left)];
+    say(
+        b"-- closed at byte %1: %1 byte^s behind it not used\n",
+        &numbers,
+    );
+}
+
+// The input is used up: how many of its last bytes are held, and how many more are wanted.
+fn say_end(at: usize, fill: usize, wanted: usize)
+    requires { ⌜ fill ≤ at ⌝ }
+{
+    if fill == 0 {
+        say(b"-- end at byte %1: no bytes held\n", &[at as u64]);
+        return;
+    }
+    let from = at - fill;
+    let numbers = [
+        at as u64,
+        fill as u64,
+        more(fill),
+        from as u64,
+        wanted as u64,
+    ];
+    say(
+        b"-- end at byte %1: %1 byte^s held from byte %1 on, at least %1 more wanted\n",
+        &numbers,
+    );
 }
 
 // A captured connection: fed to a fresh one, item by item, until it is used up or closed.
