@@ -1,7 +1,6 @@
 -- How an answer is laid out flat: number 0 for an accepted input, else the refusal with all other fields 0.
 use Prim.Native.Nat.{ℕ}
-use Rattle.wire.specs.declared.Refusal.{Refusal}
-use Rattle.wire.specs.Answers.{Answer, accepted, refused, refusal}
+use Rattle.wire.specs.Answers.{Answer, accepted, refused}
 use Rattle.avl.specs.DataField.{DataResult}
 use Rattle.datagram.specs.Datagrams.{DatagramResult}
 use Rattle.command.specs.declared.CommandFields.{CommandFields}
@@ -14,6 +13,7 @@ use Rattle.connection.specs.declared.Fed.{Fed}
 use Rattle.connection.specs.declared.Lent.{Lent}
 use Rattle.connection.specs.declared.Item.{Item}
 use Rattle.connection.specs.declared.Item.the-variants.{More, Login, Packet, Refused}
+use Rattle.connection.specs.Feeding.{itemRefusal}
 use Rattle.capi.specs.declared.FedC.{FedC}
 use Rattle.capi.specs.declared.LentC.{LentC}
 use Rattle.capi.specs.declared.RecordC.{RecordC}
@@ -73,12 +73,6 @@ itemSize More = 0
 itemSize (Login imei) = 0
 itemSize (Packet size) = size
 itemSize (Refused r) = 0
-
-unfoldable pub itemRefusal : Item → Refusal
-itemRefusal More = refusal 0
-itemRefusal (Login imei) = refusal 0
-itemRefusal (Packet size) = refusal 0
-itemRefusal (Refused r) = r
 
 -- of a feed; number 0 where nothing is refused
 unfoldable pub flatLent : Lent → LentC

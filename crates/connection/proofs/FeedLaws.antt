@@ -19,16 +19,15 @@ use Rattle.connection.specs.declared.Connection.{Connection}
 use Rattle.connection.specs.declared.Fed.{Fed}
 use Rattle.connection.specs.declared.Lent.{Lent}
 use Rattle.connection.specs.State.{zeros, padded, phaseOf, heldBy, opened}
-use Rattle.connection.specs.Feeding.{Outcome, outcome, feeding, fed, fedInto, packetIn, fedAs, lentAs}
+use Rattle.connection.specs.Feeding.{Outcome, outcome, feeding, fed, fedInto, packetIn, fedAs, lentAs, Feedable, Gives}
 use Rattle.connection.proofs.PaddedLaws.{length-zeros, drop-zeros}
 use Rattle.connection.proofs.OpenLaws.{open-is, open-or}
 use Rattle.connection.proofs.JudgeLaws.{judged-itself}
 
 -- what is given, by the outcome
-pub by-outcome : {o u : Outcome} (before : List ℕ) {r : Lent} {held out : List ℕ} → o ≡ u → r ≡ lentAs u → held ≡ u .state .held → out ≡ leaving (accepted (packetIn (u .told))) before
+pub by-outcome : {o u : Outcome} (before : List ℕ) {r : Lent} {held out : List ℕ} → o ≡ u → Gives u before r held out
     → (r ≡ lentAs o) × ((held ≡ o .state .held) × (out ≡ leaving (accepted (packetIn (o .told))) before))
-by-outcome before {r} {held} {out} e a b d =
-    subst (λ (x : Outcome). (r ≡ lentAs x) × ((held ≡ x .state .held) × (out ≡ leaving (accepted (packetIn (x .told))) before))) (sym e) (a, (b, d))
+by-outcome before {r} {held} {out} e g = let k = subst (λ (x : Outcome). Gives x before r held out) (sym e) g in (k .answer, (k .state, k .buffer))
 
 module _ (limits : Limits) (room : ℕ) (c : Connection) (s : List ℕ) where
   pub unopened : {r : Refusal} → opened limits room c ≡ refused r → fed limits room c s ≡ record { state = c; used = 0; told = settled (refusing r) }
@@ -55,8 +54,14 @@ module _ (limits : Limits) (room : ℕ) (c : Connection) (s : List ℕ) where
     open-into e h = ap (feeding limits room c s) (onAccepted-passed (opened limits room c) _ e ∙ check-passed _ 18 _ (le-leb _ _ h))
 
     -- a long buffer changes nothing
-    fed-into : limits .largest ≤ length out → fedInto limits room c s out ≡ fed limits room c s
+    pub fed-into : limits .largest ≤ length out → fedInto limits room c s out ≡ fed limits room c s
     fed-into h = open-or limits room c (λ e. open-into e h ∙ sym (open-fed e)) (λ e. shut-into e ∙ sym (unopened e))
+
+-- what is given, by what is taken
+pub by-taken : {limits : Limits} {room : ℕ} {c : Connection} {u : Taken} {before : List ℕ} {r : Lent} {held out : List ℕ} → Feedable limits room c before → (s : List ℕ)
+    → taken limits (phaseOf (c .phase)) (heldBy c) s ≡ u → Gives (outcome room u) before r held out → Gives (fed limits room c s) before r held out
+by-taken {limits} {room} {c} {u} {before} {r} {held} {out} able s e g =
+    subst (λ (x : Outcome). Gives x before r held out) (sym (open-fed limits room c s (able .opens) ∙ ap (outcome room) e)) g
 
 -- ---- a packet is no longer than a state has room for
 

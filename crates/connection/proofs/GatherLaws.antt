@@ -1,24 +1,22 @@
 -- Bytes gathered behind those held: what each of the three ways that it ends leaves.
 use Prim.Native.Nat.{ℕ, _+_, _-_, _≤_, _<_}
 use native.Mathlib.Omega.{arith}
-use mathlib.Core.Path.{_≡_, refl, sym, ap, ap₂, _∙_, subst}
+use mathlib.Core.Path.{_≡_, refl, sym, ap, ap₂, _∙_}
 use mathlib.Core.List.{List, [], _++_, append-nil}
 use lib.ListN.{length, take, drop, length-append}
 use lib.Seq.{sets, length-sets, take-length, length-take-le}
 use borrow.Author.Tests.{eq-eqb, ne-eqb}
 use Rattle.wire.specs.declared.Limits.{Limits}
 use Rattle.wire.specs.Answers.{accepted, refused, refusal}
-use Rattle.wire.specs.Buffers.{leaving}
 use Rattle.wire.proofs.Accepting.{by-length}
 use Rattle.frame.specs.declared.Framed.{Framed}
 use Rattle.frame.specs.Frame.{heading}
 use Rattle.frame.proofs.FramingLaws.{heading-accepted}
-use Rattle.stream.specs.Stream.{Item, login, packet, refusing, more, settled, waiting, closed, needed, judged, next, Taken, taken}
+use Rattle.stream.specs.Stream.{Item, login, packet, refusing, more, settled, waiting, closed, needed, judged, next, taken}
 use Rattle.stream.proofs.StreamLaws.{needed-least, item-long, needed-most, needed-front, header-length, held-less, feed-more, feed-judged, feed-refused, refused-early}
 use Rattle.connection.specs.declared.Connection.{Connection}
-use Rattle.connection.specs.declared.Lent.{Lent}
-use Rattle.connection.specs.State.{zeros, padded, phaseNumber, kept, phaseOf, heldBy, opened}
-use Rattle.connection.specs.Feeding.{outcome, packetIn, lentAs}
+use Rattle.connection.specs.State.{zeros, padded, phaseNumber, kept, phaseOf, heldBy}
+use Rattle.connection.specs.Feeding.{Feedable}
 use Rattle.connection.proofs.PaddedLaws.{front-part, take-padded, store-padded, clear-padded}
 use Rattle.connection.proofs.OpenLaws.{needed-unframed, held-length, held-padded, Open, open-is}
 
@@ -33,16 +31,10 @@ next-held room (login imei) = refl
 next-held room (packet p) = refl
 next-held room (refusing r) = refl
 
--- what is given, by what is taken
-pub by-taken : {t u : Taken} (room : ℕ) (before : List ℕ) {r : Lent} {held out : List ℕ} → t ≡ u → r ≡ lentAs (outcome room u) → held ≡ outcome room u .state .held → out ≡ leaving (accepted (packetIn (u .told))) before
-    → (r ≡ lentAs (outcome room t)) × ((held ≡ outcome room t .state .held) × (out ≡ leaving (accepted (packetIn (t .told))) before))
-by-taken room before {r} {held} {out} e a b d =
-    subst (λ (x : Taken). (r ≡ lentAs (outcome room x)) × ((held ≡ outcome room x .state .held) × (out ≡ leaving (accepted (packetIn (x .told))) before))) (sym e) (a, (b, d))
-
-module _ (limits : Limits) (room : ℕ) (c : Connection) (s : List ℕ) (small : 17 ≤ room) (large : limits .largest ≤ room) (shown : opened limits room c ≡ accepted (heldBy c))
+module _ {limits : Limits} {room : ℕ} {c : Connection} {out : List ℕ} (able : Feedable limits room c out) (s : List ℕ) (small : 17 ≤ room)
     (front : ℕ) (rest : front ≡ length s - (length s - (8 - c .fill))) where
   is : Open limits room c
-  is = open-is limits room c shown .0
+  is = open-is limits room c (able .opens) .0
 
   pub filled : length (heldBy c) ≡ c .fill
   filled = held-length limits room c (is .size) (is .fill)
@@ -103,7 +95,7 @@ module _ (limits : Limits) (room : ℕ) (c : Connection) (s : List ℕ) (small :
       pub judged-within : (c .fill < n) × (n ≤ room) × (8 ≤ n)
       judged-within = (
         omega (arith, filled, held-less limits (phaseOf (c .phase)) (heldBy c) s n (is .waits) good),
-        needed-most limits room small large (phaseOf (c .phase)) (heldBy c ++ s) n good,
+        needed-most limits room small (able .holds) (phaseOf (c .phase)) (heldBy c ++ s) n good,
         needed-least limits (phaseOf (c .phase)) (heldBy c ++ s) n good,
       )
 
@@ -169,7 +161,7 @@ module _ (limits : Limits) (room : ℕ) (c : Connection) (s : List ℕ) (small :
 
 -- ---- nothing is held, and the item is whole in the bytes
 
-module _ (limits : Limits) (room : ℕ) (c : Connection) (s : List ℕ) (small : 17 ≤ room) (large : limits .largest ≤ room) (shown : opened limits room c ≡ accepted (heldBy c))
+module _ {limits : Limits} {room : ℕ} {c : Connection} {out : List ℕ} (able : Feedable limits room c out) (s : List ℕ) (small : 17 ≤ room)
     (empty : c .fill ≡ 0) (n : ℕ) (e : heading (needed limits (phaseOf (c .phase)) s) ≡ Framed.Field n) (enough : n ≤ length s) where
   none-held : heldBy c ≡ []
   unfolding heldBy
@@ -184,7 +176,7 @@ module _ (limits : Limits) (room : ℕ) (c : Connection) (s : List ℕ) (small :
   pub at-once-part : (9 ≤ length (take (n - 0) (drop 0 s))) × (length (take (n - 0) (drop 0 s)) ≤ room)
   at-once-part =
       let size : length (take (n - 0) (drop 0 s)) ≡ n = ap length (front-part s n) ∙ length-take-le n s enough in
-      (omega (arith, size, long), omega (arith, size, needed-most limits room small large (phaseOf (c .phase)) s n tells-all))
+      (omega (arith, size, long), omega (arith, size, needed-most limits room small (able .holds) (phaseOf (c .phase)) s n tells-all))
 
   pub at-once-taken : let i = judged limits (phaseOf (c .phase)) (take (n - 0) (drop 0 s)) in
       taken limits (phaseOf (c .phase)) (heldBy c) s ≡ record { used = n; told = settled i; state = next i }
@@ -196,4 +188,4 @@ module _ (limits : Limits) (room : ℕ) (c : Connection) (s : List ℕ) (small :
       (ap (λ (l : List ℕ). l ++ take n s) none-held ∙ sym (front-part s n))
 
   pub at-once-held : (i : Item) → c .held ≡ kept room (next i) .held
-  at-once-held i = held-padded limits room c (open-is limits room c shown .0) ∙ ap (padded room) none-held ∙ sym (next-held room i)
+  at-once-held i = held-padded limits room c (open-is limits room c (able .opens) .0) ∙ ap (padded room) none-held ∙ sym (next-held room i)

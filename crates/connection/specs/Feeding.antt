@@ -1,17 +1,20 @@
 -- What a feed gives: the state, how many bytes it uses, and what it tells.
-use Prim.Native.Nat.{ℕ}
+use Prim.Native.Nat.{ℕ, _≤_}
+use mathlib.Core.Path.{_≡_}
 use mathlib.Core.List.{List, []}
 use lib.ListN.{length}
 use lib.Dec.{leb}
 use Rattle.wire.specs.declared.Limits.{Limits}
-use Rattle.wire.specs.Answers.{Answer, accepted, refused, check, onAccepted}
+use Rattle.wire.specs.declared.Refusal.{Refusal}
+use Rattle.wire.specs.Answers.{Answer, accepted, refused, refusal, check, onAccepted}
+use Rattle.wire.specs.Buffers.{leaving}
 use Rattle.stream.specs.Stream.{login, packet, refusing, Verdict, more, settled, Taken, taken}
 use Rattle.connection.specs.declared.Connection.{Connection}
 use Rattle.connection.specs.declared.Fed.{Fed}
 use Rattle.connection.specs.declared.Lent.{Lent}
 use Rattle.connection.specs.declared.Item.{Item}
 use Rattle.connection.specs.declared.Item.the-variants.{More, Login, Packet, Refused}
-use Rattle.connection.specs.State.{padded, kept, phaseOf, opened}
+use Rattle.connection.specs.State.{padded, kept, phaseOf, heldBy, opened}
 
 pub record Outcome : Type 0 where
   pub state : Connection
@@ -48,8 +51,29 @@ itemAs (settled (login imei)) = Login imei
 itemAs (settled (packet p)) = Packet (length p)
 itemAs (settled (refusing r)) = Refused r
 
+-- the refusal that is told; number 0 where there is none
+unfoldable pub itemRefusal : Item → Refusal
+itemRefusal More = refusal 0
+itemRefusal (Login imei) = refusal 0
+itemRefusal (Packet size) = refusal 0
+itemRefusal (Refused r) = r
+
 unfoldable pub fedAs : ℕ → Outcome → Fed
 fedAs room o = record { state = o .state; used = o .used; item = itemAs (o .told); packet = padded room (packetIn (o .told)) }
 
 unfoldable pub lentAs : Outcome → Lent
 lentAs o = record { phase = o .state .phase; fill = o .state .fill; used = o .used; item = itemAs (o .told) }
+
+-- ---- a feed of an open state that is lent
+
+-- a state that is open, and a lent buffer: both have room for every packet
+pub record Feedable (limits : Limits) (room : ℕ) (c : Connection) (out : List ℕ) : Type 0 where
+  pub opens : opened limits room c ≡ accepted (heldBy c)
+  pub holds : limits .largest ≤ room
+  pub fits : room ≤ length out
+
+-- what an outcome leaves: the answer, the state's bytes, and the lent buffer that was `before`
+pub record Gives (o : Outcome) (before : List ℕ) (r : Lent) (held out : List ℕ) : Type 0 where
+  pub answer : r ≡ lentAs o
+  pub state : held ≡ o .state .held
+  pub buffer : out ≡ leaving (accepted (packetIn (o .told))) before

@@ -10,16 +10,16 @@ use wire::Refusal;
 use wire::Written;
 ghost use mathlib.Core.Path.{_≡_};
 ghost use Prim.Native.Nat.{_-_, _≤_};
-ghost use lib.ListN.{length, take};
+ghost use lib.ListN.{length};
 ghost use lib.Seq.{sets};
 ghost use lib.Dec.{eqb};
 ghost use Rattle.wire.specs.Answers.{accepted, refusal};
 ghost use Rattle.wire.specs.Buffers.{writing, leaving, writtenAs};
 ghost use Rattle.wire.specs.Limits.{baseLimits};
 ghost use Rattle.frame.specs.Frame.{heading};
-ghost use Rattle.stream.specs.Stream.{needed, judgedPacket, judged, settled, refusing, closed, next, taken};
-ghost use Rattle.connection.specs.State.{zeros, fresh, isZero, phaseOf, opened, judgedAt, countOf, wanted};
-ghost use Rattle.connection.specs.Feeding.{outcome, fed, fedInto, packetIn, fedAs, lentAs};
+ghost use Rattle.stream.specs.Stream.{needed, judgedPacket, judged, settled, refusing, closed, next};
+ghost use Rattle.connection.specs.State.{zeros, fresh, isZero, phaseOf, judgedAt, countOf, wanted};
+ghost use Rattle.connection.specs.Feeding.{outcome, fed, fedInto, packetIn, fedAs, lentAs, Feedable, Gives};
 
 // The bytes gathered so far and zeros behind them, how many they are, and the phase: 0 expects the login, 1 packets, 2 is closed. A fresh one is all zero.
 #[repr(C)]
@@ -228,11 +228,8 @@ fn gather(
     bytes: &[u8],
     out: &mut [u8],
 ) -> Lent
-    requires { ⌜ opened limits 1280 (record { held = now held; fill = fill; phase = phase }) ≡ accepted (take fill (now held)) ⌝ }
-    requires { ⌜ (limits .largest ≤ 1280) × (1280 ≤ length (now out)) ⌝ }
-    ensures answer { λ r. ⌜ r ≡ lentAs (outcome 1280 (taken limits (phaseOf phase) (take fill (now (held .entry))) (now (bytes .entry)))) ⌝ }
-    ensures state { λ r. ⌜ now (held .exit) ≡ outcome 1280 (taken limits (phaseOf phase) (take fill (now (held .entry))) (now (bytes .entry))) .state .held ⌝ }
-    ensures buffer { λ r. ⌜ now (out .exit) ≡ leaving (accepted (packetIn (taken limits (phaseOf phase) (take fill (now (held .entry))) (now (bytes .entry)) .told))) (now (out .entry)) ⌝ }
+    requires { ⌜ Feedable limits 1280 (record { held = now held; fill = fill; phase = phase }) (now out) ⌝ }
+    ensures { λ r. ⌜ Gives (fed limits 1280 (record { held = now (held .entry); fill = fill; phase = phase }) (now (bytes .entry))) (now (out .entry)) r (now (held .exit)) (now (out .exit)) ⌝ }
 {
     let front = header_rest(fill, bytes.len());
     let got = fill + front;
@@ -277,11 +274,8 @@ fn feed_open(
     bytes: &[u8],
     out: &mut [u8],
 ) -> Lent
-    requires { ⌜ opened limits 1280 (record { held = now held; fill = fill; phase = phase }) ≡ accepted (take fill (now held)) ⌝ }
-    requires { ⌜ (limits .largest ≤ 1280) × (1280 ≤ length (now out)) ⌝ }
-    ensures answer { λ r. ⌜ r ≡ lentAs (outcome 1280 (taken limits (phaseOf phase) (take fill (now (held .entry))) (now (bytes .entry)))) ⌝ }
-    ensures state { λ r. ⌜ now (held .exit) ≡ outcome 1280 (taken limits (phaseOf phase) (take fill (now (held .entry))) (now (bytes .entry))) .state .held ⌝ }
-    ensures buffer { λ r. ⌜ now (out .exit) ≡ leaving (accepted (packetIn (taken limits (phaseOf phase) (take fill (now (held .entry))) (now (bytes .entry)) .told))) (now (out .entry)) ⌝ }
+    requires { ⌜ Feedable limits 1280 (record { held = now held; fill = fill; phase = phase }) (now out) ⌝ }
+    ensures { λ r. ⌜ Gives (fed limits 1280 (record { held = now (held .entry); fill = fill; phase = phase }) (now (bytes .entry))) (now (out .entry)) r (now (held .exit)) (now (out .exit)) ⌝ }
 {
     if fill == 0 {
         match needed(limits, phase, bytes) {

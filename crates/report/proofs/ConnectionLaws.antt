@@ -12,11 +12,11 @@ use Rattle.stream.proofs.FlowLaws.{Sound, Leaves, leaves, all-used}
 use Rattle.connection.specs.declared.Connection.{Connection}
 use Rattle.connection.specs.declared.Lent.{Lent}
 use Rattle.connection.specs.State.{zeros, padded, phaseNumber, phaseOf, kept, opened}
-use Rattle.connection.specs.Feeding.{Outcome, outcome, fedInto, itemAs, lentAs}
+use Rattle.connection.specs.Feeding.{Outcome, outcome, fedInto, itemAs, itemRefusal, lentAs}
 use Rattle.connection.proofs.PaddedLaws.{rest-part}
 use Rattle.connection.proofs.FeedLaws.{open-into}
 use Rattle.connection.proofs.KeptLaws.{phase-of, phase-low, kept-open}
-use Rattle.report.specs.Shown.{closingRefusal, connectionRefusal, itemRefusal}
+use Rattle.report.specs.Shown.{closingRefusal, connectionRefusal}
 
 -- ---- between two feeds
 
@@ -101,7 +101,7 @@ module _ {p : List ℕ} {c : Connection} {at : ℕ} (g : Going p c at) (inside :
 
   -- it goes on, or it is closed
   after : {P : Type 0} → (Going p (kept 1280 (t .state)) (at + t .used) → kept 1280 (t .state) .phase ≤ 1 → P)
-      → (kept 1280 (t .state) .phase ≡ 2 → itemRefusal (itemAs (t .told)) ≡ connectionRefusal p → P) → P
+      → (kept 1280 (t .state) .phase ≡ 2 → itemRefusal (itemAs (t .told)) .number ≡ connectionRefusal p → P) → P
   unfolding byVerdict cons closingRefusal itemRefusal itemAs next kept
   after {P} on off = go (t .told) refl
     where
@@ -122,7 +122,7 @@ module _ {p : List ℕ} {c : Connection} {at : ℕ} (g : Going p c at) (inside :
       go (settled (login imei)) e = item (login imei) e refl (left (settled (login imei)) e)
       go (settled (packet q)) e = item (packet q) e refl (left (settled (packet q)) e)
       go (settled (refusing r)) e =
-          off (ap (λ (x : State). kept 1280 x .phase) (left-by .forward (refusing r) e .1)) (ap (λ (v : Verdict). itemRefusal (itemAs v)) e ∙ left (settled (refusing r)) e)
+          off (ap (λ (x : State). kept 1280 x .phase) (left-by .forward (refusing r) e .1)) (ap (λ (v : Verdict). itemRefusal (itemAs v) .number) e ∙ left (settled (refusing r)) e)
 
   -- ---- the same of what the code gets
 
@@ -149,9 +149,9 @@ module _ {p : List ℕ} {c : Connection} {at : ℕ} (g : Going p c at) (inside :
         (λ k low. subst (λ (x : Connection). Going p x (at + r .used)) (sym same) (subst (λ (n : ℕ). Going p (kept 1280 (t .state)) (at + n)) (sym (ap (λ (x : Lent). x .used) lent-is)) k))
         (λ shut n. absurd (unshut (ap (λ (x : Lent). x .phase) lent-is ∙ shut)))
 
-    pub closes : r .phase ≡ 2 → itemRefusal (r .item) ≡ connectionRefusal p
+    pub closes : r .phase ≡ 2 → itemRefusal (r .item) .number ≡ connectionRefusal p
     unfolding lentAs outcome
     closes shut =
         after
         (λ k low. absurd (omega (arith, low, shut, ap (λ (x : Lent). x .phase) lent-is)))
-        (λ e n. ap (λ (x : Lent). itemRefusal (x .item)) lent-is ∙ n)
+        (λ e n. ap (λ (x : Lent). itemRefusal (x .item) .number) lent-is ∙ n)

@@ -15,8 +15,6 @@ use Rattle.command.specs.Writing.{commandBytes}
 use Rattle.tlv.specs.PacketOf.{formOfPacket, formOfDatagram, packetOfForm}
 use Rattle.contents.specs.Contents.{contentsOfPacket, contentsOfDatagram}
 use Rattle.stream.specs.Stream.{forLogin, Item, login, packet, refusing, waiting, stream}
-use Rattle.connection.specs.declared.Item as told
-use Rattle.connection.specs.declared.Item.the-variants.{More, Login, Packet, Refused}
 
 unfoldable pub refusalNumber : {A : Type 0} → Answer A → ℕ
 refusalNumber (accepted a) = 0
@@ -47,13 +45,6 @@ closingRefusal (refusing r ∷ items) = r .number
 
 unfoldable pub connectionRefusal : List ℕ → ℕ
 connectionRefusal p = closingRefusal (stream baseLimits p (waiting forLogin []) .items)
-
--- of what a feed tells
-unfoldable pub itemRefusal : told.Item → ℕ
-itemRefusal More = 0
-itemRefusal (Login imei) = 0
-itemRefusal (Packet n) = 0
-itemRefusal (Refused r) = r .number
 
 -- ---- what is written, into a buffer of `size` bytes
 

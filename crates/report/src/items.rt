@@ -1,6 +1,6 @@
 // The items of a connection, each behind a line that says where it stands. Bytes are counted from 0.
 ghost use mathlib.Core.Path.{_≡_};
-ghost use Rattle.report.specs.Shown.{itemRefusal};
+ghost use Rattle.connection.specs.Feeding.{itemRefusal};
 use crate::refuse;
 use crate::refuse_data;
 use crate::say_imei;
@@ -14,7 +14,7 @@ use wire::Refusal;
 // What a feed told of the bytes `s`, which it used from `at` on, and left in `packet`; the number of
 // the refusal, 0 if none.
 pub fn say_item(item: Item, at: usize, s: &[u8], packet: &[u8]) -> usize
-    ensures { λ r. ⌜ r ≡ itemRefusal item ⌝ }
+    ensures { λ r. ⌜ r ≡ itemRefusal item .number ⌝ }
 {
     match item {
         Item::More => 0,

@@ -1,5 +1,5 @@
-use Rattle.capi.specs.Flat.{itemNumber, itemImei, itemSize, itemRefusal, flatLent}
-use Rattle.connection.specs.declared.Lent.{Lent}
+use Rattle.capi.specs.Flat.{itemNumber, itemImei, itemSize, flatLent}
+use Rattle.connection.specs.Feeding.{itemRefusal}
 use mathlib.Core.Path.{sym, ap}
 use borrow.Author.Needs.{needs}
 use Rattle.capi.proofs.flat_lent.Statement.{statement}

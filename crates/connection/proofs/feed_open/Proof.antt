@@ -1,11 +1,8 @@
-use Rattle.connection.proofs.GatherLaws.{by-taken, at-once-part, at-once-taken, at-once-held}
+use Rattle.connection.proofs.GatherLaws.{at-once-part, at-once-taken, at-once-held}
+use Rattle.connection.proofs.FeedLaws.{by-taken}
 use Rattle.connection.specs.Feeding.{outcome}
-use Rattle.connection.specs.State.{heldBy, phaseOf}
-use Rattle.stream.specs.Stream.{judged}
 use lib.Dec.{lit≤}
-use lib.ListN.{take, drop}
 use mathlib.Core.Path.{sym, _∙_}
-use Prim.Native.Nat.{_-_}
 use native.Mathlib.Omega.{arith}
 use borrow.Author.Needs.{needs}
 use Rattle.connection.proofs.feed_open.Statement.{statement}
@@ -30,15 +27,14 @@ part-settle-end : tie.Need-part-settle-end
 part-settle-end c = search needs
 
 settle-requires : tie.Need-settle-requires
-unfolding heldBy
-settle-requires c κs = let k = at-once-part (c .before .before .before .before .before .before .before .before .before .before .before .args .limits) 1280 (record { held = c .before .before .before .before .before .before .before .before .before .before .before .args .held .now; fill = c .before .before .before .before .before .before .before .before .before .before .before .args .fill; phase = c .before .before .before .before .before .before .before .before .before .before .before .args .phase }) (c .before .before .before .before .before .before .before .before .before .before .before .args .bytes .now) (lit≤ tt) (c .before .before .before .before .before .before .before .before .before .before .before .pre .1 .0) (c .before .before .before .before .before .before .before .before .before .before .before .pre .0) (c .before .before .before .before .before .before .before .if1 .taken) (c .before .before .before .before .n .given .0 .0) (sym (c .before .before .before .before .before .before .needed .ensures) ∙ c .before .before .before .before .n .given .1) (c .before .before .if2 .taken) in (k .0, omega (arith, k .1, c .before .before .before .before .before .before .before .before .before .before .before .pre .1 .1))
+settle-requires c κs = let k = at-once-part (c .before .before .before .before .before .before .before .before .before .before .before .pre) (c .before .before .before .before .before .before .before .before .before .before .before .args .bytes .now) (lit≤ tt) (c .before .before .before .before .before .before .before .if1 .taken) (c .before .before .before .before .n .given .0 .0) (sym (c .before .before .before .before .before .before .needed .ensures) ∙ c .before .before .before .before .n .given .1) (c .before .before .if2 .taken) in (k .0, omega (arith, k .1, c .before .before .before .before .before .before .before .before .before .before .before .pre .fits))
 
 same-length : tie.Need-same-length
 same-length c = search needs
 
 returns : tie.Need-returns
-unfolding heldBy outcome
-returns c = by-taken 1280 (c .before .before .before .before .before .before .before .before .before .before .before .before .before .before .args .out .now) (at-once-taken (c .before .before .before .before .before .before .before .before .before .before .before .before .before .before .args .limits) 1280 (record { held = c .before .before .before .before .before .before .before .before .before .before .before .before .before .before .args .held .now; fill = c .before .before .before .before .before .before .before .before .before .before .before .before .before .before .args .fill; phase = c .before .before .before .before .before .before .before .before .before .before .before .before .before .before .args .phase }) (c .before .before .before .before .before .before .before .before .before .before .before .before .before .before .args .bytes .now) (lit≤ tt) (c .before .before .before .before .before .before .before .before .before .before .before .before .before .before .pre .1 .0) (c .before .before .before .before .before .before .before .before .before .before .before .before .before .before .pre .0) (c .before .before .before .before .before .before .before .before .before .before .if1 .taken) (c .before .before .before .before .before .before .before .n .given .0 .0) (sym (c .before .before .before .before .before .before .before .before .before .needed .ensures) ∙ c .before .before .before .before .before .before .before .n .given .1) (c .before .before .before .before .before .if2 .taken)) (c .before .before .settle .ensures .0) (at-once-held (c .before .before .before .before .before .before .before .before .before .before .before .before .before .before .args .limits) 1280 (record { held = c .before .before .before .before .before .before .before .before .before .before .before .before .before .before .args .held .now; fill = c .before .before .before .before .before .before .before .before .before .before .before .before .before .before .args .fill; phase = c .before .before .before .before .before .before .before .before .before .before .before .before .before .before .args .phase }) (c .before .before .before .before .before .before .before .before .before .before .before .before .before .before .args .bytes .now) (lit≤ tt) (c .before .before .before .before .before .before .before .before .before .before .before .before .before .before .pre .1 .0) (c .before .before .before .before .before .before .before .before .before .before .before .before .before .before .pre .0) (c .before .before .before .before .before .before .before .before .before .before .if1 .taken) (c .before .before .before .before .before .before .before .n .given .0 .0) (sym (c .before .before .before .before .before .before .before .before .before .needed .ensures) ∙ c .before .before .before .before .before .before .before .n .given .1) (c .before .before .before .before .before .if2 .taken) (judged (c .before .before .before .before .before .before .before .before .before .before .before .before .before .before .args .limits) (phaseOf (c .before .before .before .before .before .before .before .before .before .before .before .before .before .before .args .phase)) (take (c .before .before .before .before .before .before .before .n .given .0 .0 - 0) (drop 0 (c .before .before .before .before .before .before .before .before .before .before .before .before .before .before .args .bytes .now))))) (c .before .before .settle .ensures .1)
+unfolding outcome
+returns c = by-taken (c .before .before .before .before .before .before .before .before .before .before .before .before .before .before .pre) (c .before .before .before .before .before .before .before .before .before .before .before .before .before .before .args .bytes .now) (at-once-taken (c .before .before .before .before .before .before .before .before .before .before .before .before .before .before .pre) (c .before .before .before .before .before .before .before .before .before .before .before .before .before .before .args .bytes .now) (lit≤ tt) (c .before .before .before .before .before .before .before .before .before .before .if1 .taken) (c .before .before .before .before .before .before .before .n .given .0 .0) (sym (c .before .before .before .before .before .before .before .before .before .needed .ensures) ∙ c .before .before .before .before .before .before .before .n .given .1) (c .before .before .before .before .before .if2 .taken)) (record { answer = c .before .before .settle .ensures .0; state = at-once-held (c .before .before .before .before .before .before .before .before .before .before .before .before .before .before .pre) (c .before .before .before .before .before .before .before .before .before .before .before .before .before .before .args .bytes .now) (lit≤ tt) (c .before .before .before .before .before .before .before .before .before .before .if1 .taken) (c .before .before .before .before .before .before .before .n .given .0 .0) (sym (c .before .before .before .before .before .before .before .before .before .needed .ensures) ∙ c .before .before .before .before .before .before .before .n .given .1) (c .before .before .before .before .before .if2 .taken) _; buffer = c .before .before .settle .ensures .1 })
 
 gather-requires : tie.Need-gather-requires
 gather-requires c κs = search needs

@@ -1,5 +1,5 @@
 -- Each way out is a case of the item.
-use Rattle.report.specs.Shown.{itemRefusal}
+use Rattle.connection.specs.Feeding.{itemRefusal}
 use borrow.Author.Needs.{needs}
 use Rattle.report.proofs.items.say_item.Statement.{statement}
 use Rattle.report.proofs.items.say_item.Tie as tie
