@@ -10,7 +10,7 @@ use Rattle.wire.proofs.Widths.{bytes-append, bytes-be}
 use Rattle.wire.proofs.Enclosed.{bytes-enclosed}
 use Rattle.avl.specs.declared.Widths.{Widths}
 use Rattle.avl.specs.Codecs.{widthsOf, kinds}
-use Rattle.avl.specs.Records.{Element, Fixed, AvlRecord, total, lengthBytes, elementBytes, groupBytes, groupsBytes, fixedBytes, recordBytes}
+use Rattle.avl.specs.Records.{Element, Fixed, AvlRecord, elementCount, lengthBytes, elementBytes, groupBytes, groupsBytes, fixedBytes, recordBytes}
 use Rattle.avl.specs.DataField.{AvlData, dataBytes}
 
 abbrev pub ByteValues : AvlRecord → Type 0
@@ -50,7 +50,7 @@ bytes-fixed w f =
 bytes-record : (w : Widths) (r : AvlRecord) → ByteValues r → Bytes (recordBytes w r)
 unfolding recordBytes
 bytes-record w r h =
-    bytes-append (fixedBytes w (r .fixed)) _ (bytes-fixed w (r .fixed)) (lead (w .count) (total (r .groups)) _ (bytes-groups w (kinds w) (r .groups) h))
+    bytes-append (fixedBytes w (r .fixed)) _ (bytes-fixed w (r .fixed)) (lead (w .count) (elementCount (r .groups)) _ (bytes-groups w (kinds w) (r .groups) h))
 
 pub bytes-data : (a : AvlData) → All ByteValues (a .records) → Bytes (dataBytes a)
 unfolding dataBytes

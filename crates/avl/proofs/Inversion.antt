@@ -15,7 +15,7 @@ use Rattle.wire.proofs.Exactness.{Meets, meets-then, meets-next, meets-got, mee
 use Rattle.wire.proofs.Walking.{then-bad, number-got, number-bad, bytes-got, bytes-bad, number-there, number-missing, upTo-there, upTo-missing, upTo-over}
 use Rattle.avl.specs.declared.Widths.{Widths}
 use Rattle.avl.specs.Codecs.{kinds}
-use Rattle.avl.specs.Records.{Element, Fixed, AvlRecord, total, fixedBytes, groupsBytes, recordBytes}
+use Rattle.avl.specs.Records.{Element, Fixed, AvlRecord, elementCount, fixedBytes, groupsBytes, recordBytes}
 use Rattle.avl.proofs.RecordLaws.{fixed-exact, groups-exact}
 use Rattle.avl.specs.RecordReader.{valueSize, element, group, groups, fixedFields, avlRecord, plainRecord, tagged, inRecord, avlRecords}
 
@@ -209,7 +209,7 @@ judged-read longest w s at =
     number-on s n₁ (w .count) _ (λ h.
     meets-then (groups w (kinds w)) _ s (n₁ + w .count) (meets-self _) (λ gs n₂ k₂.
     meets-is (then-got here _ s n₂ refl)
-    (meets-next (require (eqb (numberAt s n₁ (w .count)) (total gs)) 9 at) _ s n₂ (meets-require _ _ _ s n₂) (λ u n₃ k₃.
+    (meets-next (require (eqb (numberAt s n₁ (w .count)) (elementCount gs)) 9 at) _ s n₂ (meets-require _ _ _ s n₂) (λ u n₃ k₃.
     meets-next (require (leb n₂ (at + longest)) 12 at) _ s n₃ (meets-require _ _ _ s n₃) (λ v n₄ k₄.
     meets-pure _ s n₄ (record { start = n₁; fixed = k₁; inside = h; groupsRead = k₂ ∙ ap (got gs) (sym (k₄ .1 ∙ k₃ .1)) }))))))))
 
@@ -230,10 +230,10 @@ plain-size w s at {r} b h e =
     let k = record-read w s at .if-got _ _ e in
     let f = fixed-exact w .sound s at b h .if-got _ _ (k .fixed) .0 in
     let g = groups-exact w (kinds w) .sound s (k .start + w .count) b (k .inside) .if-got _ _ (k .groupsRead) .0 in
-    let sum = be (w .count) (total (r .groups)) in
+    let sum = be (w .count) (elementCount (r .groups)) in
     let rest = groupsBytes w (kinds w) (r .groups) in
     let whole = length-append (fixedBytes w (r .fixed)) (sum ++ rest) in
-    (g .inside, omega (arith, f .size, g .size, whole, length-append sum rest, length-digits 256 (w .count) (total (r .groups))))
+    (g .inside, omega (arith, f .size, g .size, whole, length-append sum rest, length-digits 256 (w .count) (elementCount (r .groups))))
 
 -- ---- lists
 

@@ -6,7 +6,7 @@ use mathlib.Core.Path.{_≡_, refl, sym, ap, ap₂, _∙_, subst}
 use mathlib.Core.Bool.{Bool, true, false}
 use mathlib.Core.List.{List, [], _∷_}
 use lib.ListN.{length}
-use lib.Dec.{eqb, leb}
+use lib.Dec.{eqb}
 use borrow.Author.Tests.{le-leb, leb-true, eq-eqb, eqb-true}
 use Rattle.wire.specs.Numbers.{Bytes, be, pick}
 use Rattle.wire.specs.Sequences.{joined, All}
@@ -15,7 +15,7 @@ use Rattle.wire.proofs.Placed.{Between, between-nil, between-join, between-spli
 use Rattle.wire.proofs.Exactness.{Meets, meets-then, meets-next, meets-pure, meets-weaken, meets-got, meets-pick, meets-here, meets-require, then-got, next-got, here-got, require-got, Exact, number-exact, bytes-exact, upTo-exact, repeat-sound, repeat-complete}
 use Rattle.avl.specs.declared.Widths.{Widths}
 use Rattle.avl.specs.Codecs.{kinds}
-use Rattle.avl.specs.Records.{Element, AvlRecord, total, lengthBytes, elementBytes, groupBytes, groupsBytes, fixedBytes, recordBytes, ValueSize, ElementRules, GroupRules, GroupsRules, FixedRules, RecordRules}
+use Rattle.avl.specs.Records.{Element, AvlRecord, elementCount, lengthBytes, elementBytes, groupBytes, groupsBytes, fixedBytes, recordBytes, ValueSize, ElementRules, GroupRules, GroupsRules, FixedRules, RecordRules}
 use Rattle.avl.specs.RecordReader.{valueSize, element, group, groups, fixedFields, avlRecord, tagged, inRecord, avlRecords, atEnd, allRecords}
 
 pure-exact : {A : Type 0} (a : A) → Exact (pure a) (λ b. []) (λ b. b ≡ a)
@@ -159,7 +159,7 @@ record-exact longest w =
           meets-then here _ s n₃ (meets-here s n₃) (λ end n₄ k₄.
           meets-next (require _ 9 start) _ s n₄ (meets-require _ _ _ s n₄) (λ u n₅ k₅.
           meets-next (require _ 12 start) _ s n₅ (meets-require _ _ _ s n₅) (λ v n₆ k₆.
-          let same : sum ≡ total gs = eqb-true _ _ (k₅ .0) in
+          let same : sum ≡ elementCount gs = eqb-true _ _ (k₅ .0) in
           let whole = between-join (k₁ .0) (between-join (between-bytes (ap (be (w .count)) same) (k₂ .0)) (k₃ .0)) in
           meets-pure _ s n₆ (
             between-moved (k₀ .1) (sym (k₆ .1 ∙ k₅ .1 ∙ k₄ .1)) whole,
@@ -172,13 +172,13 @@ record-exact longest w =
           ))))))));
       complete = λ s at r next h f.
           let f₁ = between-split (fixedBytes w (r .fixed)) f in
-          let f₂ = between-split (be (w .count) (total (r .groups))) (f₁ .1) in
+          let f₂ = between-split (be (w .count) (elementCount (r .groups))) (f₁ .1) in
           here-got _ s at
           ∙ then-got (fixedFields w) _ s at (fixed-exact w .complete s at _ _ (h .fixedKeep) (f₁ .0))
           ∙ then-got (number (w .count)) _ s _ (number-exact (w .count) .complete s _ _ _ (h .totalFits) (f₂ .0))
           ∙ then-got (groups w (kinds w)) _ s _ (groups-exact w (kinds w) .complete s _ (r .groups) next (h .groupsKeep) (f₂ .1))
           ∙ here-got _ s next
-          ∙ require-got (eqb (total (r .groups)) (total (r .groups))) 9 at _ s next (eq-eqb (total (r .groups)) (total (r .groups)) refl)
+          ∙ require-got (eqb (elementCount (r .groups)) (elementCount (r .groups))) 9 at _ s next (eq-eqb (elementCount (r .groups)) (elementCount (r .groups)) refl)
           ∙ require-got _ 12 at _ s next (le-leb next _ (omega (arith, h .size, f .size)));
     }
 

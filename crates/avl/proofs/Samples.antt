@@ -11,7 +11,7 @@ use Rattle.wire.specs.Reading.{walked, andThen, _>>=_, _>>_, pure, here, requir
 use Rattle.avl.specs.Codecs.{codec8, codec8E, codec16, widthsOf, isDataCodec, kinds}
 use Rattle.avl.specs.DataField.{dataBytes, readData}
 use Rattle.avl.specs.RecordReader.{valueSize, element, group, groups, fixedFields, avlRecord, tagged, inRecord, avlRecords, atEnd, allRecords}
-use Rattle.avl.specs.Records.{elementCount, total, lengthBytes, elementBytes, groupBytes, groupsBytes, fixedBytes, recordBytes}
+use Rattle.avl.specs.Records.{elementCount, lengthBytes, elementBytes, groupBytes, groupsBytes, fixedBytes, recordBytes}
 
 codec8Record : List ℕ
 codec8Record =
@@ -43,15 +43,15 @@ reads-codec8 : avlRecord 255 codec8 codec8Record 0
           ∷ [];
     })
     51
-unfolding onAccepted told check enclosed codecOf firstCount lastCount inner numberAt digits valueFrom littleAt le signed walked andThen _>>=_ _>>_ pure here require span number bytes upTo repeat codec8 codec8E codec16 widthsOf isDataCodec kinds dataBytes readData valueSize element group groups fixedFields avlRecord tagged inRecord avlRecords atEnd allRecords elementCount total lengthBytes elementBytes groupBytes groupsBytes fixedBytes recordBytes codec8Record
+unfolding onAccepted told check enclosed codecOf firstCount lastCount inner numberAt digits valueFrom littleAt le signed walked andThen _>>=_ _>>_ pure here require span number bytes upTo repeat codec8 codec8E codec16 widthsOf isDataCodec kinds dataBytes readData valueSize element group groups fixedFields avlRecord tagged inRecord avlRecords atEnd allRecords elementCount lengthBytes elementBytes groupBytes groupsBytes fixedBytes recordBytes codec8Record
 reads-codec8 = refl
 
--- an 8 Extended record with a variable value of two bytes, which the total does not count, and one of none
-codec8ERecord : List ℕ
-codec8ERecord =
-    replicate 24 0 ++ (0 ∷ 0 ∷ 0 ∷ 0 ∷ 0 ∷ 0 ∷ 0 ∷ 0 ∷ 0 ∷ 0 ∷ 0 ∷ 0 ∷ 0 ∷ 2 ∷ 0x01 ∷ 0x00 ∷ 0 ∷ 2 ∷ 0x41 ∷ 0x42 ∷ 0x01 ∷ 0x00 ∷ 0 ∷ 0 ∷ [])
+-- an 8 Extended record with two variable values, one of two bytes and one of none
+codec8ERecord : ℕ → List ℕ
+codec8ERecord total =
+    replicate 24 0 ++ (0 ∷ 0 ∷ 0 ∷ total ∷ 0 ∷ 0 ∷ 0 ∷ 0 ∷ 0 ∷ 0 ∷ 0 ∷ 0 ∷ 0 ∷ 2 ∷ 0x01 ∷ 0x00 ∷ 0 ∷ 2 ∷ 0x41 ∷ 0x42 ∷ 0x01 ∷ 0x00 ∷ 0 ∷ 0 ∷ [])
 
-reads-codec8E : avlRecord 255 codec8E codec8ERecord 0
+reads-codec8E : avlRecord 255 codec8E (codec8ERecord 2) 0
     ≡ got
     (record {
       fixed =
@@ -71,13 +71,18 @@ reads-codec8E : avlRecord 255 codec8E codec8ERecord 0
           [] ∷ [] ∷ [] ∷ [] ∷ (record { id = 256; value = 0x41 ∷ 0x42 ∷ [] } ∷ record { id = 256; value = [] } ∷ []) ∷ [];
     })
     48
-unfolding onAccepted told check enclosed codecOf firstCount lastCount inner numberAt digits valueFrom littleAt le signed walked andThen _>>=_ _>>_ pure here require span number bytes upTo repeat codec8 codec8E codec16 widthsOf isDataCodec kinds dataBytes readData valueSize element group groups fixedFields avlRecord tagged inRecord avlRecords atEnd allRecords elementCount total lengthBytes elementBytes groupBytes groupsBytes fixedBytes recordBytes codec8ERecord
+unfolding onAccepted told check enclosed codecOf firstCount lastCount inner numberAt digits valueFrom littleAt le signed walked andThen _>>=_ _>>_ pure here require span number bytes upTo repeat codec8 codec8E codec16 widthsOf isDataCodec kinds dataBytes readData valueSize element group groups fixedFields avlRecord tagged inRecord avlRecords atEnd allRecords elementCount lengthBytes elementBytes groupBytes groupsBytes fixedBytes recordBytes codec8ERecord
 reads-codec8E = refl
+
+-- the first four counts add up to 0
+refuses-four-counts : avlRecord 255 codec8E (codec8ERecord 0) 0 ≡ bad (record { number = 9; index = 0; place = 0 })
+unfolding onAccepted told check enclosed codecOf firstCount lastCount inner numberAt digits valueFrom littleAt le signed walked andThen _>>=_ _>>_ pure here require span number bytes upTo repeat codec8 codec8E codec16 widthsOf isDataCodec kinds dataBytes readData valueSize element group groups fixedFields avlRecord tagged inRecord avlRecords atEnd allRecords elementCount lengthBytes elementBytes groupBytes groupsBytes fixedBytes recordBytes codec8ERecord
+refuses-four-counts = refl
 
 -- 128 values of one byte and 128 of two, with a total of 0: the sum is 256, so the total is wrong
 wrapping : List ℕ
 wrapping = replicate 26 0 ++ (128 ∷ []) ++ replicate 256 0 ++ (128 ∷ []) ++ replicate 386 0
 
 refuses-wrapping : avlRecord 255 codec8 wrapping 0 ≡ bad (record { number = 9; index = 0; place = 0 })
-unfolding onAccepted told check enclosed codecOf firstCount lastCount inner numberAt digits valueFrom littleAt le signed walked andThen _>>=_ _>>_ pure here require span number bytes upTo repeat codec8 codec8E codec16 widthsOf isDataCodec kinds dataBytes readData valueSize element group groups fixedFields avlRecord tagged inRecord avlRecords atEnd allRecords elementCount total lengthBytes elementBytes groupBytes groupsBytes fixedBytes recordBytes wrapping
+unfolding onAccepted told check enclosed codecOf firstCount lastCount inner numberAt digits valueFrom littleAt le signed walked andThen _>>=_ _>>_ pure here require span number bytes upTo repeat codec8 codec8E codec16 widthsOf isDataCodec kinds dataBytes readData valueSize element group groups fixedFields avlRecord tagged inRecord avlRecords atEnd allRecords elementCount lengthBytes elementBytes groupBytes groupsBytes fixedBytes recordBytes wrapping
 refuses-wrapping = refl

@@ -7,7 +7,7 @@ use Rattle.wire.specs.Numbers.{pick}
 use Rattle.wire.specs.Reading.{Read, got, bad, Reader, _>>=_, _>>_, pure, here, require, number, bytes, upTo, repeat}
 use Rattle.avl.specs.declared.Widths.{Widths}
 use Rattle.avl.specs.Codecs.{kinds}
-use Rattle.avl.specs.Records.{Element, Fixed, AvlRecord, total}
+use Rattle.avl.specs.Records.{Element, Fixed, AvlRecord, elementCount}
 
 -- the length of a value: as the kind says, or in two bytes before a variable one
 unfoldable pub valueSize : ℕ → Reader ℕ
@@ -64,7 +64,7 @@ avlRecord longest w = do
   sum ← number (w .count)
   gs ← groups w (kinds w)
   end ← here
-  require (eqb sum (total gs)) 9 start
+  require (eqb sum (elementCount gs)) 9 start
   require (leb end (start + longest)) 12 start
   pure (record { fixed = fixed; groups = gs })
 

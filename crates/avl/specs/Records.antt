@@ -2,7 +2,7 @@
 use Prim.Native.Nat.{ℕ, _+_, _^_, _≤_, _<_}
 use mathlib.Core.Path.{_≡_}
 use mathlib.Core.List.{List, [], _∷_, _++_}
-use lib.ListN.{length, take}
+use lib.ListN.{length}
 use lib.Dec.{eqb}
 use Rattle.wire.specs.Numbers.{Bytes, be, pick}
 use Rattle.wire.specs.Sequences.{fields, joined, All}
@@ -32,14 +32,10 @@ pub record AvlRecord : Type 0 where
   pub fixed : Fixed
   pub groups : List (List Element)
 
--- how many elements the groups have
+-- how many elements the groups have: what the record's total (N of Total IO) says
 unfoldable pub elementCount : List (List Element) → ℕ
 elementCount [] = 0
 elementCount (g ∷ gs) = length g + elementCount gs
-
--- the total: the sum of the first four group counts
-unfoldable pub total : List (List Element) → ℕ
-total gs = elementCount (take 4 gs)
 
 -- ---- the bytes
 
@@ -74,7 +70,7 @@ fixedBytes w f =
     ∷ [])
 
 unfoldable pub recordBytes : Widths → AvlRecord → List ℕ
-recordBytes w r = fields (fixedBytes w (r .fixed) ∷ be (w .count) (total (r .groups)) ∷ groupsBytes w (kinds w) (r .groups) ∷ [])
+recordBytes w r = fields (fixedBytes w (r .fixed) ∷ be (w .count) (elementCount (r .groups)) ∷ groupsBytes w (kinds w) (r .groups) ∷ [])
 
 -- ---- the rules
 
@@ -114,6 +110,6 @@ pub record FixedRules (w : Widths) (f : Fixed) : Type 0 where
 -- `longest` is the most bytes that a record may have
 pub record RecordRules (longest : ℕ) (w : Widths) (r : AvlRecord) : Type 0 where
   pub fixedKeep : FixedRules w (r .fixed)
-  pub totalFits : total (r .groups) < 256 ^ w .count
+  pub totalFits : elementCount (r .groups) < 256 ^ w .count
   pub groupsKeep : GroupsRules w (kinds w) (r .groups)
   pub size : length (recordBytes w r) ≤ longest

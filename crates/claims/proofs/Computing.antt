@@ -9,7 +9,7 @@ use Rattle.frame.specs.Frame.{framed, fieldLength, fieldOf, unframe, lastFour}
 use Rattle.avl.specs.Codecs.{widthsOf, isDataCodec, kinds}
 use Rattle.avl.specs.DataField.{dataBytes, readData, dataResult}
 use Rattle.avl.specs.RecordReader.{valueSize, element, group, groups, fixedFields, avlRecord, tagged, inRecord, avlRecords, atEnd, allRecords}
-use Rattle.avl.specs.Records.{elementCount, total, lengthBytes, elementBytes, groupBytes, groupsBytes, fixedBytes, recordBytes}
+use Rattle.avl.specs.Records.{elementCount, lengthBytes, elementBytes, groupBytes, groupsBytes, fixedBytes, recordBytes}
 use Rattle.packet.specs.DataPackets.{packetBytes, readPacket, answerPacket, acknowledged, tcpAcknowledgement, packetAs}
 use Rattle.command.specs.Commands.{commandField, commandBody, readField, readCommand, answerCommand, textView, textOffset, commandAs, answered}
 use Rattle.command.specs.Layouts.{types, layouts, findLayout, layoutOf}
@@ -34,5 +34,5 @@ use Rattle.connection.specs.State.{padded, phaseNumber, kept, fresh, isZero, is
 use Rattle.connection.specs.Feeding.{outcome, feeding, fed, fedInto, packetIn, itemAs, fedAs, lentAs}
 
 unfoldable pub computing : Unit {0}
-unfolding onAccepted told check enclosed codecOf firstCount lastCount inner textDigit readImei packed pairUpTo readPacked numberAt digits valueFrom littleAt le signed andThen _>>=_ _>>_ pure here require span number bytes upTo repeat feedback shift shifts absorb crcFrom crc framed fieldLength fieldOf unframe lastFour widthsOf isDataCodec kinds dataBytes readData dataResult valueSize element group groups fixedFields avlRecord tagged inRecord avlRecords atEnd allRecords elementCount total lengthBytes elementBytes groupBytes groupsBytes fixedBytes recordBytes packetBytes readPacket answerPacket acknowledged tcpAcknowledgement packetAs commandField commandBody readField readCommand answerCommand textView textOffset commandAs types layouts findLayout layoutOf answered readLogin isAccepted loginAnswer loginAs readHeader readDatagram answerDatagram acknowledgementBytes udpAcknowledgement datagramAs judgeHeader entryBytes entriesFrom entriesOf fixedEntry elementEntry groupEntries groupsEntries recordsEntries formEntries form formOfPacket formOfDatagram or17 readForm packetOfForm writing leaving writtenAs givenImei packetOf commandBytes entryElement run behind groupsOf fixedOf recordsOf dataOf decoded leadSize locateGroup locateGroups fixedSize elements nth firstWith recordResult placeRecords tcpSource udpSource placedRecord recordByNumber foundIn valueIn valueByNumber valueById view viewOffset valueInLast inOlder orElse lastKnown knownPlace recordAs valueResult answerValue valueAs answerKnown knownAs knownView quad titleWords recordWords valueWord recordContents contents contentsOfPacket contentsOfDatagram ones differing needed itemOf judgedPacket judged verdictBy verdict next afterByte taken cons byVerdict stream padded phaseNumber kept fresh isZero isMore phaseOf heldBy opened countOf judgedAt wanted outcome feeding fed fedInto packetIn itemAs fedAs lentAs
+unfolding onAccepted told check enclosed codecOf firstCount lastCount inner textDigit readImei packed pairUpTo readPacked numberAt digits valueFrom littleAt le signed andThen _>>=_ _>>_ pure here require span number bytes upTo repeat feedback shift shifts absorb crcFrom crc framed fieldLength fieldOf unframe lastFour widthsOf isDataCodec kinds dataBytes readData dataResult valueSize element group groups fixedFields avlRecord tagged inRecord avlRecords atEnd allRecords elementCount lengthBytes elementBytes groupBytes groupsBytes fixedBytes recordBytes packetBytes readPacket answerPacket acknowledged tcpAcknowledgement packetAs commandField commandBody readField readCommand answerCommand textView textOffset commandAs types layouts findLayout layoutOf answered readLogin isAccepted loginAnswer loginAs readHeader readDatagram answerDatagram acknowledgementBytes udpAcknowledgement datagramAs judgeHeader entryBytes entriesFrom entriesOf fixedEntry elementEntry groupEntries groupsEntries recordsEntries formEntries form formOfPacket formOfDatagram or17 readForm packetOfForm writing leaving writtenAs givenImei packetOf commandBytes entryElement run behind groupsOf fixedOf recordsOf dataOf decoded leadSize locateGroup locateGroups fixedSize elements nth firstWith recordResult placeRecords tcpSource udpSource placedRecord recordByNumber foundIn valueIn valueByNumber valueById view viewOffset valueInLast inOlder orElse lastKnown knownPlace recordAs valueResult answerValue valueAs answerKnown knownAs knownView quad titleWords recordWords valueWord recordContents contents contentsOfPacket contentsOfDatagram ones differing needed itemOf judgedPacket judged verdictBy verdict next afterByte taken cons byVerdict stream padded phaseNumber kept fresh isZero isMore phaseOf heldBy opened countOf judgedAt wanted outcome feeding fed fedInto packetIn itemAs fedAs lentAs
 computing = tt

@@ -8,3 +8,5 @@ pub mod AnswersProof
 pub mod MeasuresProof
 pub mod FeedsProof
 pub mod ConnectionsProof
+pub mod TotalsProof
+pub mod DriverTagsProof

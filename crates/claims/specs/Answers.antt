@@ -152,7 +152,7 @@ readings =
     ∷ read-packet "codec 16" newer (PacketAnswer.Accepted 0x10 2)
     ∷ read-packet "codec 8E" older (PacketAnswer.Accepted 0x8E 1)
     ∷ read-datagram "codec 8" twoUdp (DatagramAnswer.Accepted 0x08 2 header)
-    ∷ read-datagram "a record of 255 bytes" (udp 0x01 0x17 (field 0x8E 1 (long 213 0))) (DatagramAnswer.Accepted 0x8E 1 header)
+    ∷ read-datagram "a record of 255 bytes" (udp 0x01 0x17 (field 0x8E 1 (long 213 1))) (DatagramAnswer.Accepted 0x8E 1 header)
     ∷ read-login "login" login (LoginAnswer.Imei 123456789012345)
     ∷ read-command "codec 12" getio (CommandAnswer.Accepted (record { codec = 0x0C; kind = 0x05; imei = 0; offset = 15; size = 5 })) (0x67 ∷ 0x65 ∷ 0x74 ∷ 0x69 ∷ 0x6F ∷ [])
     ∷ read-command "codec 12, type 06, no text" (tcp 0x00 0x08 (0x0C ∷ 0x01 ∷ 0x06 ∷ 0x00 ∷ 0x00 ∷ 0x00 ∷ 0x00 ∷ 0x01 ∷ []) 0x33 0xD1) (CommandAnswer.Accepted (record { codec = 0x0C; kind = 0x06; imei = 0; offset = 15; size = 0 })) []

@@ -23,7 +23,7 @@ sampleTcp = tcp 0x00 0x23 (drop 23 sample) 0xB0 0xD2
 
 -- 313 bytes, the second record has 256
 abbrev pub longTcp : List ℕ
-longTcp = tcp 0x01 0x2D (field 0x8E 2 (long 0 0 ++ long 214 0)) 0x13 0x81
+longTcp = tcp 0x01 0x2D (field 0x8E 2 (long 0 1 ++ long 214 1)) 0xB4 0xA7
 
 -- 1,280 bytes: codec 12, type 06, a text of 1,260
 abbrev pub largest : List ℕ
@@ -102,7 +102,7 @@ feedRefusals =
     ∷ feed-either "total 1, no value" (behindLogin []) (tcp 0x00 0x3F (set two 57 0x01) 0x65 0xB2) (closes 75 (9 at 1))
     ∷ feed-either "priority 3" (behindLogin []) brokenTcp (closes 75 (10 at 1))
     ∷ feed-either "generation 8" (behindLogin []) (tcp 0x00 0x43 (set two16 60 0x08) 0x4C 0x37) (closes 79 (11 at 1))
-    ∷ feed-either "256 bytes, 312 of 313 held" (behindLogin (take 312 longTcp)) (0x81 ∷ []) (closes 1 (12 at 1))
+    ∷ feed-either "256 bytes, 312 of 313 held" (behindLogin (take 312 longTcp)) (0xA7 ∷ []) (closes 1 (12 at 1))
     ∷ feed-either "command, CRC" (behindLogin []) (set getio 24 0xCA) (closes 25 (5 at 0))
     ∷ feed-either "command, second quantity 0, type 07" (behindLogin []) (tcp 0x00 0x0D (set (set getioField 2 0x07) 12 0x00) 0x78 0x01) (closes 25 (7 at 0))
     ∷ feed-either "command, size cut short" (behindLogin []) (tcp 0x00 0x07 (0x0C ∷ 0x01 ∷ 0x05 ∷ 0x00 ∷ 0x00 ∷ 0x00 ∷ 0x01 ∷ []) 0x11 0xC0) (closes 19 (8 at 0))

@@ -10,3 +10,5 @@ pub mod Answers
 pub mod Measures
 pub mod Feeds
 pub mod Connections
+pub mod Totals
+pub mod DriverTags

@@ -41,13 +41,13 @@ packetRefusals =
     ∷ read-packet "third record missing" (tcp 0x00 0x3F (set (set two 1 0x03) 62 0x03) 0xF5 0x73) (PacketAnswer.Refused (8 at 2))
     ∷ read-packet "left-over record, count 1" (tcp 0x00 0x3F (set (set two 1 0x01) 62 0x01) 0x76 0xF3) (PacketAnswer.Refused (8 at 1))
     ∷ read-packet "left-over byte, count 2" (tcp 0x00 0x40 (field 0x08 2 (plain ++ plain ++ (0x00 ∷ []))) 0x14 0x75) (PacketAnswer.Refused (8 at 2))
-    ∷ read-packet "variable length up to the second count" (tcp 0x00 0x32 (field 0x8E 1 (set (long 5 0) 41 0x06)) 0x40 0x3C) (PacketAnswer.Refused (8 at 0))
+    ∷ read-packet "variable length up to the second count" (tcp 0x00 0x32 (field 0x8E 1 (set (long 5 1) 41 0x06)) 0x91 0x2C) (PacketAnswer.Refused (8 at 0))
     ∷ read-packet "total 1, no value" (tcp 0x00 0x3F (set two 57 0x01) 0x65 0xB2) (PacketAnswer.Refused (9 at 1))
     ∷ read-packet "total 2, a group cut short" (tcp 0x00 0x3F (set (set two 57 0x02) 61 0x01) 0xC6 0xB3) (PacketAnswer.Refused (8 at 1))
     ∷ read-packet "priority 3" brokenTcp (PacketAnswer.Refused (10 at 1))
     ∷ read-packet "priority 3, the rest missing" (tcp 0x00 0x0C (field 0x08 1 (set (take 9 plain) 8 0x03)) 0xA8 0xB1) (PacketAnswer.Refused (10 at 0))
     ∷ read-packet "generation 8" (tcp 0x00 0x43 (set two16 60 0x08) 0x4C 0x37) (PacketAnswer.Refused (11 at 1))
-    ∷ read-packet "256 bytes" (tcp 0x01 0x2D (field 0x8E 2 (long 0 0 ++ long 214 0)) 0x13 0x81) (PacketAnswer.Refused (12 at 1))
+    ∷ read-packet "256 bytes" (tcp 0x01 0x2D (field 0x8E 2 (long 0 1 ++ long 214 1)) 0xB4 0xA7) (PacketAnswer.Refused (12 at 1))
     ∷ []
 
 -- read_datagram: 1, 3, 4, 15, 6, 7, then the walk
@@ -72,8 +72,8 @@ datagramRefusals =
     ∷ read-datagram "total 1, no value" (udp 0x00 0x54 (set two 57 0x01)) (DatagramAnswer.Refused (9 at 1))
     ∷ read-datagram "priority 3" brokenUdp (DatagramAnswer.Refused (10 at 1))
     ∷ read-datagram "generation 8" (udp 0x00 0x58 (set two16 60 0x08)) (DatagramAnswer.Refused (11 at 1))
-    ∷ read-datagram "256 bytes" (udp 0x01 0x42 (field 0x8E 2 (long 0 0 ++ long 214 0))) (DatagramAnswer.Refused (12 at 1))
-    ∷ read-datagram "256 bytes, total 1" (udp 0x01 0x42 (field 0x8E 2 (long 0 0 ++ long 214 1))) (DatagramAnswer.Refused (9 at 1))
+    ∷ read-datagram "256 bytes" (udp 0x01 0x42 (field 0x8E 2 (long 0 1 ++ long 214 1))) (DatagramAnswer.Refused (12 at 1))
+    ∷ read-datagram "256 bytes, total 0" (udp 0x01 0x42 (field 0x8E 2 (long 0 1 ++ long 214 0))) (DatagramAnswer.Refused (9 at 1))
     ∷ []
 
 -- read_login: 1, 4, 15
@@ -185,7 +185,7 @@ contentsRefusals =
     ∷ contents-of-packet "total 1, no value" (tcp 0x00 0x3F (set two 57 0x01) 0x65 0xB2) (replicate 3 7) (Written.Refused (9 at 1)) (replicate 3 7)
     ∷ contents-of-packet "priority 3" brokenTcp (replicate 3 7) (Written.Refused (10 at 1)) (replicate 3 7)
     ∷ contents-of-packet "generation 8" (tcp 0x00 0x43 (set two16 60 0x08) 0x4C 0x37) (replicate 3 7) (Written.Refused (11 at 1)) (replicate 3 7)
-    ∷ contents-of-packet "256 bytes" (tcp 0x01 0x2D (field 0x8E 2 (long 0 0 ++ long 214 0)) 0x13 0x81) (replicate 3 7) (Written.Refused (12 at 1)) (replicate 3 7)
+    ∷ contents-of-packet "256 bytes" (tcp 0x01 0x2D (field 0x8E 2 (long 0 1 ++ long 214 1)) 0xB4 0xA7) (replicate 3 7) (Written.Refused (12 at 1)) (replicate 3 7)
     ∷ contents-of-packet "9 of 10 words lent" twoTcp (replicate 9 7) (Written.Refused (18 at 0)) (replicate 9 7)
     ∷ contents-of-datagram "25 bytes" (udp 0x00 0x17 (0x08 ∷ 0x01 ∷ [])) (replicate 3 7) (Written.Refused (1 at 0)) (replicate 3 7)
     ∷ contents-of-datagram "1,281 bytes, length 0" (udp 0x00 0x00 (replicate 1258 0)) (replicate 3 7) (Written.Refused (3 at 0)) (replicate 3 7)
@@ -194,10 +194,10 @@ contentsRefusals =
     ∷ contents-of-datagram "codec 0C, counts 0" (udp 0x00 0x54 (set (set (set two 0 0x0C) 1 0x00) 62 0x00)) (replicate 3 7) (Written.Refused (6 at 0)) (replicate 3 7)
     ∷ contents-of-datagram "counts 2 and 1, priority 3" (udp 0x00 0x54 (set (set two 10 0x03) 62 0x01)) (replicate 3 7) (Written.Refused (7 at 0)) (replicate 3 7)
     ∷ contents-of-datagram "left-over byte, count 2" (udp 0x00 0x55 (field 0x08 2 (plain ++ plain ++ (0x00 ∷ [])))) (replicate 3 7) (Written.Refused (8 at 2)) (replicate 3 7)
-    ∷ contents-of-datagram "256 bytes, total 1" (udp 0x01 0x42 (field 0x8E 2 (long 0 0 ++ long 214 1))) (replicate 3 7) (Written.Refused (9 at 1)) (replicate 3 7)
+    ∷ contents-of-datagram "256 bytes, total 0" (udp 0x01 0x42 (field 0x8E 2 (long 0 1 ++ long 214 0))) (replicate 3 7) (Written.Refused (9 at 1)) (replicate 3 7)
     ∷ contents-of-datagram "priority 3, none lent" brokenUdp [] (Written.Refused (10 at 1)) []
     ∷ contents-of-datagram "generation 8" (udp 0x00 0x58 (set two16 60 0x08)) (replicate 3 7) (Written.Refused (11 at 1)) (replicate 3 7)
-    ∷ contents-of-datagram "256 bytes" (udp 0x01 0x42 (field 0x8E 2 (long 0 0 ++ long 214 0))) (replicate 3 7) (Written.Refused (12 at 1)) (replicate 3 7)
+    ∷ contents-of-datagram "256 bytes" (udp 0x01 0x42 (field 0x8E 2 (long 0 1 ++ long 214 1))) (replicate 3 7) (Written.Refused (12 at 1)) (replicate 3 7)
     ∷ contents-of-datagram "6 of 7 words lent" sample (replicate 6 7) (Written.Refused (18 at 0)) (replicate 6 7)
     ∷ []
 

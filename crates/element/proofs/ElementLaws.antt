@@ -12,7 +12,7 @@ use Rattle.wire.proofs.Widths.{length-digits, all-append}
 use Rattle.wire.proofs.Placed.{Between, between-split, between-moved, between-whole, between-is}
 use Rattle.avl.specs.declared.Widths.{Widths}
 use Rattle.avl.specs.Codecs.{kinds}
-use Rattle.avl.specs.Records.{Element, Fixed, AvlRecord, elementCount, total, lengthBytes, elementBytes, groupBytes, groupsBytes, fixedBytes, recordBytes, GroupsRules, RecordRules}
+use Rattle.avl.specs.Records.{Element, Fixed, AvlRecord, elementCount, lengthBytes, elementBytes, groupBytes, groupsBytes, fixedBytes, recordBytes, GroupsRules, RecordRules}
 use Rattle.element.specs.Elements.{Located, leadSize, locateGroup, locateGroups, fixedSize, elements}
 use Rattle.element.specs.Places.{part, Inside}
 
@@ -59,17 +59,17 @@ length-fixed w f = simp (length-append, length-digits) (omega arith)
 pub length-record : (w : Widths) (r : AvlRecord) → length (recordBytes w r) ≡ fixedSize w + length (groupsBytes w (kinds w) (r .groups))
 unfolding recordBytes
 length-record w r =
-    let sum = be (w .count) (total (r .groups)) in
+    let sum = be (w .count) (elementCount (r .groups)) in
     let rest = groupsBytes w (kinds w) (r .groups) in
-    omega (arith, length-append (fixedBytes w (r .fixed)) (sum ++ rest), length-append sum rest, length-digits 256 (w .count) (total (r .groups)), length-fixed w (r .fixed))
+    omega (arith, length-append (fixedBytes w (r .fixed)) (sum ++ rest), length-append sum rest, length-digits 256 (w .count) (elementCount (r .groups)), length-fixed w (r .fixed))
 
 pub elements-inside : (w : Widths) (r : AvlRecord) → All (λ e. Inside e (recordBytes w r)) (elements w r)
 unfolding elements recordBytes
 elements-inside w r =
     let s = recordBytes w r in
     let a = between-split (fixedBytes w (r .fixed)) (between-whole s) in
-    let b = between-split (be (w .count) (total (r .groups))) (a .1) in
-    let sum = length-digits 256 (w .count) (total (r .groups)) in
+    let b = between-split (be (w .count) (elementCount (r .groups))) (a .1) in
+    let sum = length-digits 256 (w .count) (elementCount (r .groups)) in
     groups-inside w (kinds w) s (fixedSize w) (r .groups) (length s) (between-moved (omega (arith, length-fixed w (r .fixed), sum)) refl (b .1))
 
 -- ---- the number of elements

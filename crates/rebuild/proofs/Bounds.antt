@@ -3,7 +3,7 @@ use Prim.Native.Nat.{ℕ, zero, suc, _+_, _*_, _^_, _≤_}
 use native.Mathlib.Omega.{arith}
 use mathlib.Core.Bool.{Bool, true, false}
 use mathlib.Core.List.{List, [], _∷_}
-use lib.ListN.{length, take, drop, length-append, length-take, length-drop}
+use lib.ListN.{length, drop, length-append, length-take, length-drop}
 use lib.Dec.{eqb}
 use Rattle.wire.specs.Numbers.{be, digits, littleAt, pick}
 use Rattle.wire.specs.Sequences.{joined}
@@ -11,7 +11,7 @@ use Rattle.wire.proofs.Widths.{length-digits}
 use Rattle.wire.proofs.Accepting.{pick-either}
 use Rattle.avl.specs.declared.Widths.{Widths}
 use Rattle.avl.specs.Codecs.{kinds}
-use Rattle.avl.specs.Records.{Element, AvlRecord, elementCount, total, lengthBytes, elementBytes, groupBytes, groupsBytes, recordBytes}
+use Rattle.avl.specs.Records.{AvlRecord, elementCount, lengthBytes, elementBytes, groupBytes, groupsBytes, recordBytes}
 use Rattle.walk.specs.Walks.{Narrow}
 use Rattle.walk.proofs.KindLaws.{kinds-few}
 use Rattle.store.specs.Entries.{Entry, entriesFrom, entriesOf, entriesAt}
@@ -58,15 +58,8 @@ unfolding elementCount groupsOf
 count-groups [] es = omega arith
 count-groups (k ∷ ks) es = omega (arith, count-run k es, count-groups ks (behind k es))
 
-count-take : (n : ℕ) (gs : List (List Element)) → elementCount (take n gs) ≤ elementCount gs
-unfolding elementCount
-count-take zero gs = omega arith
-count-take (suc n) [] = omega arith
-count-take (suc n) (g ∷ gs) = omega (arith, count-take n gs)
-
-pub few : (ks f : List ℕ) (at : ℕ) → length f ≤ 65536 → total (groupsOf ks (entriesAt f at)) ≤ 262144
-unfolding total
-few ks f at h = omega (arith, count-take 4 (groupsOf ks (entriesAt f at)), count-groups ks (entriesAt f at), weight-at f at h)
+pub few : (ks f : List ℕ) (at : ℕ) → length f ≤ 65536 → elementCount (groupsOf ks (entriesAt f at)) ≤ 262144
+few ks f at h = omega (arith, count-groups ks (entriesAt f at), weight-at f at h)
 
 -- ---- how long they are
 

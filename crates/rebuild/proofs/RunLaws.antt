@@ -1,20 +1,17 @@
 -- The loops over entries: what is left, read and stored from here on, gives the whole.
-use Prim.Native.Nat.{ℕ, suc, _+_, _-_, _^_, _≤_, _<_}
+use Prim.Native.Nat.{ℕ, _+_, _^_, _≤_, _<_}
 use native.Mathlib.Nat.{zero-add}
 use native.Mathlib.Omega.{arith}
 use mathlib.Core.Path.{_≡_, refl, sym, ap, ap₂, _∙_, subst}
 use mathlib.Core.List.{List, [], _∷_, _++_}
-use lib.ListN.{length, take, drop, getD, length-append, drop-of-length-le}
-use lib.Seq.{take-nil}
-use lib.Dec.{leb}
-use Rattle.wire.specs.Numbers.{be, pick}
+use lib.ListN.{length, drop, getD, length-append, drop-of-length-le}
+use Rattle.wire.specs.Numbers.{be}
 use Rattle.wire.specs.Sequences.{joined, All}
 use Rattle.wire.proofs.Accepting.{pick-either}
 use Rattle.avl.specs.declared.Widths.{Widths}
 use Rattle.avl.specs.Codecs.{kinds}
-use Rattle.avl.specs.Records.{Element, Fixed, elementCount, total, elementBytes, groupBytes, groupsBytes, fixedBytes, recordBytes}
+use Rattle.avl.specs.Records.{Element, Fixed, elementCount, elementBytes, groupBytes, groupsBytes, fixedBytes, recordBytes}
 use Rattle.walk.proofs.KindLaws.{next-kind}
-use Rattle.walk.proofs.WalkLaws.{share-consed}
 use Rattle.store.specs.Entries.{Entry, kindAt, bodyAt, nextAt, entryAt, entriesAt}
 use Rattle.tlv.specs.Decoding.{entryElement, run, behind, groupsOf, fixedOf, recordsOf}
 use Rattle.element.specs.Elements.{fixedSize}
@@ -88,11 +85,10 @@ module _ (w : Widths) (f : List ℕ) (from : ℕ) where
   pub record Grouping (before : List ℕ) (to : ℕ) (out : List ℕ) (at next sum k : ℕ) : Type 0 where
     pub left : Left (laid (drop k (kinds w)) at) (laid (kinds w) from) before out to next
     pub rest : behindAll (drop k (kinds w)) (entriesAt f at) ≡ behindAll (kinds w) (entriesAt f from)
-    pub count : sum + elementCount (take (4 - k) (groupsAt (drop k (kinds w)) at)) ≡ total (groupsAt (kinds w) from)
+    pub count : sum + elementCount (groupsAt (drop k (kinds w)) at) ≡ elementCount (groupsAt (kinds w) from)
     pub ahead : from ≤ at
 
   pub grouping-start : (out : List ℕ) (to : ℕ) → Grouping out to out from to 0 0
-  unfolding total
   grouping-start out to = record { left = left-all (laid (kinds w) from) out to; rest = refl; count = zero-add _; ahead = omega arith }
 
   module _ {before : List ℕ} {to : ℕ} {out : List ℕ} {at next sum k : ℕ} (g : Grouping before to out at next sum k) where
@@ -107,42 +103,37 @@ module _ (w : Widths) (f : List ℕ) (from : ℕ) where
       unfolding groupsBytes groupsOf
       grouping-first = left-as (ap (λ (ks : List ℕ). laid ks at) (next-kind w k h e)) (g .left)
 
-      grouping-count : sum + pick (leb (suc k) 4) (length group) 0 + elementCount (take (4 - (k + 1)) (groupsOf more (behind kind (entriesAt f at)))) ≡ total (groupsAt (kinds w) from)
-      unfolding groupsOf
-      grouping-count =
-          sym (ap (λ (ks : List ℕ). sum + elementCount (take (4 - k) (groupsAt ks at))) (next-kind w k h e) ∙ share-consed k sum group (groupsOf more (behind kind (entriesAt f at))))
-          ∙ g .count
+      grouping-count : sum + length group + elementCount (groupsOf more (behind kind (entriesAt f at))) ≡ elementCount (groupsAt (kinds w) from)
+      unfolding groupsOf elementCount
+      grouping-count = omega (arith, ap (λ (ks : List ℕ). elementCount (groupsAt ks at)) (next-kind w k h e), g .count)
 
       pub grouping-room : (most : ℕ) → to + length (laid (kinds w) from) ≤ most → next + length (groupBytes w kind group) ≤ most
       grouping-room most room = omega (arith, room, grouping-first .place, length-append (groupBytes w kind group) (groupsBytes w more (groupsOf more (behind kind (entriesAt f at)))))
 
-      pub grouping-fits : (part n : ℕ) → n ≡ length group → part ≡ pick (leb (suc k) 4) n 0 → sum + part ≤ total (groupsAt (kinds w) from)
-      grouping-fits part n size is = omega (arith, is ∙ ap (λ (x : ℕ). pick (leb (suc k) 4) x 0) size, grouping-count)
+      pub grouping-fits : {n : ℕ} → n ≡ length group → sum + n ≤ elementCount (groupsAt (kinds w) from)
+      grouping-fits size = omega (arith, size, grouping-count)
 
-      pub grouping-on : {mid : List ℕ} {r : Run} (part : ℕ) → Goes f at (behind kind (entriesAt f at)) (groupBytes w kind group) out mid next (length group) r
-          → part ≡ pick (leb (suc k) 4) (r .count) 0 → Grouping before to mid (r .from) (r .to) (sum + part) (k + 1)
+      pub grouping-on : {mid : List ℕ} {r : Run} → Goes f at (behind kind (entriesAt f at)) (groupBytes w kind group) out mid next (length group) r
+          → Grouping before to mid (r .from) (r .to) (sum + r .count) (k + 1)
       unfolding behindAll
-      grouping-on part s is =
+      grouping-on s =
           record {
             left = left-as (ap (λ (es : List Entry). groupsBytes w more (groupsOf more es)) (sym (s .left))) (left-more grouping-first (s .stored));
             rest = ap (behindAll more) (s .left) ∙ sym (ap (λ (ks : List ℕ). behindAll ks (entriesAt f at)) (next-kind w k h e)) ∙ g .rest;
-            count =
-                ap₂ (λ (p : ℕ) (es : List Entry). sum + p + elementCount (take (4 - (k + 1)) (groupsOf more es))) (is ∙ ap (λ (n : ℕ). pick (leb (suc k) 4) n 0) (s .told)) (s .left)
-                ∙ grouping-count;
+            count = ap₂ (λ (n : ℕ) (es : List Entry). sum + n + elementCount (groupsOf more es)) (s .told) (s .left) ∙ grouping-count;
             ahead = omega (arith, g .ahead, s .ahead);
           }
 
     pub grouping-done : length (kinds w) ≤ k
-        → Goes f from (behindAll (kinds w) (entriesAt f from)) (laid (kinds w) from) before out to (total (groupsAt (kinds w) from)) (record { from = at; to = next; count = sum })
+        → Goes f from (behindAll (kinds w) (entriesAt f from)) (laid (kinds w) from) before out to (elementCount (groupsAt (kinds w) from)) (record { from = at; to = next; count = sum })
     unfolding behindAll groupsBytes groupsOf elementCount
     grouping-done h =
         let none : drop k (kinds w) ≡ [] = drop-of-length-le (kinds w) h in
-        let nothing = ap (λ (ks : List ℕ). elementCount (take (4 - k) (groupsAt ks at))) none ∙ ap elementCount (take-nil (4 - k)) in
         record {
           stored = left-done (left-as (ap (λ (ks : List ℕ). laid ks at) none) (g .left));
           ahead = g .ahead;
           left = sym (ap (λ (ks : List ℕ). behindAll ks (entriesAt f at)) none) ∙ g .rest;
-          told = omega (arith, g .count, nothing);
+          told = omega (arith, g .count, ap (λ (ks : List ℕ). elementCount (groupsAt ks at)) none);
         }
 
 -- ---- a record: its fixed fields, then its groups, then the total between them
@@ -157,13 +148,13 @@ module _ (w : Widths) (f : List ℕ) (at : ℕ) where
 
   pub record-goes : {from to mid end start : ℕ} {b before fixed groups after : List ℕ} {r : Run} → from ≡ nextAt f at → b ≡ bodyAt f at
       → Stored (fixedBytes w (fixedOf b)) before fixed to mid
-      → Goes f from (behindAll (kinds w) (entriesAt f from)) (groupsBytes w (kinds w) (groupsOf (kinds w) (entriesAt f from))) fixed groups start (total (groupsOf (kinds w) (entriesAt f from))) r
+      → Goes f from (behindAll (kinds w) (entriesAt f from)) (groupsBytes w (kinds w) (groupsOf (kinds w) (entriesAt f from))) fixed groups start (elementCount (groupsOf (kinds w) (entriesAt f from))) r
       → Stored (be (w .count) (r .count)) groups after mid end → end ≡ start
       → let es = entriesAt f (nextAt f at) in
-      Goes f (nextAt f at) (behindAll (kinds w) es) (recordBytes w (recordAt (kinds w) f at)) before after to (total (groupsOf (kinds w) es)) r
+      Goes f (nextAt f at) (behindAll (kinds w) es) (recordBytes w (recordAt (kinds w) f at)) before after to (elementCount (groupsOf (kinds w) es)) r
   unfolding recordBytes
   record-goes {start = start} {fixed = fixed} {groups = groups} {r = r} from body s g t e =
-      let h = subst (λ (n : ℕ). Goes f n (behindAll (kinds w) (entriesAt f n)) (groupsBytes w (kinds w) (groupsOf (kinds w) (entriesAt f n))) fixed groups start (total (groupsOf (kinds w) (entriesAt f n))) r) from g in
+      let h = subst (λ (n : ℕ). Goes f n (behindAll (kinds w) (entriesAt f n)) (groupsBytes w (kinds w) (groupsOf (kinds w) (entriesAt f n))) fixed groups start (elementCount (groupsOf (kinds w) (entriesAt f n))) r) from g in
       let behind = goes-before (stored-as (ap (be (w .count)) (h .told)) t) e h in
       record {
         stored = stored-then (stored-as (ap (λ (x : List ℕ). fixedBytes w (fixedOf x)) body) s) (behind .stored);

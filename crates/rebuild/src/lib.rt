@@ -13,7 +13,7 @@ ghost use Rattle.wire.specs.Sequences.{joined};
 ghost use Rattle.wire.specs.Answers.{accepted};
 ghost use Rattle.wire.specs.Buffers.{writing, leaving, writtenAs};
 ghost use Rattle.avl.specs.Codecs.{kinds};
-ghost use Rattle.avl.specs.Records.{elementBytes, groupBytes, groupsBytes, fixedBytes, recordBytes, total};
+ghost use Rattle.avl.specs.Records.{elementBytes, groupBytes, groupsBytes, fixedBytes, recordBytes, elementCount};
 ghost use Rattle.avl.specs.DataField.{dataBytes};
 ghost use Rattle.frame.specs.Frame.{framed};
 ghost use Rattle.walk.specs.Walks.{Narrow};
@@ -131,12 +131,12 @@ fn put_group(w: Widths, kind: usize, f: &[u8], from: usize, out: &mut [u8], to: 
     elements
 }
 
-// The groups from `from` on, in the order of their kinds, and the total of the first four.
+// The groups from `from` on, in the order of their kinds, and how many elements they have.
 fn put_groups(w: Widths, f: &[u8], from: usize, out: &mut [u8], to: usize) -> Run
     requires { ⌜ Narrow w ⌝ }
     requires { ⌜ length (now f) ≤ 65536 ⌝ }
     requires { ⌜ to + length (groupsBytes w (kinds w) (groupsOf (kinds w) (entriesAt (now f) from))) ≤ 2 ^ 40 ⌝ }
-    ensures { λ r. ⌜ Goes (now (f .entry)) from (behindAll (kinds w) (entriesAt (now (f .entry)) from)) (groupsBytes w (kinds w) (groupsOf (kinds w) (entriesAt (now (f .entry)) from))) (now (out .entry)) (now (out .exit)) to (total (groupsOf (kinds w) (entriesAt (now (f .entry)) from))) r ⌝ }
+    ensures { λ r. ⌜ Goes (now (f .entry)) from (behindAll (kinds w) (entriesAt (now (f .entry)) from)) (groupsBytes w (kinds w) (groupsOf (kinds w) (entriesAt (now (f .entry)) from))) (now (out .entry)) (now (out .exit)) to (elementCount (groupsOf (kinds w) (entriesAt (now (f .entry)) from))) r ⌝ }
 {
     let n = walk::kind_count(w);
     let mut at = from;
@@ -147,7 +147,7 @@ fn put_groups(w: Widths, f: &[u8], from: usize, out: &mut [u8], to: usize) -> Ru
         let group = put_group(w, walk::kind_at(k), f, at, out, next);
         at = group.from;
         next = group.to;
-        sum += walk::share(k, group.count);
+        sum += group.count;
         k += 1;
     }
     Run {
@@ -162,7 +162,7 @@ fn put_record(w: Widths, f: &[u8], at: usize, out: &mut [u8], to: usize) -> Run
     requires { ⌜ Narrow w ⌝ }
     requires { ⌜ (length (now f) ≤ 65536) × (at ≤ 65536) ⌝ }
     requires { ⌜ to + length (recordBytes w (recordAt (kinds w) (now f) at)) ≤ 2 ^ 40 ⌝ }
-    ensures { λ r. ⌜ Goes (now (f .entry)) (nextAt (now (f .entry)) at) (behindAll (kinds w) (entriesAt (now (f .entry)) (nextAt (now (f .entry)) at))) (recordBytes w (recordAt (kinds w) (now (f .entry)) at)) (now (out .entry)) (now (out .exit)) to (total (groupsOf (kinds w) (entriesAt (now (f .entry)) (nextAt (now (f .entry)) at)))) r ⌝ }
+    ensures { λ r. ⌜ Goes (now (f .entry)) (nextAt (now (f .entry)) at) (behindAll (kinds w) (entriesAt (now (f .entry)) (nextAt (now (f .entry)) at))) (recordBytes w (recordAt (kinds w) (now (f .entry)) at)) (now (out .entry)) (now (out .exit)) to (elementCount (groupsOf (kinds w) (entriesAt (now (f .entry)) (nextAt (now (f .entry)) at)))) r ⌝ }
 {
     let from = store::next_at(f, at);
     let count = w.count;

@@ -13,7 +13,7 @@ use Rattle.wire.proofs.Widths.{little-le, all-append}
 use Rattle.wire.proofs.Accepting.{pick-true, pick-false, pick-either}
 use Rattle.avl.specs.declared.Widths.{Widths}
 use Rattle.avl.specs.Codecs.{widthsOf, kinds, codec8, codec8E, codec16}
-use Rattle.avl.specs.Records.{Element, Fixed, AvlRecord, FixedRules, ElementRules, GroupsRules, RecordRules, total, lengthBytes, elementBytes, groupBytes, groupsBytes, fixedBytes, recordBytes}
+use Rattle.avl.specs.Records.{Element, Fixed, AvlRecord, FixedRules, ElementRules, GroupsRules, RecordRules, elementCount, lengthBytes, elementBytes, groupBytes, groupsBytes, fixedBytes, recordBytes}
 use Rattle.avl.specs.DataField.{AvlData, DataRules}
 use Rattle.store.specs.Entries.{Entry}
 use Rattle.tlv.specs.Form.{fixedEntry, elementEntry, groupEntries, groupsEntries, recordsEntries, formEntries, form}
@@ -254,7 +254,7 @@ fixed-size w f = omega arith
 groups-within : (w : Widths) (r : AvlRecord) → 2 + length (groupsBytes w (kinds w) (r .groups)) ≤ length (recordBytes w r)
 unfolding recordBytes
 groups-within w r =
-    let sum = be (w .count) (total (r .groups)) in
+    let sum = be (w .count) (elementCount (r .groups)) in
     omega (
       arith,
       fixed-size w (r .fixed),

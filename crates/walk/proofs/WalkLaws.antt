@@ -3,12 +3,11 @@ use Prim.Native.Nat.{ℕ, zero, suc, _+_, _-_, _*_, _%_, _^_, _≤_, _<_}
 use native.Mathlib.Nat.{mul-le-mul, suc-mul, pow-le-pow-right, zero-add, add-zero, add-assoc, add-mod-right, mod-eq-of-lt}
 use native.Mathlib.Numerals.{add-one}
 use native.Mathlib.Omega.{arith}
-use mathlib.Core.Path.{_≡_, refl, sym, ap, ap₂, subst, _∙_}
+use mathlib.Core.Path.{_≡_, refl, sym, ap, ap₂, _∙_}
 use mathlib.Core.Bool.{Bool, true, false}
 use mathlib.Core.List.{List, [], _∷_}
-use lib.ListN.{length, take, drop, getD, drop-of-length-le}
+use lib.ListN.{length, drop, getD, drop-of-length-le}
 use lib.Dec.{eqb, leb}
-use lib.Seq.{take-nil}
 use borrow.Author.Tests.{eq-eqb, ne-eqb, le-leb, lt-leb, leb-true, leb-false}
 use Rattle.wire.specs.declared.Fault.{Fault}
 use Rattle.wire.specs.declared.Walk.{Walk}
@@ -25,17 +24,15 @@ use Rattle.wire.proofs.Walking.{short, then-bad, require-bad, bytes-got, bytes-
 use Rattle.avl.specs.declared.Widths.{Widths}
 use Rattle.walk.specs.declared.Counted.{Counted}
 use Rattle.walk.specs.declared.Counted.the-variants.{Of}
-use Rattle.walk.specs.declared.Tally.{Tally}
-use Rattle.walk.specs.declared.Tally.the-variants.{Sums, Unsummed}
 use Rattle.walk.specs.declared.Span.{Span}
 use Rattle.walk.specs.declared.Records.{Records}
 use Rattle.walk.specs.declared.Records.the-variants.{All, Broken}
 use Rattle.walk.specs.declared.DataWalk.the-variants.{Taken, Refused}
 use Rattle.avl.specs.Codecs.{codec8, codec8E, codec16, widthsOf, isDataCodec, kinds, allKinds}
-use Rattle.avl.specs.Records.{Element, Fixed, AvlRecord, total, elementCount, recordBytes}
+use Rattle.avl.specs.Records.{Element, Fixed, AvlRecord, elementCount, recordBytes}
 use Rattle.avl.specs.RecordReader.{valueSize, element, group, groups, fixedFields, avlRecord, tagged, inRecord, avlRecords, atEnd, allRecords}
 use Rattle.avl.specs.DataField.{AvlData, readData}
-use Rattle.walk.specs.Walks.{Narrow, counted, elementsOf, tallied, spanOf, spanned, dataWalk}
+use Rattle.walk.specs.Walks.{Narrow, counted, elementsOf, spanOf, spanned, dataWalk}
 use Rattle.walk.proofs.KindLaws.{kind-known, next-kind}
 use Rattle.avl.proofs.RecordLaws.{element-exact, group-exact, groups-exact, fixed-exact, record-exact, all-sound}
 
@@ -279,108 +276,61 @@ module _ (w : Widths) (k : ℕ) (ks : List ℕ) (s : List ℕ) (at : ℕ) where
   unfolding groups
   groups-stop e = then-bad (group w k) _ s at (counted-stopped length _ e)
 
--- ---- the tally, group by group
+-- ---- the elements, group by group
 
--- of the groups from number `k` on, where those before them add up to `sum` and have `most` elements
-unfoldable pub tallyFrom : ℕ → ℕ → ℕ → Read (List (List Element)) → Tally
-tallyFrom k sum most (got gs next) = Sums (sum + elementCount (take (4 - k) gs)) (most + elementCount gs) next
-tallyFrom k sum most (bad x) = Unsummed x
-
-pub tally-whole : (r : Read (List (List Element))) → tallied r ≡ tallyFrom 0 0 0 r
-unfolding tallied tallyFrom total
-tally-whole (got gs next) = ap₂ (λ (n m : ℕ). Sums n m next) (sym (zero-add (elementCount (take 4 gs)))) (sym (zero-add (elementCount gs)))
-tally-whole (bad x) = refl
-
--- a group's share of the total
-pub share-consed : (k sum : ℕ) (g : List Element) (gs : List (List Element))
-    → sum + elementCount (take (4 - k) (g ∷ gs)) ≡ sum + pick (leb (suc k) 4) (length g) 0 + elementCount (take (4 - (k + 1)) gs)
-unfolding elementCount
-share-consed k sum g gs = go (leb (suc k) 4) refl
-  where
-    go : (b : Bool) → leb (suc k) 4 ≡ b → sum + elementCount (take (4 - k) (g ∷ gs)) ≡ sum + pick b (length g) 0 + elementCount (take (4 - (k + 1)) gs)
-    go true e =
-        let more : 4 - k ≡ suc (4 - (k + 1)) = omega (arith, leb-true (suc k) 4 e) in
-        ap (λ (n : ℕ). sum + elementCount (take n (g ∷ gs))) more ∙ omega arith
-    go false e =
-        let none : 4 - k ≡ 0 = omega (arith, leb-false (suc k) 4 e) in
-        let less : 4 - (k + 1) ≡ 0 = omega (arith, leb-false (suc k) 4 e) in
-        ap (λ (n : ℕ). sum + elementCount (take n (g ∷ gs))) none ∙ omega arith ∙ ap (λ (n : ℕ). sum + 0 + elementCount (take n gs)) (sym less)
-
-tally-consed : (k sum most : ℕ) (g : List Element) (r : Read (List (List Element)))
-    → tallyFrom k sum most (consed g r) ≡ tallyFrom (k + 1) (sum + pick (leb (suc k) 4) (length g) 0) (most + length g) r
-unfolding tallyFrom consed elementCount
-tally-consed k sum most g (bad x) = refl
-tally-consed k sum most g (got gs next) = ap₂ (λ (n m : ℕ). Sums n m next) (share-consed k sum g gs) (sym (add-assoc most (length g) (elementCount gs)))
-
--- of all groups from number `k` on
-module _ (w : Widths) (s : List ℕ) (k sum most at : ℕ) where
-  unfoldable pub tallyOf : Tally
-  tallyOf = tallyFrom k sum most (groups w (drop k (kinds w)) s at)
+-- of all groups from number `k` on, where those before them have `most` elements
+module _ (w : Widths) (s : List ℕ) (k most at : ℕ) where
+  unfoldable pub countFrom : Counted
+  countFrom = counted (λ gs. most + elementCount gs) (groups w (drop k (kinds w)) s at)
 
   module _ {kind : ℕ} (h : k < length (kinds w)) (e : kind ≡ getD (kinds w) k 0) where
-    pub tally-stop : {x : Fault} → counted length (group w kind s at) ≡ Counted.Stopped x → tallyOf ≡ Unsummed x
-    unfolding tallyOf tallyFrom
-    tally-stop z = ap (λ (ks : List ℕ). tallyFrom k sum most (groups w ks s at)) (next-kind w k h e) ∙ ap (tallyFrom k sum most) (groups-stop w kind _ s at z)
+    count-stop : {x : Fault} → counted length (group w kind s at) ≡ Counted.Stopped x → countFrom ≡ Counted.Stopped x
+    unfolding countFrom
+    count-stop z = counted-bad _ _ (ap (λ (ks : List ℕ). groups w ks s at) (next-kind w k h e) ∙ groups-stop w kind _ s at z)
 
-  pub tally-done : length (kinds w) ≤ k → tallyOf ≡ Sums sum most at
-  unfolding tallyOf tallyFrom groups pure elementCount
-  tally-done h =
-      ap (λ (ks : List ℕ). tallyFrom k sum most (groups w ks s at)) (drop-of-length-le (kinds w) h)
-      ∙ ap₂ (λ (n m : ℕ). Sums n m at) (ap (λ (gs : List (List Element)). sum + elementCount gs) (take-nil (4 - k)) ∙ add-zero sum) (add-zero most)
+  pub count-done : length (kinds w) ≤ k → countFrom ≡ Of most at
+  unfolding countFrom counted groups pure elementCount
+  count-done h =
+      ap (λ (ks : List ℕ). counted (λ gs. most + elementCount gs) (groups w ks s at)) (drop-of-length-le (kinds w) h)
+      ∙ ap (λ (n : ℕ). Of n at) (add-zero most)
 
-pub tally-on : (w : Widths) (s : List ℕ) (k sum most at : ℕ) {kind n mid : ℕ} → k < length (kinds w) → kind ≡ getD (kinds w) k 0 → GroupRead w kind s at n mid
-    → tallyOf w s (k + 1) (sum + pick (leb (suc k) 4) n 0) (most + n) mid ≡ tallyOf w s k sum most at
-unfolding tallyOf
-tally-on w s k sum most at {mid = mid} h e g =
-    sym (ap (λ (ks : List ℕ). tallyFrom k sum most (groups w ks s at)) (next-kind w k h e)
-    ∙ ap (tallyFrom k sum most) (groups-on w _ _ s at g)
-    ∙ tally-consed k sum most (g .elements) _
-    ∙ ap (λ (m : ℕ). tallyFrom (k + 1) (sum + pick (leb (suc k) 4) m 0) (most + m) (groups w (drop (k + 1) (kinds w)) s mid)) (g .size))
+count-consed : (most : ℕ) (g : List Element) (r : Read (List (List Element)))
+    → counted (λ gs. most + elementCount gs) (consed g r) ≡ counted (λ gs. most + length g + elementCount gs) r
+unfolding counted consed elementCount
+count-consed most g (bad x) = refl
+count-consed most g (got gs next) = ap (λ (n : ℕ). Of n next) (sym (add-assoc most (length g) (elementCount gs)))
+
+count-on : (w : Widths) (s : List ℕ) (k most at : ℕ) {kind n mid : ℕ} → k < length (kinds w) → kind ≡ getD (kinds w) k 0 → GroupRead w kind s at n mid
+    → countFrom w s (k + 1) (most + n) mid ≡ countFrom w s k most at
+unfolding countFrom
+count-on w s k most at {mid = mid} h e g =
+    sym (ap (λ (ks : List ℕ). counted (λ gs. most + elementCount gs) (groups w ks s at)) (next-kind w k h e)
+    ∙ ap (counted (λ gs. most + elementCount gs)) (groups-on w _ _ s at g)
+    ∙ count-consed most (g .elements) _
+    ∙ ap (λ (m : ℕ). counted (λ gs. most + m + elementCount gs) (groups w (drop (k + 1) (kinds w)) s mid)) (g .size))
 
 -- what the groups before number `k` leave to do
-pub record Tallying (w : Widths) (s : List ℕ) (at total most next k : ℕ) : Type 0 where
-  pub few : total ≤ k * 65535
-  pub fewElements : most ≤ k * 65535
+pub record Counting (w : Widths) (s : List ℕ) (at most next k : ℕ) : Type 0 where
+  pub few : most ≤ k * 65535
   pub inside : next ≤ length s
-  pub rest : tallyOf w s k total most next ≡ tallied (groups w (kinds w) s at)
+  pub rest : countFrom w s k most next ≡ counted elementCount (groups w (kinds w) s at)
 
-pub tallying-start : (w : Widths) (s : List ℕ) (at : ℕ) → at ≤ length s → Tallying w s at 0 0 at 0
-unfolding tallyOf
-tallying-start w s at h = record { few = omega arith; fewElements = omega arith; inside = h; rest = sym (tally-whole (groups w (kinds w) s at)) }
+pub counting-start : (w : Widths) (s : List ℕ) (at : ℕ) → at ≤ length s → Counting w s at 0 at 0
+unfolding countFrom
+counting-start w s at h = record { few = omega arith; inside = h; rest = λ i. counted (λ gs. zero-add (elementCount gs) i) (groups w (kinds w) s at) }
 
-module _ (w : Widths) {s : List ℕ} {at total most next k : ℕ} (t : Tallying w s at total most next k) {kind : ℕ} (h : k < length (kinds w)) (e : kind ≡ getD allKinds k 0) where
+module _ (w : Widths) {s : List ℕ} {at most next k : ℕ} (t : Counting w s at most next k) {kind : ℕ} (h : k < length (kinds w)) (e : kind ≡ getD allKinds k 0) where
   known : kind ≡ getD (kinds w) k 0
   known = e ∙ kind-known w k h
 
-  pub tallying-stops : {x : Fault} → counted length (group w kind s next) ≡ Counted.Stopped x → Unsummed x ≡ tallied (groups w (kinds w) s at)
-  tallying-stops z = sym (tally-stop w s k total most next h known z) ∙ t .rest
+  pub counting-stops : {x : Fault} → counted length (group w kind s next) ≡ Counted.Stopped x → Counted.Stopped x ≡ counted elementCount (groups w (kinds w) s at)
+  counting-stops z = sym (count-stop w s k most next h known z) ∙ t .rest
 
-  pub tallying-on : {n mid part : ℕ} → GroupRead w kind s next n mid → part ≡ pick (leb (suc k) 4) n 0 → (total + part ≤ (k + 1) * 65535) × (most + n ≤ (k + 1) * 65535) × Tallying w s at (total + part) (most + n) mid (k + 1)
-  tallying-on {n} {mid} {part} g is =
-      let small : part ≤ n = subst (λ (x : ℕ). x ≤ n) (sym is) (pick-either (λ (x : ℕ). x ≤ n) (leb (suc k) 4) n 0 (omega arith) (omega arith)) in
-      let few : total + part ≤ (k + 1) * 65535 = omega (arith, t .few, g .few) in
-      let elements : most + n ≤ (k + 1) * 65535 = omega (arith, t .fewElements, g .few) in (
-        few,
-        elements,
-        record {
-          few = few;
-          fewElements = elements;
-          inside = g .inside;
-          rest = ap (λ (x : ℕ). tallyOf w s (k + 1) (total + x) (most + n) mid) is ∙ tally-on w s k total most next h known g ∙ t .rest;
-        },
-      )
+  pub counting-on : {n mid : ℕ} → GroupRead w kind s next n mid → Counting w s at (most + n) mid (k + 1)
+  counting-on {n} {mid} g =
+      record { few = omega (arith, t .few, g .few); inside = g .inside; rest = count-on w s k most next h known g ∙ t .rest }
 
 -- ---- a record
-
-tallied-sums : (r : Read (List (List Element))) {t n next : ℕ} → tallied r ≡ Sums t n next → (gs : List (List Element)) × (r ≡ got gs next) × (total gs ≡ t) × (elementCount gs ≡ n)
-unfolding tallied
-tallied-sums (got gs m) e = (gs, ap (got gs) (cc), cc, cc)
-tallied-sums (bad x) e = absurd (let z : _≡_ {A = ℕ} 0 1 = cc in omega arith)
-
-tallied-unsummed : (r : Read (List (List Element))) {x : Fault} → tallied r ≡ Unsummed x → r ≡ bad x
-unfolding tallied
-tallied-unsummed (got gs m) e = absurd (let z : _≡_ {A = ℕ} 0 1 = cc in omega arith)
-tallied-unsummed (bad y) e = ap bad (cc)
 
 module _ (longest : ℕ) (w : Widths) (s : List ℕ) (at : ℕ) where
   pub record-unfixed : {x : Fault} → walked (fixedFields w s at) ≡ Stopped x → counted elementsOf (avlRecord longest w s at) ≡ Counted.Stopped x
@@ -393,24 +343,24 @@ module _ (longest : ℕ) (w : Widths) (s : List ℕ) (at : ℕ) where
     record-missing h =
         counted-bad elementsOf _ (here-got _ s at ∙ then-got (fixedFields w) _ s at (walked-on _ fixed .1) ∙ number-missing _ s a₁ (w .count) h)
 
-    pub record-unsummed : {x : Fault} → a₁ + w .count ≤ length s → tallied (groups w (kinds w) s (a₁ + w .count)) ≡ Unsummed x
+    pub record-stopped : {x : Fault} → a₁ + w .count ≤ length s → counted elementCount (groups w (kinds w) s (a₁ + w .count)) ≡ Counted.Stopped x
         → counted elementsOf (avlRecord longest w s at) ≡ Counted.Stopped x
     unfolding avlRecord
-    record-unsummed h e =
+    record-stopped h e =
         counted-bad elementsOf _
         (here-got _ s at
         ∙ then-got (fixedFields w) _ s at (walked-on _ fixed .1)
         ∙ number-there _ s a₁ (w .count) h
-        ∙ then-bad (groups w (kinds w)) _ s (a₁ + w .count) (tallied-unsummed _ e))
+        ∙ then-bad (groups w (kinds w)) _ s (a₁ + w .count) (counted-stopped elementCount _ e))
 
-    module _ {sum t n end : ℕ} (h : a₁ + w .count ≤ length s) (is : sum ≡ numberAt s a₁ (w .count))
-        (sums : tallied (groups w (kinds w) s (a₁ + w .count)) ≡ Sums t n end) where
+    module _ {sum n end : ℕ} (h : a₁ + w .count ≤ length s) (is : sum ≡ numberAt s a₁ (w .count))
+        (elements : counted elementCount (groups w (kinds w) s (a₁ + w .count)) ≡ Of n end) where
       -- the two rules at the end of a record
-      record-rules : (r : AvlRecord) × (avlRecord longest w s at ≡ (require (eqb sum t) 9 at >> (require (leb end (at + longest)) 12 at >> pure r)) s end) × (elementsOf r ≡ n)
+      record-rules : (r : AvlRecord) × (avlRecord longest w s at ≡ (require (eqb sum n) 9 at >> (require (leb end (at + longest)) 12 at >> pure r)) s end) × (elementsOf r ≡ n)
       unfolding avlRecord
       record-rules =
           let f = walked-on _ fixed in
-          let g = tallied-sums _ sums in
+          let g = counted-of elementCount _ elements in
           let r : AvlRecord = record { fixed = f .0; groups = g .0 } in (
             r,
             here-got _ s at
@@ -419,28 +369,28 @@ module _ (longest : ℕ) (w : Widths) (s : List ℕ) (at : ℕ) where
                 ∙ then-got (groups w (kinds w)) _ s (a₁ + w .count) (g .1)
                 ∙ here-got _ s end
                 ∙ ap₂ (λ (a b : ℕ). (require (eqb a b) 9 at >> (require (leb end (at + longest)) 12 at >> pure r)) s end) (sym is) (g .2),
-            g .3,
+            g .2,
           )
 
-      pub record-uneven : (sum ≡ t → ⊥) → counted elementsOf (avlRecord longest w s at) ≡ Counted.Stopped (record { number = 9; index = 0; place = at })
-      record-uneven ne = counted-bad elementsOf _ (record-rules .1 ∙ require-bad _ 9 at _ s end (ne-eqb sum t ne))
+      pub record-uneven : (sum ≡ n → ⊥) → counted elementsOf (avlRecord longest w s at) ≡ Counted.Stopped (record { number = 9; index = 0; place = at })
+      record-uneven ne = counted-bad elementsOf _ (record-rules .1 ∙ require-bad _ 9 at _ s end (ne-eqb sum n ne))
 
       pub record-forward : Bytes s → at ≤ length s → at ≤ end
       record-forward b k =
           let first = fixed-exact w .sound s at b k .if-got _ _ (walked-on _ fixed .1) .0 .size in
-          let then = groups-exact w (kinds w) .sound s (a₁ + w .count) b h .if-got _ _ (tallied-sums _ sums .1) .0 .size in
+          let then = groups-exact w (kinds w) .sound s (a₁ + w .count) b h .if-got _ _ (counted-of elementCount _ elements .1) .0 .size in
           omega arith
 
-      pub record-long : sum ≡ t → longest < end - at → counted elementsOf (avlRecord longest w s at) ≡ Counted.Stopped (record { number = 12; index = 0; place = at })
+      pub record-long : sum ≡ n → longest < end - at → counted elementsOf (avlRecord longest w s at) ≡ Counted.Stopped (record { number = 12; index = 0; place = at })
       record-long e k =
           counted-bad elementsOf _
-          (record-rules .1 ∙ require-got _ 9 at _ s end (eq-eqb sum t e) ∙ require-bad _ 12 at _ s end (lt-leb end (at + longest) (omega arith)))
+          (record-rules .1 ∙ require-got _ 9 at _ s end (eq-eqb sum n e) ∙ require-bad _ 12 at _ s end (lt-leb end (at + longest) (omega arith)))
 
-      pub record-on : sum ≡ t → end - at ≤ longest → counted elementsOf (avlRecord longest w s at) ≡ Of n end
+      pub record-on : sum ≡ n → end - at ≤ longest → counted elementsOf (avlRecord longest w s at) ≡ Of n end
       unfolding pure counted
       record-on e k =
           ap (counted elementsOf)
-          (record-rules .1 ∙ require-got _ 9 at _ s end (eq-eqb sum t e) ∙ require-got _ 12 at _ s end (le-leb end (at + longest) (omega arith)))
+          (record-rules .1 ∙ require-got _ 9 at _ s end (eq-eqb sum n e) ∙ require-got _ 12 at _ s end (le-leb end (at + longest) (omega arith)))
           ∙ ap (λ (m : ℕ). Of m end) (record-rules .2)
 
 -- ---- records

@@ -7,15 +7,13 @@ use Rattle.wire.specs.Answers.{Answer, accepted, refused}
 use Rattle.avl.specs.declared.Widths.{Widths}
 use Rattle.walk.specs.declared.Counted.{Counted}
 use Rattle.walk.specs.declared.Counted.the-variants.{Of, Stopped}
-use Rattle.walk.specs.declared.Tally.{Tally}
-use Rattle.walk.specs.declared.Tally.the-variants.{Sums, Unsummed}
 use Rattle.walk.specs.declared.Span.{Span}
 use Rattle.walk.specs.declared.Records.{Records}
 use Rattle.walk.specs.declared.Records.the-variants.{All, Broken}
 use Rattle.walk.specs.declared.DataWalk.{DataWalk}
 use Rattle.walk.specs.declared.DataWalk.the-variants.{Taken, Refused}
 use Rattle.avl.specs.Codecs.{widthsOf}
-use Rattle.avl.specs.Records.{Element, AvlRecord, elementCount, total, recordBytes}
+use Rattle.avl.specs.Records.{AvlRecord, elementCount, recordBytes}
 use Rattle.avl.specs.DataField.{AvlData}
 
 -- every width set is this narrow, and has room for an ID
@@ -26,18 +24,13 @@ pub record Narrow (w : Widths) : Type 0 where
   pub id : w .id ≤ 2
   pub named : 1 ≤ w .id
 
--- how many elements a group or a record has
+-- how many elements a group, the groups of a record or a record has
 unfoldable pub counted : {A : Type 0} → (A → ℕ) → Read A → Counted
 counted size (got a next) = Of (size a) next
 counted size (bad x) = Stopped x
 
 abbrev pub elementsOf : AvlRecord → ℕ
 elementsOf r = elementCount (r .groups)
-
--- the total that the groups ask for, and how many elements they have
-unfoldable pub tallied : Read (List (List Element)) → Tally
-tallied (got gs next) = Sums (total gs) (elementCount gs) next
-tallied (bad x) = Unsummed x
 
 -- where the record with number `n` lies, of records that begin at `at`, and how many elements it has; 0 where there is none
 unfoldable pub spanOf : Widths → ℕ → ℕ → List AvlRecord → Span

@@ -4,15 +4,16 @@ use wire::Fault;
 use wire::Refusal;
 use wire::Walk;
 ghost use mathlib.Core.Path.{_≡_};
-ghost use Prim.Native.Nat.{suc, _+_, _^_, _≤_, _<_};
+ghost use Prim.Native.Nat.{_+_, _^_, _≤_, _<_};
 ghost use lib.ListN.{length, getD};
 ghost use lib.Dec.{leb};
 ghost use Rattle.wire.specs.Numbers.{pick};
 ghost use Rattle.wire.specs.Reading.{walked, repeat};
 ghost use Rattle.avl.specs.Codecs.{codec8, codec8E, codec16, widthsOf, isDataCodec, kinds, allKinds};
+ghost use Rattle.avl.specs.Records.{elementCount};
 ghost use Rattle.avl.specs.RecordReader.{fixedFields, element, group, groups, avlRecord, allRecords};
 ghost use Rattle.avl.specs.DataField.{readData};
-ghost use Rattle.walk.specs.Walks.{Narrow, counted, elementsOf, tallied, spanned, dataWalk};
+ghost use Rattle.walk.specs.Walks.{Narrow, counted, elementsOf, spanned, dataWalk};
 
 pub struct Codec8;
 
@@ -133,16 +134,10 @@ fn missing(at: usize) -> Walk
     })
 }
 
-// How many elements a group or a record has and where it ends, or why it is broken.
+// How many elements a group, the groups of a record or a record has and where it ends, or why it is broken.
 enum Counted {
     Of(usize, usize),
     Stopped(Fault),
-}
-
-// The total that the groups of a record ask for, how many elements they have and where they end, or why they are broken.
-enum Tally {
-    Sums(usize, usize, usize),
-    Unsummed(Fault),
 }
 
 // A record's first byte, the one behind its last, and the number of its elements.
@@ -365,39 +360,27 @@ pub fn kind_at(k: usize) -> usize
     9
 }
 
-// What the group with number `k` adds to the total: the first four count.
-pub fn share(k: usize, count: usize) -> usize
-    ensures { λ r. ⌜ r ≡ pick (leb (suc k) 4) count 0 ⌝ }
-{
-    if k < 4 {
-        return count;
-    }
-    0
-}
-
 // The groups of a record, in the order of their kinds. One loop with one call, so that the compiler lays out the groups one behind another.
-fn groups_at(w: Widths, s: &[u8], at: usize) -> Tally
+fn groups_at(w: Widths, s: &[u8], at: usize) -> Counted
     requires { ⌜ Narrow w ⌝ }
     requires { ⌜ at ≤ length (now s) ⌝ }
-    ensures { λ r. ⌜ r ≡ tallied (groups w (kinds w) (now (s .entry)) at) ⌝ }
+    ensures { λ r. ⌜ r ≡ counted elementCount (groups w (kinds w) (now (s .entry)) at) ⌝ }
 {
     let n = kind_count(w);
-    let mut total: usize = 0;
     let mut elements: usize = 0;
     let mut next = at;
     let mut k: usize = 0;
     while k < n {
         match group_at(w, kind_at(k), s, next) {
             Counted::Of(count, to) => {
-                total += share(k, count);
                 elements += count;
                 next = to;
             }
-            Counted::Stopped(x) => return Tally::Unsummed(x),
+            Counted::Stopped(x) => return Counted::Stopped(x),
         }
         k += 1;
     }
-    Tally::Sums(total, elements, next)
+    Counted::Of(elements, next)
 }
 
 // A record: its fixed fields, its total, its groups; then the total's rule and the record's length.
@@ -421,9 +404,9 @@ fn record_at(longest: usize, w: Widths, s: &[u8], at: usize) -> Counted
     }
     let sum = wire::short_number(s, a1, count) as usize;
     match groups_at(w, s, a2) {
-        Tally::Unsummed(x) => Counted::Stopped(x),
-        Tally::Sums(total, elements, end) => {
-            if sum != total {
+        Counted::Stopped(x) => Counted::Stopped(x),
+        Counted::Of(elements, end) => {
+            if sum != elements {
                 return Counted::Stopped(Fault {
                     number: 9,
                     index: 0,

@@ -31,13 +31,10 @@ put-group-requires c κs = let w = c .before .before .before .before .before .be
     let h : c .before .before .before .loop .k < length (kinds w) = omega (arith, c .before .before .loop-test .taken, c .before .before .before .before .kind-count .ensures) in
     (c .before .before .before .before .before .before .before .pre .0, (c .before .before .before .before .before .before .before .pre .1 .0, grouping-room w (c .before .before .before .before .before .before .before .args .f .now) (c .before .before .before .before .before .before .before .args .from) (c .before .before .before .loop .inv) h (c .before .kind-at .ensures ∙ kind-known w (c .before .before .before .loop .k) h) (2 ^ 40) (c .before .before .before .before .before .before .before .pre .1 .1)))
 
-share-requires : tie.Need-share-requires Inv-loop μ-loop
-share-requires c κs = tt
-
 add-sum : tie.Need-add-sum Inv-loop μ-loop
 add-sum c = let w = c .before .before .before .before .before .before .before .before .before .before .before .args .w in
     let h : c .before .before .before .before .before .before .before .loop .k < length (kinds w) = omega (arith, c .before .before .before .before .before .before .loop-test .taken, c .before .before .before .before .before .before .before .before .kind-count .ensures) in
-    omega (arith, grouping-fits w (c .before .before .before .before .before .before .before .before .before .before .before .args .f .now) (c .before .before .before .before .before .before .before .before .before .before .before .args .from) (c .before .before .before .before .before .before .before .loop .inv) h (c .before .before .before .before .before .kind-at .ensures ∙ kind-known w (c .before .before .before .before .before .before .before .loop .k) h) _ _ (c .before .before .before .put-group .ensures .told) (c .share .ensures), few (kinds w) (c .before .before .before .before .before .before .before .before .before .before .before .args .f .now) (c .before .before .before .before .before .before .before .before .before .before .before .args .from) (c .before .before .before .before .before .before .before .before .before .before .before .pre .1 .0))
+    omega (arith, grouping-fits w (c .before .before .before .before .before .before .before .before .before .before .before .args .f .now) (c .before .before .before .before .before .before .before .before .before .before .before .args .from) (c .before .before .before .before .before .before .before .loop .inv) h (c .before .before .before .before .before .kind-at .ensures ∙ kind-known w (c .before .before .before .before .before .before .before .loop .k) h) (c .before .before .before .put-group .ensures .told), few (kinds w) (c .before .before .before .before .before .before .before .before .before .before .before .args .f .now) (c .before .before .before .before .before .before .before .before .before .before .before .args .from) (c .before .before .before .before .before .before .before .before .before .before .before .pre .1 .0))
 
 add-k : tie.Need-add-k Inv-loop μ-loop
 add-k c = search needs
@@ -48,7 +45,7 @@ loop-less c = search needs
 loop-again : tie.Need-loop-again Inv-loop μ-loop
 loop-again c = let w = c .before .before .before .before .before .before .before .before .before .before .before .args .w in
     let h : c .before .before .before .before .before .before .before .loop .k < length (kinds w) = omega (arith, c .before .before .before .before .before .before .loop-test .taken, c .before .before .before .before .before .before .before .before .kind-count .ensures) in
-    grouping-on w (c .before .before .before .before .before .before .before .before .before .before .before .args .f .now) (c .before .before .before .before .before .before .before .before .before .before .before .args .from) (c .before .before .before .before .before .before .before .loop .inv) h (c .before .before .before .before .before .kind-at .ensures ∙ kind-known w (c .before .before .before .before .before .before .before .loop .k) h) _ (c .before .before .before .put-group .ensures) (c .share .ensures)
+    grouping-on w (c .before .before .before .before .before .before .before .before .before .before .before .args .f .now) (c .before .before .before .before .before .before .before .before .before .before .before .args .from) (c .before .before .before .before .before .before .before .loop .inv) h (c .before .before .before .before .before .kind-at .ensures ∙ kind-known w (c .before .before .before .before .before .before .before .loop .k) h) (c .before .before .before .put-group .ensures)
 
 same-length : tie.Need-same-length Inv-loop μ-loop
 same-length c = left-length (c .before .loop .inv .left)
@@ -66,7 +63,6 @@ put-groups-spec =
     loop-holds
     kind-at-requires
     put-group-requires
-    share-requires
     add-sum
     add-k
     loop-less

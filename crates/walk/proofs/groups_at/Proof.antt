@@ -1,5 +1,5 @@
--- Invariant: the groups that are left, added to the total so far, give the tally of all.
-use Prim.Native.Nat.{_+_, _-_, _*_, _≤_, _<_}
+-- Invariant: the groups that are left, added to the elements so far, give the count of all.
+use Prim.Native.Nat.{_+_, _-_, _<_}
 use native.Mathlib.Omega.{arith}
 use mathlib.Core.Path.{sym, _∙_}
 use borrow.Author.Needs.{needs}
@@ -7,7 +7,7 @@ use lib.ListN.{length}
 use Rattle.wire.proofs.Widths.{getD-bytes}
 use Rattle.avl.specs.Codecs.{kinds}
 use Rattle.walk.proofs.KindLaws.{kinds-few, kind-known, kind-range}
-use Rattle.walk.proofs.WalkLaws.{group-read, Tallying, tallying-start, tallying-stops, tallying-on, tally-done}
+use Rattle.walk.proofs.WalkLaws.{group-read, Counting, counting-start, counting-stops, counting-on, count-done}
 use Rattle.walk.proofs.groups_at.Statement.{statement}
 use Rattle.walk.proofs.groups_at.Tie as tie
 use Rattle.walk.proofs.groups_at.Reads as reads
@@ -15,19 +15,18 @@ use Rattle.walk.proofs.groups_at.Lts as lts
 use Rattle.walk.proofs.group_at.Reads as group-at-reads
 use Rattle.walk.proofs.kind_at.Reads as kind-at-reads
 use Rattle.walk.proofs.kind_count.Reads as kind-count-reads
-use Rattle.walk.proofs.share.Reads as share-reads
 
 abbrev Inv-loop : tie.InvT-loop
-Inv-loop w s at n total₀ elements₀ next₀ k₀ total elements next k = Tallying w s at total elements next k
+Inv-loop w s at n elements₀ next₀ k₀ elements next k = Counting w s at elements next k
 
 abbrev μ-loop : tie.MeasureT-loop
-μ-loop w s at n total₀ elements₀ next₀ k₀ total elements next k = n - k
+μ-loop w s at n elements₀ next₀ k₀ elements next k = n - k
 
 kind-count-requires : tie.Need-kind-count-requires Inv-loop μ-loop
 kind-count-requires c κs = tt
 
 loop-holds : tie.Need-loop-holds Inv-loop μ-loop
-loop-holds c = tallying-start (c .before .before .args .w) (c .before .before .args .s .now) (c .before .before .args .at) (c .before .before .pre .1)
+loop-holds c = counting-start (c .before .before .args .w) (c .before .before .args .s .now) (c .before .before .args .at) (c .before .before .pre .1)
 
 kind-at-requires : tie.Need-kind-at-requires Inv-loop μ-loop
 kind-at-requires c κs = omega (arith, kinds-few (c .before .before .before .before .args .w), c .before .before .kind-count .ensures)
@@ -42,29 +41,22 @@ group-at-requires c κs =
 enum-known-count : tie.Need-enum-known-count Inv-loop μ-loop
 enum-known-count c = search needs
 
-share-requires : tie.Need-share-requires Inv-loop μ-loop
-share-requires c κs = tt
-
--- the group as it was read, and what is left behind it
-behind : (c : lts.After-share (kind-count-reads.Asked, kind-count-reads.Learnt, kind-at-reads.Asked, kind-at-reads.Learnt, group-at-reads.Asked, group-at-reads.Learnt, share-reads.Asked, share-reads.Learnt) reads.Pre reads.Post Inv-loop μ-loop)
-    → let total = c .before .before .before .before .before .before .before .loop .total + c .share .result in
-    let elements = c .before .before .before .before .before .before .before .loop .elements + c .before .before .count .given .0 .0 in
-    let k = c .before .before .before .before .before .before .before .loop .k in
-    (total ≤ (k + 1) * 65535) × (elements ≤ (k + 1) * 65535) × Tallying (c .before .before .before .before .before .before .before .before .before .before .args .w) (c .before .before .before .before .before .before .before .before .before .before .args .s .now) (c .before .before .before .before .before .before .before .before .before .before .args .at) total elements (c .before .before .count .given .0 .1 .0) (k + 1)
+-- what is left behind the group that was read
+behind : (c : lts.After-known-told (kind-count-reads.Asked, kind-count-reads.Learnt, kind-at-reads.Asked, kind-at-reads.Learnt, group-at-reads.Asked, group-at-reads.Learnt) reads.Pre reads.Post Inv-loop μ-loop)
+    → let start = c .before .before .before .before .before .before .before .before .before in
+    let loop = c .before .before .before .before .before .before .loop in
+    Counting (start .args .w) (start .args .s .now) (start .args .at) (loop .elements + c .before .count .given .0 .0) (c .before .count .given .0 .1 .0) (loop .k + 1)
 behind c =
-    let start = c .before .before .before .before .before .before .before .before .before .before in
+    let start = c .before .before .before .before .before .before .before .before .before in
     let s = start .args .s .now in
-    let k = c .before .before .before .before .before .before .before .loop .k in
-    let inv = c .before .before .before .before .before .before .before .loop .inv in
-    let h : k < length (kinds (start .args .w)) = omega (arith, c .before .before .before .before .before .before .loop-test .taken, c .before .before .before .before .before .before .before .before .kind-count .ensures) in
-    let g = group-read (start .args .w) _ s _ (start .pre .0) (getD-bytes s (λ i. c .before .before .before .before .before .before .before .before .before .shared-slice-known .given i .fits)) (inv .inside) (sym (c .before .before .before .before .group-at .ensures) ∙ c .before .before .count .given .1) in
-    tallying-on (start .args .w) inv h (c .before .before .before .before .before .kind-at .ensures) g (c .share .ensures)
-
-add-total : tie.Need-add-total Inv-loop μ-loop
-add-total c = omega (arith, behind c .0, kinds-few (c .before .before .before .before .before .before .before .before .before .before .args .w), c .before .before .before .before .before .before .before .before .kind-count .ensures, c .before .before .before .before .before .before .loop-test .taken)
+    let k = c .before .before .before .before .before .before .loop .k in
+    let inv = c .before .before .before .before .before .before .loop .inv in
+    let h : k < length (kinds (start .args .w)) = omega (arith, c .before .before .before .before .before .loop-test .taken, c .before .before .before .before .before .before .before .kind-count .ensures) in
+    let g = group-read (start .args .w) _ s _ (start .pre .0) (getD-bytes s (λ i. c .before .before .before .before .before .before .before .before .shared-slice-known .given i .fits)) (inv .inside) (sym (c .before .before .before .group-at .ensures) ∙ c .before .count .given .1) in
+    counting-on (start .args .w) inv h (c .before .before .before .before .kind-at .ensures) g
 
 add-elements : tie.Need-add-elements Inv-loop μ-loop
-add-elements c = omega (arith, behind c .1, kinds-few (c .before .before .before .before .before .before .before .before .before .before .args .w), c .before .before .before .before .before .before .before .before .kind-count .ensures, c .before .before .before .before .before .before .loop-test .taken)
+add-elements c = omega (arith, behind c .few, kinds-few (c .before .before .before .before .before .before .before .before .before .args .w), c .before .before .before .before .before .before .before .kind-count .ensures, c .before .before .before .before .before .loop-test .taken)
 
 enum-known-x : tie.Need-enum-known-x Inv-loop μ-loop
 enum-known-x c = search needs
@@ -74,7 +66,7 @@ returns c =
     let start = c .before .before .before .before .before .before .before .before .before in
     let k = c .before .before .before .before .before .before .loop .k in
     let h : k < length (kinds (start .args .w)) = omega (arith, c .before .before .before .before .before .loop-test .taken, c .before .before .before .before .before .before .before .kind-count .ensures) in
-    tallying-stops (start .args .w) (c .before .before .before .before .before .before .loop .inv) h (c .before .before .before .before .kind-at .ensures) (sym (c .before .before .before .group-at .ensures) ∙ c .before .x .given .1)
+    counting-stops (start .args .w) (c .before .before .before .before .before .before .loop .inv) h (c .before .before .before .before .kind-at .ensures) (sym (c .before .before .before .group-at .ensures) ∙ c .before .x .given .1)
 
 add-k : tie.Need-add-k Inv-loop μ-loop
 add-k c = search needs
@@ -83,12 +75,12 @@ loop-less : tie.Need-loop-less Inv-loop μ-loop
 loop-less c = search needs
 
 loop-again : tie.Need-loop-again Inv-loop μ-loop
-loop-again c = behind c .2
+loop-again c = behind c
 
 returns-2 : tie.Need-returns-2 Inv-loop μ-loop
 returns-2 c =
     let args = c .before .before .before .before .args in
-    sym (tally-done (args .w) (args .s .now) (c .before .loop .k) (c .before .loop .total) (c .before .loop .elements) (c .before .loop .next) (omega (arith, c .loop-test .left, c .before .before .kind-count .ensures))) ∙ c .before .loop .inv .rest
+    sym (count-done (args .w) (args .s .now) (c .before .loop .k) (c .before .loop .elements) (c .before .loop .next) (omega (arith, c .loop-test .left, c .before .before .kind-count .ensures))) ∙ c .before .loop .inv .rest
 
 pub groups-at-spec : {M : Type 1} → statement M
 groups-at-spec =
@@ -101,8 +93,6 @@ groups-at-spec =
     kind-at-requires
     group-at-requires
     enum-known-count
-    share-requires
-    add-total
     add-elements
     enum-known-x
     returns

@@ -1,5 +1,5 @@
 use Rattle.avl.proofs.RecordLaws.{fixed-exact}
-use Rattle.walk.proofs.WalkLaws.{walked-inside, record-unfixed, record-missing, record-unsummed, record-uneven, record-forward, record-long, record-on}
+use Rattle.walk.proofs.WalkLaws.{walked-inside, record-unfixed, record-missing, record-stopped, record-uneven, record-forward, record-long, record-on}
 use Rattle.wire.proofs.Widths.{getD-bytes}
 use mathlib.Core.Path.{sym, _∙_}
 use borrow.Author.Needs.{needs}
@@ -36,25 +36,25 @@ groups-at-requires c κs = search needs
 enum-known-x-2 : tie.Need-enum-known-x-2
 enum-known-x-2 c = search needs
 
-enum-known-total : tie.Need-enum-known-total
-enum-known-total c = search needs
+enum-known-elements : tie.Need-enum-known-elements
+enum-known-elements c = search needs
 
 returns-3 : tie.Need-returns-3
-returns-3 c = sym (record-uneven (c .before .before .before .before .before .before .before .before .before .before .before .before .args .longest) (c .before .before .before .before .before .before .before .before .before .before .before .before .args .w) (c .before .before .before .before .before .before .before .before .before .before .before .before .args .s .now) (c .before .before .before .before .before .before .before .before .before .before .before .before .args .at) (sym (c .before .before .before .before .before .before .before .before .before .before .fixed-fields .ensures) ∙ c .before .before .before .before .before .before .before .before .to .given .1) (c .before .before .before .before .before .before .if1 .left) (c .before .before .before .before .before .short-number .ensures) (sym (c .before .before .before .before .groups-at .ensures) ∙ c .before .before .total .given .1) (c .if2 .taken))
+returns-3 c = sym (record-uneven (c .before .before .before .before .before .before .before .before .before .before .before .before .args .longest) (c .before .before .before .before .before .before .before .before .before .before .before .before .args .w) (c .before .before .before .before .before .before .before .before .before .before .before .before .args .s .now) (c .before .before .before .before .before .before .before .before .before .before .before .before .args .at) (sym (c .before .before .before .before .before .before .before .before .before .before .fixed-fields .ensures) ∙ c .before .before .before .before .before .before .before .before .to .given .1) (c .before .before .before .before .before .before .if1 .left) (c .before .before .before .before .before .short-number .ensures) (sym (c .before .before .before .before .groups-at .ensures) ∙ c .before .before .elements .given .1) (c .if2 .taken))
 
 sub-if3 : tie.Need-sub-if3
 sub-if3 c =
     let s = c .before .before .before .before .before .before .before .before .before .before .before .before .args .s .now in
-    record-forward (c .before .before .before .before .before .before .before .before .before .before .before .before .args .longest) (c .before .before .before .before .before .before .before .before .before .before .before .before .args .w) (c .before .before .before .before .before .before .before .before .before .before .before .before .args .s .now) (c .before .before .before .before .before .before .before .before .before .before .before .before .args .at) (sym (c .before .before .before .before .before .before .before .before .before .before .fixed-fields .ensures) ∙ c .before .before .before .before .before .before .before .before .to .given .1) (c .before .before .before .before .before .before .if1 .left) (c .before .before .before .before .before .short-number .ensures) (sym (c .before .before .before .before .groups-at .ensures) ∙ c .before .before .total .given .1) (getD-bytes s (λ k. c .before .before .before .before .before .before .before .before .before .before .before .shared-slice-known .given k .fits)) (c .before .before .before .before .before .before .before .before .before .before .before .before .pre .1)
+    record-forward (c .before .before .before .before .before .before .before .before .before .before .before .before .args .longest) (c .before .before .before .before .before .before .before .before .before .before .before .before .args .w) (c .before .before .before .before .before .before .before .before .before .before .before .before .args .s .now) (c .before .before .before .before .before .before .before .before .before .before .before .before .args .at) (sym (c .before .before .before .before .before .before .before .before .before .before .fixed-fields .ensures) ∙ c .before .before .before .before .before .before .before .before .to .given .1) (c .before .before .before .before .before .before .if1 .left) (c .before .before .before .before .before .short-number .ensures) (sym (c .before .before .before .before .groups-at .ensures) ∙ c .before .before .elements .given .1) (getD-bytes s (λ k. c .before .before .before .before .before .before .before .before .before .before .before .shared-slice-known .given k .fits)) (c .before .before .before .before .before .before .before .before .before .before .before .before .pre .1)
 
 returns-4 : tie.Need-returns-4
-returns-4 c = sym (record-long (c .before .before .before .before .before .before .before .before .before .before .before .before .before .args .longest) (c .before .before .before .before .before .before .before .before .before .before .before .before .before .args .w) (c .before .before .before .before .before .before .before .before .before .before .before .before .before .args .s .now) (c .before .before .before .before .before .before .before .before .before .before .before .before .before .args .at) (sym (c .before .before .before .before .before .before .before .before .before .before .before .fixed-fields .ensures) ∙ c .before .before .before .before .before .before .before .before .before .to .given .1) (c .before .before .before .before .before .before .before .if1 .left) (c .before .before .before .before .before .before .short-number .ensures) (sym (c .before .before .before .before .before .groups-at .ensures) ∙ c .before .before .before .total .given .1) (c .before .if2 .left) (c .if3 .taken))
+returns-4 c = sym (record-long (c .before .before .before .before .before .before .before .before .before .before .before .before .before .args .longest) (c .before .before .before .before .before .before .before .before .before .before .before .before .before .args .w) (c .before .before .before .before .before .before .before .before .before .before .before .before .before .args .s .now) (c .before .before .before .before .before .before .before .before .before .before .before .before .before .args .at) (sym (c .before .before .before .before .before .before .before .before .before .before .before .fixed-fields .ensures) ∙ c .before .before .before .before .before .before .before .before .before .to .given .1) (c .before .before .before .before .before .before .before .if1 .left) (c .before .before .before .before .before .before .short-number .ensures) (sym (c .before .before .before .before .before .groups-at .ensures) ∙ c .before .before .before .elements .given .1) (c .before .if2 .left) (c .if3 .taken))
 
 returns-5 : tie.Need-returns-5
-returns-5 c = sym (record-unsummed (c .before .before .before .before .before .before .before .before .before .before .before .args .longest) (c .before .before .before .before .before .before .before .before .before .before .before .args .w) (c .before .before .before .before .before .before .before .before .before .before .before .args .s .now) (c .before .before .before .before .before .before .before .before .before .before .before .args .at) (sym (c .before .before .before .before .before .before .before .before .before .fixed-fields .ensures) ∙ c .before .before .before .before .before .before .before .to .given .1) (c .before .before .before .before .before .if1 .left) (sym (c .before .before .before .groups-at .ensures) ∙ c .before .x2 .given .1))
+returns-5 c = sym (record-stopped (c .before .before .before .before .before .before .before .before .before .before .before .args .longest) (c .before .before .before .before .before .before .before .before .before .before .before .args .w) (c .before .before .before .before .before .before .before .before .before .before .before .args .s .now) (c .before .before .before .before .before .before .before .before .before .before .before .args .at) (sym (c .before .before .before .before .before .before .before .before .before .fixed-fields .ensures) ∙ c .before .before .before .before .before .before .before .to .given .1) (c .before .before .before .before .before .if1 .left) (sym (c .before .before .before .groups-at .ensures) ∙ c .before .x2 .given .1))
 
 returns-6 : tie.Need-returns-6
-returns-6 c = sym (record-on (c .before .before .before .before .before .before .before .before .before .before .before .before .before .args .longest) (c .before .before .before .before .before .before .before .before .before .before .before .before .before .args .w) (c .before .before .before .before .before .before .before .before .before .before .before .before .before .args .s .now) (c .before .before .before .before .before .before .before .before .before .before .before .before .before .args .at) (sym (c .before .before .before .before .before .before .before .before .before .before .before .fixed-fields .ensures) ∙ c .before .before .before .before .before .before .before .before .before .to .given .1) (c .before .before .before .before .before .before .before .if1 .left) (c .before .before .before .before .before .before .short-number .ensures) (sym (c .before .before .before .before .before .groups-at .ensures) ∙ c .before .before .before .total .given .1) (c .before .if2 .left) (c .if3 .left))
+returns-6 c = sym (record-on (c .before .before .before .before .before .before .before .before .before .before .before .before .before .args .longest) (c .before .before .before .before .before .before .before .before .before .before .before .before .before .args .w) (c .before .before .before .before .before .before .before .before .before .before .before .before .before .args .s .now) (c .before .before .before .before .before .before .before .before .before .before .before .before .before .args .at) (sym (c .before .before .before .before .before .before .before .before .before .before .before .fixed-fields .ensures) ∙ c .before .before .before .before .before .before .before .before .before .to .given .1) (c .before .before .before .before .before .before .before .if1 .left) (c .before .before .before .before .before .before .short-number .ensures) (sym (c .before .before .before .before .before .groups-at .ensures) ∙ c .before .before .before .elements .given .1) (c .before .if2 .left) (c .if3 .left))
 
 pub record-at-spec : {M : Type 1} → statement M
 record-at-spec =
@@ -69,7 +69,7 @@ record-at-spec =
     short-number-requires
     groups-at-requires
     enum-known-x-2
-    enum-known-total
+    enum-known-elements
     returns-3
     sub-if3
     returns-4
