@@ -3,8 +3,8 @@
 
     python3 compare.py DRIVER VIEWS [--count N] [--seed S]
 
-DRIVER answers the calls for C, VIEWS those that give views. First the published
-examples and the edges of the rules, with the answers the papers give, then N
+DRIVER answers the calls for C, VIEWS those that give views. First the examples
+and the edges of the rules, with the answers the papers give, then N
 generated lines. Each program is started anew for each batch, gets its lines on
 its standard input and must answer each with one line. Exit 1 on a difference,
 and if a refusal that the papers let a call give was never reached.
@@ -103,8 +103,8 @@ class Comparison:
 
 def calls(count, seed):
     """All calls of a run: (where, line, expected answer or None)."""
-    for name, line, expected in examples.published_calls():
-        yield f"published {name}", line, expected
+    for name, line, expected in examples.example_calls():
+        yield f"example {name}", line, expected
     for name, line, expected in edges.edge_calls():
         yield f"edge {name}", line, expected
     for place, line in enumerate(generate.lines(count, seed), 1):

@@ -10,7 +10,12 @@ CODECS = {0x08: "8", 0x8E: "8E", 0x10: "16"}
 # The refusals of each input in the order of document 01, each with its places: the parts of the rule.
 FRAME = {1: [""], 2: [""], 3: ["under", "over"], 4: ["missing", "too many"], 5: ["upper", "lower"]}
 COUNTS = {6: [""], 7: ["zero", "differ"]}
-WALK = (8, 9, 10, 11, 12)
+# The walk of a data packet or datagram: the fields that can be missing, and the other rules.
+WALK = {8: ["timestamp", "priority", "longitude", "latitude", "altitude", "angle", "satellites", "speed", "event ID",
+            "generation type", "total", "1 count", "1 ID", "1 value", "2 count", "2 ID", "2 value", "4 count", "4 ID",
+            "4 value", "8 count", "8 ID", "8 value", "variable count", "variable ID", "variable length",
+            "variable value", "left over"],
+        9: ["", "variable left out"], 10: [""], 11: [""], 12: [""]}
 INPUTS = {
     "packet": FRAME | COUNTS,
     "datagram": {1: [""], 3: [""], 4: ["missing", "too many"], 15: ["length", "digit"]} | COUNTS,
@@ -23,24 +28,20 @@ INPUTS = {
                   "no record before it", "kind", "order", "element's length", "value's length", "ID", "no record",
                   "record's size", "packet's size"]},
     "connection": {2: [""], 3: ["under", "over"], 5: ["upper", "lower"], 6: [""],
-                   7: ["zero", "differ", "first", "second"], 8: ["timestamp", "left over", "type", "size"], 9: [""],
+                   7: ["zero", "differ", "first", "second"], 8: ["timestamp", "left over", "type", "size"], 9: WALK[9],
                    10: [""], 11: [""], 12: [""], 13: [""], 14: ["size", "under 8", "text with 11"],
                    15: ["length", "digit", "first digit"]},
     "state": {},
 }
 
-# The walk of a data packet or datagram, codec by codec: the fields that can be missing, and the other rules.
-FIELDS = ["timestamp", "priority", "longitude", "latitude", "altitude", "angle", "satellites", "speed", "event ID",
-          "generation type", "total", "1 count", "1 ID", "1 value", "2 count", "2 ID", "2 value", "4 count", "4 ID",
-          "4 value", "8 count", "8 ID", "8 value", "variable count", "variable ID", "variable length",
-          "variable value", "left over"]
+WALK_PLACES = [(number, place) for number, places in WALK.items() for place in places]
 
 
 def walk_places(codec):
     """The (number, place) pairs of a codec's walk."""
-    fields = [field for field in FIELDS if (codec == 0x10 or field != "generation type")
-              and (codec == 0x8E or not field.startswith("variable"))]
-    return [(8, field) for field in fields] + [(number, "") for number in WALK[1:] if codec == 0x10 or number != 11]
+    return [(number, place) for number, place in WALK_PLACES
+            if (codec == 0x10 or (number != 11 and place != "generation type"))
+            and (codec == 0x8E or not place.startswith("variable"))]
 
 
 # Each call: its input, and what it can give behind or before that input's refusals. A lent buffer is too short by one
@@ -210,7 +211,7 @@ class Coverage:
         columns = [(source, codec) for source in ("packet", "datagram") for codec in CODECS]
         heads = (f"{source} {CODECS[codec]}" for source, codec in columns)
         yield f"{'refusals of the walk':24}" + "".join(f"{head:>13}" for head in heads)
-        for number, place in [(8, field) for field in FIELDS] + [(number, "") for number in WALK[1:]]:
+        for number, place in WALK_PLACES:
             cells = []
             for source, codec in columns:
                 rows = [row for row, (of, _) in CALLS.items() if of == source]

@@ -43,9 +43,9 @@ def record(codec, tag=0):
 
 
 def of_elements(codec, *counts):
-    """A record with so many elements in its groups."""
+    """A record with so many elements in its groups, variable values empty."""
     groups = [[(item & 255, bytes(size)) for item in range(many)]
-              for size, many in zip(KINDS, counts + (0,) * (5 - len(counts)))]
+              for size, many in zip((1, 2, 4, 8, 0), counts + (0,) * (5 - len(counts)))]
     return Record(bytes(8), 0, bytes(15), 0, 0, groups)
 
 
@@ -168,8 +168,8 @@ def fields():
             for generation in (0, 7, 8, 9, 128, 255):
                 wrong = codec == 0x10 and generation > 7
                 yield attempt("generation", refused(11, place) if wrong else accepted, generation=generation)
-            # 10 counts the variable values too, 264 is 8 in one byte
-            for total in (0, 7, 9, 10, 255) + ((264, 65535) if codec == 0x8E else ()):
+            # the right one of 8E is 10: 8 leaves out the variable values, 12 has them twice, 266 is 10 in one byte
+            for total in (0, 8, 9, 11, 12, 255, 266, 65535) if codec == 0x8E else (0, 7, 9, 10, 255):
                 yield attempt("total", refused(9, place), total=total)
 
 
@@ -179,7 +179,7 @@ def counts_and_lengths():
         for place in range(2):
             for group in range(5 if codec == 0x8E else 4):
                 for count in (0, 1, 3, 127, 128, 255) + ((256, 258, 65535) if codec == 0x8E else ()):
-                    for total in (None, count + 6):
+                    for total in (None, record(codec).elements() - 2 + count):
                         records = pair(codec)
                         records[place].counts[group] = count
                         records[place].total = total
@@ -213,7 +213,7 @@ def sizes():
         yield attempt("255 bytes", [full, full], None)
         yield attempt("256 bytes", [over, full], refused(12))
         yield attempt("256 bytes", [full, over], refused(12, 1))
-        over.total = over.fixed() + 1
+        over.total = over.elements() + 1
         yield attempt("256 bytes and a wrong total", [full, over], refused(9, 1))
         each = (PACKET_LIMIT - around) // 6
         last = PACKET_LIMIT - around - 5 * each
@@ -230,14 +230,32 @@ def sizes():
 def wraps():
     """Group counts that make 256 together: 0 in one byte."""
     for codec, side, wrap, around in each_side():
-        for counts in ((128, 128), (255, 1), (1, 255), (129, 127), (64, 64, 64, 64), (256,), (257,)):
+        for counts in ((128, 128), (255, 1), (1, 255), (129, 127), (64, 64, 64, 64), (256,), (257,),
+                       (255, 0, 0, 0, 1), (0, 0, 0, 0, 256)):
             each = of_elements(codec, *counts)
-            if each.size(codec) > PACKET_LIMIT - around or (max(counts) > 255 and codec != 0x8E):
+            if each.size(codec) > PACKET_LIMIT - around or (codec != 0x8E and (max(counts) > 255 or counts[4:])):
                 continue
             for total in (0, 1, 255, 256):
                 each.total = total
                 right = codec == 0x8E and total == sum(counts)
                 yield reading("256 elements", side, wrap(data_field(codec, [each])), refused(12 if right else 9))
+
+
+def tags():
+    """Records of 8E with variable values alone, empty ones and an ID twice among them: total, values, form both ways."""
+    for side, (wrap, _) in SIDES.items():
+        for values in ((b"",), (b"Ona",), (b"Ona", b"Jonas"), (b"", b"Ona", b"")):
+            each = of_elements(0x8E)
+            each.groups[4] = [(403, value) for value in values]
+            records = [of_elements(0x8E), each]
+            field, form = data_field(0x8E, records), whole_form(0x8E, records)
+            yield from lending("tags", f"form_of_{side} {shown(wrap(field))}", form)
+            yield from lending("tags", f"packet_of_form {shown(form)}", tcp(field))
+            for place, value in enumerate(values):
+                yield "tag", f"view_in_{side} {shown(wrap(field))} 1 {place}", f"bytes {shown(value)}"
+            for total in (0, 2 * len(values), 256 + len(values)):
+                each.total = total
+                yield reading("total of tags", side, wrap(data_field(0x8E, records)), refused(9, 1))
 
 
 # ---------------------------------------------------------------- commands and IMEIs
@@ -619,6 +637,8 @@ def refused_fields(codec):
     yield 7, 0, data_field(codec, pair(codec), 2, 3)
     yield 8, 2, data_field(codec, pair(codec), 3)
     yield 9, 1, spoiled(total=1)
+    if codec == 0x8E:
+        yield 9, 1, spoiled(total=8)        # without the variable values
     yield 10, 1, spoiled(priority=3)
     if codec == 0x10:
         yield 11, 1, spoiled(generation=8)
@@ -897,7 +917,7 @@ def streams():
 
 def edge_calls():
     for part in (beginnings, frames, codecs_and_counts, cuts, fields, counts_and_lengths, past_the_record, sizes,
-                 wraps, command_rules, imeis, lookups, twice, last_known, buffers, sample_contents, contents,
+                 wraps, tags, command_rules, imeis, lookups, twice, last_known, buffers, sample_contents, contents,
                  form_entries, form_rules, walk_orders, head_orders, command_orders, everywhere, command_texts,
                  feeds, refused_states, packet_rooms, wanted, streams):
         yield from part()

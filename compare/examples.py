@@ -1,15 +1,16 @@
-"""The published examples as calls: (name, call line, expected answer or None).
+"""The papers' examples and one of our own as calls: (name, call line, expected answer or None).
 
 P1 to P13 are the bench sheet of document 01; compare/vectors/006.txt holds the
-streams of document 006. The expected answers are those of the papers, but for
-TLV forms and the packets behind them, which the reference makes.
+streams of document 006, compare/vectors/request-2.txt our own, for request 2 of
+document 02. The expected answers are those of the papers, but for TLV forms and
+the packets behind them, which the reference makes.
 """
 
 import os
 
 import reference
 
-VECTORS = os.path.join(os.path.dirname(os.path.abspath(__file__)), "vectors", "006.txt")
+VECTORS = os.path.join(os.path.dirname(os.path.abspath(__file__)), "vectors")
 
 SAMPLE = ("0038cafe0105000f313233343536373839303132333435080100000000000003e801ffffffff209cca80"
           "00640000070005000101150300000001")
@@ -127,18 +128,19 @@ def data_calls(name, kind, text, codec, count, reply):
 def record_calls(name, kind, text, number, fields, elements):
     """A record by its number, and each of its values by number and by ID."""
     values = [item.lower().split("=") for item in elements]
+    first = dict(reversed(values))      # of each ID
     calls = [(name, f"record_in_{kind} {text} {number}", f"accepted {' '.join(fields)} {len(values)}"),
              (name, f"value_in_{kind} {text} {number} {len(values)}", "refused 16 0")]
     for place, (ident, value) in enumerate(values):
-        for call, word in (("view", place), ("id_view", ident)):
-            calls.append((name, f"{call}_in_{kind} {text} {number} {word}", f"bytes {value}"))
+        for call, word, found in (("view", place, value), ("id_view", ident, first[ident])):
+            calls.append((name, f"{call}_in_{kind} {text} {number} {word}", f"bytes {found or '-'}"))
         for call, word in (("value", place), ("id", ident)):
             calls.append((name, f"{call}_in_{kind} {text} {number} {word}", None))
     return calls
 
 
 def vector_calls(lines):
-    """The calls of vectors/006.txt: (name, call, expected answer or None)."""
+    """The calls of a file of vectors: (name, call, expected answer or None)."""
     for line in lines:
         name, kind, *told = line.split()
         if kind == "record":            # of the line before
@@ -153,7 +155,8 @@ def vector_calls(lines):
             yield from calls.get(side, data_calls)(*first, *told[1::2])
 
 
-def published_calls():
+def example_calls():
     yield from bench_calls()
-    with open(VECTORS, encoding="ascii") as file:
-        yield from vector_calls(line for line in file if line.strip() and not line.startswith("#"))
+    for name in ("006.txt", "request-2.txt"):
+        with open(os.path.join(VECTORS, name), encoding="ascii") as file:
+            yield from vector_calls(line for line in file if line.strip() and not line.startswith("#"))

@@ -78,8 +78,9 @@ class Record:
         self.counts = {}
         self.lengths = {}
 
-    def fixed(self):
-        return sum(len(group) for group in self.groups[:4])
+    def elements(self):
+        """How many there are: the right total."""
+        return sum(map(len, self.groups))
 
     def ids(self):
         return [ident for group in self.groups for ident, _ in group]
@@ -99,7 +100,7 @@ class Record:
         parts = [self.time, number(self.priority, 1), self.place, number(self.event, event)]
         if generation:
             parts.append(number(self.generation, 1))
-        parts.append(number(self.fixed() if self.total is None else self.total, count))
+        parts.append(number(self.elements() if self.total is None else self.total, count))
         for place in range(5 if codec == 0x8E else 4):
             group = self.groups[place]
             parts.append(number(self.counts.get(place, len(group)), count))
@@ -287,8 +288,9 @@ class Maker:
     # ------------------------------------------------------------ damage to records
 
     def wrong_total(self, record):
-        right = record.fixed()
-        record.total = self.pick((right + 1, right - 1, right + len(record.groups[4]), right + 256,
+        right, variable = record.elements(), len(record.groups[4])
+        # without the variable values, and with each of them twice
+        record.total = self.pick((right + 1, right - 1, right - variable, right + variable, right + 256,
                                   0, 255, 65535, right + 128, self.upto(65536)))
 
     def wrong_count(self, codec, record):
@@ -296,8 +298,8 @@ class Maker:
         right = len(record.groups[place])
         record.counts[place] = self.pick((right + 1, right + 1, right - 1, right + 2, 0, 127, 128, 255, 256,
                                           right + 256, 32768, 65535))
-        if self.chance(0.5) and place < 4:      # the total goes along with it
-            record.total = record.fixed() - right + record.counts[place]
+        if self.chance(0.5):                    # the total goes along with it
+            record.total = record.elements() - right + record.counts[place]
 
     def wrong_length(self, codec, records, place):
         """A variable length that runs past its value, record, records or packet."""
@@ -842,7 +844,7 @@ class Maker:
     def element_words(self, records):
         """A record number and an element number."""
         place = self.record_word(records)
-        elements = len(records[place].ids()) if place < len(records) else 3
+        elements = records[place].elements() if place < len(records) else 3
         return f"{place} {self.numbered(elements)}"
 
     def wanted(self, codec, record, records):
@@ -925,7 +927,7 @@ class Maker:
         if name.startswith("form_"):
             return f"{start} {shown(self.buffer(self.form_size(codec, records)))}"
         if name.startswith("contents_"):
-            return f"{start} {shown(self.words(2 + sum(4 + len(record.ids()) for record in records)))}"
+            return f"{start} {shown(self.words(2 + sum(4 + record.elements() for record in records)))}"
         return f"{start} {shown(self.buffer(7 if name == 'acknowledge_datagram' else 4))}"
 
 

@@ -1,5 +1,5 @@
 #!/usr/bin/env python3
-"""A second implementation of the rules of document 01 and of request 1 of document 02.
+"""A second implementation of the rules of document 01 and of requests 1 and 2 of document 02.
 
     python3 reference.py     answers calls from standard input, one a line
 
@@ -178,11 +178,11 @@ def read_record(space, widths, index):
     elements = []
     for size in FIXED_KINDS:
         elements += read_elements(space, widths, size)
-    fixed = len(elements)       # the total counts the first four groups (006)
     if widths.variable:
         elements += read_elements(space, widths, None)
-    if total != fixed:
-        raise Refused(9, index)
+    if total != len(elements):      # variable values count too: so says request 2, not 006
+        fixed = sum(element.kind != VARIABLE_KIND for element in elements)
+        raise Refused(9, index, "variable left out" if total == fixed else "")
     if space.at - start > RECORD_LIMIT:
         raise Refused(12, index)
     return Record(timestamp, priority, longitude, latitude, altitude, angle,
@@ -462,12 +462,11 @@ def record_bytes(widths, fields, elements):
     parts = [struct.pack(">QBiihHBH", *fixed), event.to_bytes(widths.event, "big")]
     if widths.generation:
         parts.append(bytes([generation]))
-    kinds = FIXED_KINDS + ((VARIABLE_KIND,) if widths.variable else ())
-    groups = [[item for item in elements if item[0] == kind] for kind in kinds]
-    parts.append(sum(len(group) for group in groups[:4]).to_bytes(widths.count, "big"))
-    for group in groups:
+    parts.append(len(elements).to_bytes(widths.count, "big"))
+    for kind in FIXED_KINDS + ((VARIABLE_KIND,) if widths.variable else ()):
+        group = [(ident, value) for own, ident, value in elements if own == kind]
         parts.append(len(group).to_bytes(widths.count, "big"))
-        for kind, ident, value in group:
+        for ident, value in group:
             parts.append(ident.to_bytes(widths.id, "big"))
             if kind == VARIABLE_KIND:
                 parts.append(len(value).to_bytes(2, "big"))
