@@ -157,6 +157,7 @@ fn check_last_known(c: &mut Check, random: &mut Random, newer: &[u8], codec: u8)
 fn check_data(c: &mut Check, random: &mut Random, codec: u8, (from, to): (usize, usize), most: usize) {
     let data = input::data(random, codec, from - 12, to - 12, most).bytes;
     let whole = input::tcp(&data);
+    assert!(most > 255 || hand::read_packet(&whole).is_ok());
     check_tcp(c, random, &whole);
     let small = if data.len() <= 1257 { data.clone() } else { input::data(random, codec, 1250, 1257, most).bytes };
     let gram = input::udp(random, &small);

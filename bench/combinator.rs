@@ -162,15 +162,14 @@ fn record<C: Codec>(i: &[u8]) -> Read<'_, Judged<'_>> {
     let (rest, fixed) = map(groups, |(a, b, c, d)| [a, b, c, d]).parse(rest)?;
     let none = Group { count: 0, bytes: &[] };
     let (rest, variable) = if C::VARIABLE { variable::<C>(rest)? } else { (rest, none) };
-    let count: usize = fixed.iter().map(|g| g.count).sum();
-    ended(i.offset(rest), count, total)?;
-    fields.elements = count + variable.count;
+    fields.elements = fixed.iter().map(|g| g.count).sum::<usize>() + variable.count;
+    ended(i.offset(rest), fields.elements, total)?;
     Ok((rest, Judged { fields, fixed, variable, id: C::ID }))
 }
 
-/// The rules at a record's end: so many bytes, so many fixed values, and so many by its total.
-fn ended(size: usize, count: usize, total: usize) -> Result<(), Err<Refusal>> {
-    if count != total {
+/// The rules at a record's end: so many bytes, so many elements, and so many by its total.
+fn ended(size: usize, elements: usize, total: usize) -> Result<(), Err<Refusal>> {
+    if elements != total {
         return Err(Err::Error(no(9)));
     }
     if size > 255 {
@@ -405,8 +404,8 @@ impl<'a> Parsed<'a> for OwnedRecord {
             owned_group::<C>(be_u64),
         ))(rest)?;
         let (rest, variable) = if C::VARIABLE { owned_variable::<C>(rest)? } else { (rest, vec![]) };
-        ended(i.offset(rest), one.len() + two.len() + four.len() + eight.len(), total)?;
-        let elements = [one, two, four, eight, variable].into_iter().flatten().collect();
+        let elements: Vec<_> = [one, two, four, eight, variable].into_iter().flatten().collect();
+        ended(i.offset(rest), elements.len(), total)?;
         Ok((rest, OwnedRecord { fields, elements }))
     }
 }

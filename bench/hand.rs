@@ -192,12 +192,12 @@ fn datagram(p: &[u8]) -> Answer<(Datagram, &[u8])> {
 
 // ---- the walk
 
-/// One record as the walk saw it: where it lies in the data field, and how many elements it has.
+/// One record as the walk saw it: where it lies in the data field, how many elements it has, how many of them variable.
 #[derive(Clone, Copy)]
 struct Span {
     start: usize,
     len: usize,
-    fixed: usize,
+    elements: usize,
     variable: usize,
 }
 
@@ -230,10 +230,10 @@ fn step<C: Codec>(b: &[u8], elements: &mut impl Elements) -> Result<Span, u8> {
     }
     let total = number(b, C::GROUPS - C::COUNT, C::COUNT).ok_or(8)?;
     let mut at = C::GROUPS;
-    let mut fixed = 0;
+    let mut sum = 0;
     for size in [1, 2, 4, 8] {
         let count = number(b, at, C::COUNT).ok_or(8)?;
-        fixed += count;
+        sum += count;
         at += C::COUNT;
         elements.fixed::<C>(b, at, count, size).ok_or(8)?;
         at += count * (C::ID + size);
@@ -241,6 +241,7 @@ fn step<C: Codec>(b: &[u8], elements: &mut impl Elements) -> Result<Span, u8> {
     let mut variable = 0;
     if C::VARIABLE {
         variable = number(b, at, C::COUNT).ok_or(8)?;
+        sum += variable;
         at += C::COUNT;
         for _ in 0..variable {
             elements.variable::<C>(b, at).ok_or(8)?;
@@ -250,13 +251,13 @@ fn step<C: Codec>(b: &[u8], elements: &mut impl Elements) -> Result<Span, u8> {
     if at > b.len() {
         return Err(8);
     }
-    if fixed != total {
+    if sum != total {
         return Err(9);
     }
     if at > 255 {
         return Err(12);
     }
-    Ok(Span { start: 0, len: at, fixed, variable })
+    Ok(Span { start: 0, len: at, elements: sum, variable })
 }
 
 fn walk<C: Codec>(
@@ -581,7 +582,7 @@ fn find(data: &[u8], record: usize) -> Answer<(u8, Span)> {
 
 /// The same for the last record.
 fn find_last(data: &[u8]) -> Answer<(u8, Span)> {
-    let mut found = Span { start: 0, len: 0, fixed: 0, variable: 0 };
+    let mut found = Span { start: 0, len: 0, elements: 0, variable: 0 };
     let packet = judge(data, |_, span| found = span)?;
     Ok((packet.codec, found))
 }
@@ -607,11 +608,10 @@ fn fields<C: Codec>(r: &[u8], elements: usize) -> Option<Record> {
 fn record_of(data: &[u8], record: usize) -> Answer<Record> {
     let (codec, span) = find(data, record)?;
     let r = &data[span.start..span.start + span.len];
-    let elements = span.fixed + span.variable;
     match codec {
-        0x08 => fields::<Codec8>(r, elements),
-        0x8E => fields::<Codec8E>(r, elements),
-        _ => fields::<Codec16>(r, elements),
+        0x08 => fields::<Codec8>(r, span.elements),
+        0x8E => fields::<Codec8E>(r, span.elements),
+        _ => fields::<Codec16>(r, span.elements),
     }
     .ok_or(no(16))
 }
@@ -679,7 +679,7 @@ fn placed(value: Option<Value>, base: usize, span: Span) -> Answer<Value> {
 
 fn value_of(data: &[u8], base: usize, record: usize, element: usize) -> Answer<Value> {
     let (codec, span) = find(data, record)?;
-    if element >= span.fixed + span.variable {
+    if element >= span.elements {
         return Err(no(16));
     }
     let r = &data[span.start..span.start + span.len];
@@ -905,7 +905,7 @@ fn form_of_record<C: Codec>(r: &[u8], out: &mut [u8]) -> Option<(usize, usize)> 
 
 fn form_write<C: Codec>(data: &[u8], sum: Span, out: &mut [u8]) -> Answer<usize> {
     let count = usize::from(data[1]);
-    let total = 5 + 31 * count + (sum.len - C::LEAST * count) + sum.fixed * (6 - C::ID) + sum.variable * (4 - C::ID);
+    let total = 5 + 31 * count + (sum.len - C::LEAST * count) + sum.elements * (6 - C::ID) - sum.variable * 2;
     let Some(out) = out.get_mut(..total) else {
         return Err(no(18));
     };
@@ -921,10 +921,10 @@ fn form_write<C: Codec>(data: &[u8], sum: Span, out: &mut [u8]) -> Answer<usize>
 }
 
 fn form_of(data: &[u8], out: &mut [u8]) -> Answer<usize> {
-    let mut sum = Span { start: 0, len: 0, fixed: 0, variable: 0 };
+    let mut sum = Span { start: 0, len: 0, elements: 0, variable: 0 };
     let packet = judge(data, |_, s| {
         sum.len += s.len;
-        sum.fixed += s.fixed;
+        sum.elements += s.elements;
         sum.variable += s.variable;
     })?;
     match packet.codec {
@@ -1063,7 +1063,7 @@ fn put_group<C: Codec>(form: &[u8], at: &mut usize, out: &mut [u8], to: &mut usi
 
 /// The same for the variable group.
 #[inline]
-fn put_variable<C: Codec>(form: &[u8], at: &mut usize, out: &mut [u8], to: &mut usize) -> Option<()> {
+fn put_variable<C: Codec>(form: &[u8], at: &mut usize, out: &mut [u8], to: &mut usize) -> Option<usize> {
     let count_at = *to;
     *to += C::COUNT;
     let mut count = 0;
@@ -1078,7 +1078,7 @@ fn put_variable<C: Codec>(form: &[u8], at: &mut usize, out: &mut [u8], to: &mut 
         *to += size;
     }
     put(out, count_at, C::COUNT, count);
-    Some(())
+    Some(count)
 }
 
 /// The records of a judged form into the space between the counts.
@@ -1093,10 +1093,10 @@ fn packet_write<C: Codec>(form: &[u8], out: &mut [u8]) -> Option<()> {
         for size in [1, 2, 4, 8] {
             total += put_group::<C>(form, &mut at, out, &mut to, size)?;
         }
-        put(out, total_at, C::COUNT, total);
         if C::VARIABLE {
-            put_variable::<C>(form, &mut at, out, &mut to)?;
+            total += put_variable::<C>(form, &mut at, out, &mut to)?;
         }
+        put(out, total_at, C::COUNT, total);
     }
     Some(())
 }

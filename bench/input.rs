@@ -88,7 +88,7 @@ fn record(random: &mut Random, b: &mut Vec<u8>, codec: u8, id: usize, count: usi
     if codec == 0x10 {
         b.push(random.below(8) as u8);
     }
-    put(b, count, elements.iter().filter(|e| e.0 != 9).count());
+    put(b, count, elements.len());
     for kind in [1, 2, 4, 8, 9] {
         if kind == 9 && codec != 0x8E {
             break;
