@@ -82,7 +82,7 @@ fn refusals_8_to_12_go_with_a_record() {
     let over_255_bytes = [&DATA[..TAG], &[0, 203], &[0; 203], &DATA[TAG + 5..]].concat();
     let refused = [
         (8, with(&DATA, VARIABLE_COUNT, 3)),
-        (9, with(&DATA, TOTAL, 5)),
+        (9, with(&DATA, TOTAL, 4)), // without the variable values
         (10, with(&DATA, PRIORITY, 3)),
         (11, with(codec16, 74, 8)),
         (12, over_255_bytes),
@@ -90,6 +90,19 @@ fn refusals_8_to_12_go_with_a_record() {
     for (number, data) in refused {
         assert_eq!(read_packet(&packet(&data)), Err(Refusal { number, record: Some(1) }));
         assert_eq!(read_datagram(&datagram(&data)), Err(Refusal { number, record: Some(1) }));
+    }
+}
+
+#[test]
+fn the_total_counts_driver_tags() {
+    let tag = |record, n| value_in_packet(samples::DRIVER_TAGS, record, n).map(|v| (v.id, v.bytes));
+    assert_eq!(tag(0, 3), Ok((403, &b"Jonas Petraitis"[..])));
+    assert_eq!(tag(0, 4), Ok((406, &b""[..])));
+    assert_eq!(tag(1, 1), Ok((403, &b"Ona"[..])));
+    assert_eq!(tag(1, 2), Ok((403, &b"Jonas"[..])));
+    for (record, total, without) in [(0, 29, 3), (1, 100, 1)] {
+        let old = with(&samples::DRIVER_TAGS[8..139], total, without);
+        assert_eq!(read_packet(&packet(&old)), Err(Refusal { number: 9, record: Some(record) }));
     }
 }
 
@@ -164,7 +177,7 @@ fn empty_inputs_get_their_refusals() {
 #[test]
 fn all_samples_are_accepted() {
     use samples::*;
-    for packet in [CODEC8, CODEC8E, CODEC16] {
+    for packet in [CODEC8, CODEC8E, DRIVER_TAGS, CODEC16] {
         assert!(read_packet(packet).is_ok());
     }
     for command in [CODEC12_COMMAND, CODEC12_RESPONSE, CODEC14_COMMAND, CODEC14_RESPONSE] {
