@@ -61,10 +61,10 @@ unfoldable pub avlRecord : ℕ → Widths → Reader AvlRecord
 avlRecord longest w = do
   start ← here
   fixed ← fixedFields w
-  sum ← number (w .count)
+  total ← number (w .count)
   gs ← groups w (kinds w)
   end ← here
-  require (eqb sum (elementCount gs)) 9 start
+  require (eqb total (elementCount gs)) 9 start
   require (leb end (start + longest)) 12 start
   pure (record { fixed = fixed; groups = gs })
 
@@ -72,7 +72,7 @@ avlRecord longest w = do
 unfoldable pub plainRecord : Widths → Reader AvlRecord
 plainRecord w = do
   fixed ← fixedFields w
-  sum ← number (w .count)
+  total ← number (w .count)
   gs ← groups w (kinds w)
   pure (record { fixed = fixed; groups = gs })
 

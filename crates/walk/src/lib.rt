@@ -402,11 +402,11 @@ fn record_at(longest: usize, w: Widths, s: &[u8], at: usize) -> Counted
             place: a1,
         });
     }
-    let sum = wire::short_number(s, a1, count) as usize;
+    let total = wire::short_number(s, a1, count) as usize;
     match groups_at(w, s, a2) {
         Counted::Stopped(x) => Counted::Stopped(x),
         Counted::Of(elements, end) => {
-            if sum != elements {
+            if total != elements {
                 return Counted::Stopped(Fault {
                     number: 9,
                     index: 0,
