@@ -6,16 +6,17 @@ use mathlib.Core.Bool.{Bool, true, false}
 use mathlib.Core.Logic.{_↔_}
 use mathlib.Core.List.{List}
 use lib.ListN.{length}
-use lib.Dec.{eqb, leb}
+use lib.Dec.{eqb}
 use borrow.Author.Tests.{le-leb, leb-true, eq-eqb, eqb-true}
 use Rattle.wire.specs.Numbers.{Bytes, pick}
 use Rattle.wire.specs.Sequences.{joined}
-use Rattle.wire.specs.Envelope.{enclosed, codecOf, firstCount, lastCount, inner}
-use Rattle.wire.specs.Answers.{accepted}
+use Rattle.wire.specs.Envelope.{enclosed, codecOf, firstCount, inner}
+use Rattle.wire.specs.Answers.{accepted, told, onAccepted}
 use Rattle.wire.proofs.Enclosed.{enclosed-parts, codec-enclosed, first-enclosed, last-enclosed, inner-enclosed, bytes-inner, first-lt}
 use Rattle.wire.proofs.Accepting.{check-accepted, check-passed, onAccepted-accepted, onAccepted-passed, told-accepted, told-got}
 use Rattle.avl.specs.Codecs.{widthsOf, isDataCodec}
 use Rattle.avl.specs.Records.{recordBytes}
+use Rattle.avl.specs.RecordReader.{allRecords}
 use Rattle.avl.specs.DataField.{AvlData, dataBytes, DataRules, readData}
 use Rattle.avl.proofs.RecordLaws.{all-sound, all-complete}
 
@@ -46,19 +47,24 @@ codec-fits codec e = go (eqb codec 0x08) (eqb codec 0x8E) refl refl e
     go false true x y t = omega (arith, eqb-true codec 0x8E y)
     go false false x y t = omega (arith, eqb-true codec 0x10 t)
 
+-- with a known codec and equal counts, a data field is what the walk makes of its space
+pub data-walked : (longest codec count : ℕ) (b : List ℕ) → isDataCodec codec ≡ true → 1 ≤ count → count ≤ 255
+    → readData longest (enclosed codec count b) ≡ onAccepted (told (allRecords longest (widthsOf codec) count b 0)) (λ rs. accepted (record { codec = codec; records = rs }))
+unfolding readData
+data-walked longest codec count b known some few =
+    let c = codec-fits codec known in
+    let m : count < 256 = omega arith in
+    simp (codec-enclosed codec count b c m, first-enclosed codec count b c m, last-enclosed codec count b c m, inner-enclosed codec count b c m)
+    (check-passed _ 6 _ known
+    ∙ check-passed _ 7 _ (le-leb 1 count some)
+    ∙ check-passed _ 7 _ (eq-eqb count count refl))
+
 pub data-complete : (longest : ℕ) (a : AvlData) → DataRules longest a → readData longest (dataBytes a) ≡ accepted a
-unfolding readData dataBytes
+unfolding dataBytes
 data-complete longest a h =
     let w = widthsOf (a .codec) in
-    let n = length (a .records) in
-    let b = joined (recordBytes w) (a .records) in
-    let c = codec-fits (a .codec) (h .codecKnown) in
-    let m : n < 256 = omega (arith, h .countFits) in
-    simp (codec-enclosed (a .codec) n b c m, first-enclosed (a .codec) n b c m, last-enclosed (a .codec) n b c m, inner-enclosed (a .codec) n b c m)
-    (check-passed _ 6 _ (h .codecKnown)
-    ∙ check-passed _ 7 _ (le-leb 1 n (h .someRecords))
-    ∙ check-passed _ 7 _ (eq-eqb n n refl)
-    ∙ onAccepted-passed _ _ (told-got _ (all-complete longest w (a .records) (h .each))))
+    data-walked longest (a .codec) (length (a .records)) (joined (recordBytes w) (a .records)) (h .codecKnown) (h .someRecords) (h .countFits)
+    ∙ onAccepted-passed _ _ (told-got _ (all-complete longest w (a .records) (h .each)))
 
 -- the judge accepts exactly what keeps the rules
 pub data-exact : (longest : ℕ) (d : List ℕ) (a : AvlData) → Bytes d → 3 ≤ length d

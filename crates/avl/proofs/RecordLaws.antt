@@ -6,11 +6,11 @@ use mathlib.Core.Path.{_≡_, refl, sym, ap, ap₂, _∙_, subst}
 use mathlib.Core.Bool.{Bool, true, false}
 use mathlib.Core.List.{List, [], _∷_}
 use lib.ListN.{length}
-use lib.Dec.{eqb}
+use lib.Dec.{eqb, leb}
 use borrow.Author.Tests.{le-leb, leb-true, eq-eqb, eqb-true}
 use Rattle.wire.specs.Numbers.{Bytes, be, pick}
-use Rattle.wire.specs.Sequences.{joined, All}
-use Rattle.wire.specs.Reading.{Read, got, bad, Reader, pure, here, require, number, bytes, upTo}
+use Rattle.wire.specs.Sequences.{fields, joined, All}
+use Rattle.wire.specs.Reading.{Read, got, bad, Reader, _>>_, pure, here, require, number, bytes, upTo}
 use Rattle.wire.proofs.Placed.{Between, between-nil, between-join, between-split, between-moved, between-bytes, between-whole, whole-between}
 use Rattle.wire.proofs.Exactness.{Meets, meets-then, meets-next, meets-pure, meets-weaken, meets-got, meets-pick, meets-here, meets-require, then-got, next-got, here-got, require-got, Exact, number-exact, bytes-exact, upTo-exact, repeat-sound, repeat-complete}
 use Rattle.avl.specs.declared.Widths.{Widths}
@@ -147,6 +147,20 @@ fixed-exact w =
 within : {end mid start at n₀ size longest : ℕ} → mid ≡ n₀ + size → end ≤ start + longest → end ≡ mid → start ≡ at → n₀ ≡ at → size ≤ longest
 within a b c d e = omega arith
 
+-- a record with `n` for its total, whose fields and groups keep their rules, is read up to the two rules at its end
+pub record-ended : (longest : ℕ) (w : Widths) (n : ℕ) (r : AvlRecord) (s : List ℕ) (at next : ℕ) → FixedRules w (r .fixed) → n < 256 ^ w .count → GroupsRules w (kinds w) (r .groups)
+    → Between s at (fields (fixedBytes w (r .fixed) ∷ be (w .count) n ∷ groupsBytes w (kinds w) (r .groups) ∷ [])) next
+    → avlRecord longest w s at ≡ (require (eqb n (elementCount (r .groups))) 9 at >> (require (leb next (at + longest)) 12 at >> pure r)) s next
+unfolding avlRecord
+record-ended longest w n r s at next fixed fits gs f =
+    let f₁ = between-split (fixedBytes w (r .fixed)) f in
+    let f₂ = between-split (be (w .count) n) (f₁ .1) in
+    here-got _ s at
+    ∙ then-got (fixedFields w) _ s at (fixed-exact w .complete s at _ _ fixed (f₁ .0))
+    ∙ then-got (number (w .count)) _ s _ (number-exact (w .count) .complete s _ _ _ fits (f₂ .0))
+    ∙ then-got (groups w (kinds w)) _ s _ (groups-exact w (kinds w) .complete s _ (r .groups) next gs (f₂ .1))
+    ∙ here-got _ s next
+
 pub record-exact : (longest : ℕ) (w : Widths) → Exact (avlRecord longest w) (recordBytes w) (RecordRules longest w)
 unfolding avlRecord recordBytes pure
 record-exact longest w =
@@ -171,13 +185,7 @@ record-exact longest w =
             },
           ))))))));
       complete = λ s at r next h f.
-          let f₁ = between-split (fixedBytes w (r .fixed)) f in
-          let f₂ = between-split (be (w .count) (elementCount (r .groups))) (f₁ .1) in
-          here-got _ s at
-          ∙ then-got (fixedFields w) _ s at (fixed-exact w .complete s at _ _ (h .fixedKeep) (f₁ .0))
-          ∙ then-got (number (w .count)) _ s _ (number-exact (w .count) .complete s _ _ _ (h .totalFits) (f₂ .0))
-          ∙ then-got (groups w (kinds w)) _ s _ (groups-exact w (kinds w) .complete s _ (r .groups) next (h .groupsKeep) (f₂ .1))
-          ∙ here-got _ s next
+          record-ended longest w (elementCount (r .groups)) r s at next (h .fixedKeep) (h .totalFits) (h .groupsKeep) f
           ∙ require-got (eqb (elementCount (r .groups)) (elementCount (r .groups))) 9 at _ s next (eq-eqb (elementCount (r .groups)) (elementCount (r .groups)) refl)
           ∙ require-got _ 12 at _ s next (le-leb next _ (omega (arith, h .size, f .size)));
     }

@@ -1,17 +1,18 @@
--- Records that compute: the first record of document 006 for codecs 8 and 8 Extended, and counts that would wrap in a byte.
+-- Records that compute: the first of document 006 for codec 8, one of codec 8 Extended with variable values, and counts that would wrap in a byte.
 use mathlib.Core.Path.{_≡_, refl}
 use mathlib.Core.List.{List, [], _∷_, _++_}
 use Prim.Native.Nat.{ℕ}
 use lib.ListN.{replicate}
-use Rattle.wire.specs.Reading.{got, bad}
-use Rattle.wire.specs.Answers.{onAccepted, told, check}
-use Rattle.wire.specs.Envelope.{enclosed, codecOf, firstCount, lastCount, inner}
-use Rattle.wire.specs.Numbers.{numberAt, digits, valueFrom, littleAt, le, signed}
-use Rattle.wire.specs.Reading.{walked, andThen, _>>=_, _>>_, pure, here, require, span, number, bytes, upTo, repeat}
-use Rattle.avl.specs.Codecs.{codec8, codec8E, codec16, widthsOf, isDataCodec, kinds}
-use Rattle.avl.specs.DataField.{dataBytes, readData}
-use Rattle.avl.specs.RecordReader.{valueSize, element, group, groups, fixedFields, avlRecord, tagged, inRecord, avlRecords, atEnd, allRecords}
-use Rattle.avl.specs.Records.{elementCount, lengthBytes, elementBytes, groupBytes, groupsBytes, fixedBytes, recordBytes}
+use Rattle.wire.specs.Numbers.{numberAt, valueFrom}
+use Rattle.wire.specs.Reading.{got, bad, andThen, _>>=_, _>>_, pure, here, require, span, number, bytes, upTo, repeat}
+use Rattle.avl.specs.Codecs.{codec8, codec8E, kinds}
+use Rattle.avl.specs.RecordReader.{valueSize, element, group, groups, fixedFields, avlRecord}
+use Rattle.avl.specs.Records.{elementCount}
+
+-- naming it on an `unfolding` line opens all that the records compute with
+unfoldable computing : Unit {0}
+unfolding numberAt valueFrom andThen _>>=_ _>>_ pure here require span number bytes upTo repeat kinds valueSize element group groups fixedFields avlRecord elementCount
+computing = tt
 
 codec8Record : List ℕ
 codec8Record =
@@ -43,7 +44,7 @@ reads-codec8 : avlRecord 255 codec8 codec8Record 0
           ∷ [];
     })
     51
-unfolding onAccepted told check enclosed codecOf firstCount lastCount inner numberAt digits valueFrom littleAt le signed walked andThen _>>=_ _>>_ pure here require span number bytes upTo repeat codec8 codec8E codec16 widthsOf isDataCodec kinds dataBytes readData valueSize element group groups fixedFields avlRecord tagged inRecord avlRecords atEnd allRecords elementCount lengthBytes elementBytes groupBytes groupsBytes fixedBytes recordBytes codec8Record
+unfolding computing codec8Record
 reads-codec8 = refl
 
 -- an 8 Extended record with two variable values, one of two bytes and one of none
@@ -71,12 +72,12 @@ reads-codec8E : avlRecord 255 codec8E (codec8ERecord 2) 0
           [] ∷ [] ∷ [] ∷ [] ∷ (record { id = 256; value = 0x41 ∷ 0x42 ∷ [] } ∷ record { id = 256; value = [] } ∷ []) ∷ [];
     })
     48
-unfolding onAccepted told check enclosed codecOf firstCount lastCount inner numberAt digits valueFrom littleAt le signed walked andThen _>>=_ _>>_ pure here require span number bytes upTo repeat codec8 codec8E codec16 widthsOf isDataCodec kinds dataBytes readData valueSize element group groups fixedFields avlRecord tagged inRecord avlRecords atEnd allRecords elementCount lengthBytes elementBytes groupBytes groupsBytes fixedBytes recordBytes codec8ERecord
+unfolding computing codec8ERecord
 reads-codec8E = refl
 
 -- the first four counts add up to 0
 refuses-four-counts : avlRecord 255 codec8E (codec8ERecord 0) 0 ≡ bad (record { number = 9; index = 0; place = 0 })
-unfolding onAccepted told check enclosed codecOf firstCount lastCount inner numberAt digits valueFrom littleAt le signed walked andThen _>>=_ _>>_ pure here require span number bytes upTo repeat codec8 codec8E codec16 widthsOf isDataCodec kinds dataBytes readData valueSize element group groups fixedFields avlRecord tagged inRecord avlRecords atEnd allRecords elementCount lengthBytes elementBytes groupBytes groupsBytes fixedBytes recordBytes codec8ERecord
+unfolding computing codec8ERecord
 refuses-four-counts = refl
 
 -- 128 values of one byte and 128 of two, with a total of 0: the sum is 256, so the total is wrong
@@ -84,5 +85,5 @@ wrapping : List ℕ
 wrapping = replicate 26 0 ++ (128 ∷ []) ++ replicate 256 0 ++ (128 ∷ []) ++ replicate 386 0
 
 refuses-wrapping : avlRecord 255 codec8 wrapping 0 ≡ bad (record { number = 9; index = 0; place = 0 })
-unfolding onAccepted told check enclosed codecOf firstCount lastCount inner numberAt digits valueFrom littleAt le signed walked andThen _>>=_ _>>_ pure here require span number bytes upTo repeat codec8 codec8E codec16 widthsOf isDataCodec kinds dataBytes readData valueSize element group groups fixedFields avlRecord tagged inRecord avlRecords atEnd allRecords elementCount lengthBytes elementBytes groupBytes groupsBytes fixedBytes recordBytes wrapping
+unfolding computing wrapping
 refuses-wrapping = refl
