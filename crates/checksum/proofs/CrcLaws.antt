@@ -12,6 +12,11 @@ use Rattle.wire.specs.Numbers.{Bytes}
 use Rattle.checksum.specs.Crc.{feedback, shift, shifts, absorb, crcFrom, crc}
 use Rattle.checksum.proofs.XorLaws.{xor-half, xor-swap, xor-equal, xor-across, xors}
 
+-- the check value of the catalogue: the bytes of "123456789"
+pub check : crc (0x31 ∷ 0x32 ∷ 0x33 ∷ 0x34 ∷ 0x35 ∷ 0x36 ∷ 0x37 ∷ 0x38 ∷ 0x39 ∷ []) ≡ 0xBB3D
+unfolding crc
+check = refl
+
 -- ---- the two cases of a list, for proofs in which a state is not to be computed
 
 pub crcFrom-nil : (c : ℕ) → crcFrom c [] ≡ c
@@ -185,8 +190,3 @@ pub neighbours : (d e : List ℕ) (i : ℕ) → Bytes d → Bytes e → length d
     → ((j : ℕ) → (j ≡ i → ⊥) → (j ≡ suc i → ⊥) → getD d j 0 ≡ getD e j 0) → crc d ≡ crc e → d ≡ e
 unfolding crc
 neighbours d e i = neighbours-from 0 d e i (lit< tt)
-
--- the check value of the catalogue: the bytes of "123456789"
-pub check : crc (0x31 ∷ 0x32 ∷ 0x33 ∷ 0x34 ∷ 0x35 ∷ 0x36 ∷ 0x37 ∷ 0x38 ∷ 0x39 ∷ []) ≡ 0xBB3D
-unfolding crc
-check = refl
