@@ -120,6 +120,15 @@ def frames():
         yield reading("datagram length", "datagram", number(length, 2) + data[2:], refused(4))
 
 
+def checksums():
+    """A data field of every length with its CRC, and with its last bit changed."""
+    for size in range(3, PACKET_LIMIT - 11):
+        text = bytes((37 * place + size) & 255 for place in range(size - 8))
+        data = tcp(command_field(0x0C, text=text)[:size])
+        yield reading("CRC of each length", "command", data)
+        yield reading("CRC of each length", "command", changed(data, size + 7, data[size + 7] ^ 0x80), refused(5))
+
+
 def codecs_and_counts():
     for codec in range(256):
         for side, (wrap, _) in SIDES.items():
@@ -916,8 +925,8 @@ def streams():
 
 
 def edge_calls():
-    for part in (beginnings, frames, codecs_and_counts, cuts, fields, counts_and_lengths, past_the_record, sizes,
-                 wraps, tags, command_rules, imeis, lookups, twice, last_known, buffers, sample_contents, contents,
+    for part in (beginnings, frames, checksums, codecs_and_counts, cuts, fields, counts_and_lengths, past_the_record,
+                 sizes, wraps, tags, command_rules, imeis, lookups, twice, last_known, buffers, sample_contents, contents,
                  form_entries, form_rules, walk_orders, head_orders, command_orders, everywhere, command_texts,
                  feeds, refused_states, packet_rooms, wanted, streams):
         yield from part()

@@ -1,12 +1,13 @@
 -- The CRC is linear and loses nothing of the state, so it tells two lists of bytes apart that differ in two neighbours.
-use Prim.Native.Nat.{ℕ, zero, suc, _*_, _/_, _%_, _^_, _<_}
+use Prim.Native.Nat.{ℕ, zero, suc, _+_, _*_, _/_, _%_, _^_, _<_, _≤_}
 use native.Mathlib.Nat.{suc-inj}
+use native.Mathlib.Numerals.{add-one}
 use native.Mathlib.Omega.{arith}
 use mathlib.Core.Path.{_≡_, refl, sym, ap, ap₂, _∙_}
 use mathlib.Core.List.{List, [], _∷_}
-use lib.ListN.{length, getD}
+use lib.ListN.{length, getD, drop, drop-of-length-le}
 use lib.Dec.{lit<}
-use lib.Seq.{ext-getD}
+use lib.Seq.{drop-cons, ext-getD}
 use lib.Bits.{bitXor, xor-zero-r, xor-self, xor-lt, xor-mod, shifted-half, shifted-even}
 use Rattle.wire.specs.Numbers.{Bytes}
 use Rattle.checksum.specs.Crc.{feedback, shift, shifts, absorb, crcFrom, crc}
@@ -26,6 +27,14 @@ crcFrom-nil c = refl
 pub crcFrom-cons : (c b : ℕ) (s : List ℕ) → crcFrom c (b ∷ s) ≡ crcFrom (absorb c b) s
 unfolding crcFrom
 crcFrom-cons c b s = refl
+
+-- at a place in a list, and at its end
+pub crcFrom-at : (c : ℕ) (s : List ℕ) (i : ℕ) → i < length s → crcFrom c (drop i s) ≡ crcFrom (absorb c (getD s i 0)) (drop (i + 1) s)
+crcFrom-at c s i h =
+    ap (crcFrom c) (drop-cons s i 0 h) ∙ crcFrom-cons c (getD s i 0) (drop (suc i) s) ∙ ap (λ (n : ℕ). crcFrom (absorb c (getD s i 0)) (drop n s)) (sym (add-one i))
+
+pub crcFrom-end : (c : ℕ) (s : List ℕ) {i : ℕ} → length s ≤ i → crcFrom c (drop i s) ≡ c
+crcFrom-end c s h = ap (crcFrom c) (drop-of-length-le s h) ∙ crcFrom-nil c
 
 -- ---- a state has 16 bits
 

@@ -1,3 +1,4 @@
 pub mod XorLaws
 pub mod CrcLaws
+pub mod TableLaws
 pub mod BitLaws

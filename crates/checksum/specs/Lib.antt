@@ -1,2 +1,3 @@
 pub mod Crc
 pub mod Bits
+pub mod Table
