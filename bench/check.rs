@@ -3,7 +3,7 @@
 use crate::hand::Connection;
 use crate::input::{self, Random};
 use crate::library::{Sum, Taken};
-use crate::{combinator, hand, library, CODECS, SIZES};
+use crate::{combinator, crcs, hand, library, CODECS, SIZES};
 use brundilope::Contents;
 use std::fmt::Debug;
 
@@ -295,9 +295,39 @@ fn check_short(c: &mut Check, random: &mut Random, size: usize) {
     check_form(c, random, &d);
 }
 
+/// The CRC bit by bit, as its definition says.
+pub fn crc(data: &[u8]) -> u16 {
+    let mut c = 0;
+    for &b in data {
+        c ^= u16::from(b);
+        for _ in 0..8 {
+            c = if c & 1 != 0 { (c >> 1) ^ 0xA001 } else { c >> 1 };
+        }
+    }
+    c
+}
+
+/// Every other way to the CRC at every length; stops if one gives another.
+fn check_crcs(c: &mut Check, random: &mut Random) {
+    for size in 0..=1300 {
+        let data = random.bytes(size);
+        let right = crc(&data);
+        for (name, way) in crcs::ways() {
+            c.compared += 1;
+            let given = way(&data);
+            if given != right {
+                println!("the CRC by {name} differs at {size} bytes: {given:04X}, bit by bit {right:04X}");
+                println!("  {data:02X?}");
+                std::process::exit(1);
+            }
+        }
+    }
+}
+
 /// Compares all sides; stops if one answer differs.
 pub fn check(random: &mut Random) -> Check {
     let mut c = Check::default();
+    check_crcs(&mut c, &mut Random(1));
     for (codec, _) in CODECS {
         for size in SIZES {
             for round in 0..40 {

@@ -1,4 +1,7 @@
-//! The library's work written by hand: no unsafe, no allocation, one pass over the packet.
+//! The library's work written by hand: no unsafe, no allocation, one pass over the packet. Which CRC it takes, the
+//! module around it says.
+
+use super::crc;
 
 #[derive(Clone, Copy, Debug, PartialEq, Eq)]
 pub struct Refusal {
@@ -110,31 +113,6 @@ fn number(b: &[u8], at: usize, width: usize) -> Option<usize> {
 }
 
 // ---- frame
-
-/// The CRC of each single byte.
-static CRCS: [u16; 256] = {
-    let mut crcs = [0; 256];
-    let mut byte = 0;
-    while byte < 256 {
-        let mut c = byte as u16;
-        let mut bit = 0;
-        while bit < 8 {
-            c = if c & 1 != 0 { (c >> 1) ^ 0xA001 } else { c >> 1 };
-            bit += 1;
-        }
-        crcs[byte] = c;
-        byte += 1;
-    }
-    crcs
-};
-
-pub fn crc(data: &[u8]) -> u16 {
-    let mut c = 0u16;
-    for &b in data {
-        c = (c >> 8) ^ CRCS[usize::from((c ^ u16::from(b)) as u8)];
-    }
-    c
-}
 
 /// The length of the data field, by the eight bytes before it.
 fn length(head: &[u8; 8]) -> Answer<usize> {

@@ -1,11 +1,29 @@
 //! The library's C calls and its Rust crate beside the same work by hand and with nom: first answers, then times.
 
+mod alone;
 mod check;
 mod combinator;
-mod hand;
+mod crcs;
 mod input;
 mod library;
 mod measure;
+
+/// The code by hand, with one of the CRCs; perhaps with calls that are never made.
+macro_rules! by_hand {
+    ($module:ident, $crc:ident, $unused:ident) => {
+        #[$unused(dead_code)]
+        #[path = "."]
+        mod $module {
+            pub use crate::crcs::$crc as crc;
+            #[path = "hand.rs"]
+            mod code;
+            pub use code::*;
+        }
+    };
+}
+by_hand!(hand, folded, warn);
+by_hand!(sliced, sliced, allow);
+by_hand!(floor, multiplied, allow);
 
 use brundilope::Contents;
 use hand::Connection;
@@ -32,15 +50,32 @@ macro_rules! side {
     };
 }
 
-/// All sides of a call: by hand, the library, perhaps with a room of its own, nom.
+/// The code by hand with PCLMULQDQ, where there is that.
+macro_rules! floor {
+    ($call:ident $args:tt) => {
+        if crcs::multiplies() { Some(side!(floor::$call $args)) } else { None }
+    };
+}
+
+/// All sides of a call without a CRC: by hand, the library, perhaps with a room of its own, nom.
 macro_rules! sides {
     ($call:ident(|$i:ident| $($arg:expr),*) $(, $room:expr)?) => {
         [
-            side!(hand::$call(|$i| $($arg),*)),
-            side!(library::$call(|$i| $($arg),* $(, &mut *$room.borrow_mut())?)),
-            side!(combinator::$call(|$i| $($arg),*)),
+            Some(side!(hand::$call(|$i| $($arg),*))),
+            Some(side!(library::$call(|$i| $($arg),* $(, &mut *$room.borrow_mut())?))),
+            Some(side!(combinator::$call(|$i| $($arg),*))),
+            None,
+            None,
         ]
     };
+}
+
+/// All sides of a call with a CRC: those, and by hand with slicing-by-8 and with PCLMULQDQ.
+macro_rules! crc_sides {
+    ($call:ident $args:tt $(, $room:expr)?) => {{
+        let [hand, library, nom, ..] = sides!($call $args $(, $room)?);
+        [hand, library, nom, Some(side!(sliced::$call $args)), floor!($call $args)]
+    }};
 }
 
 /// The lines of the table, each behind its call, and what they have in common.
@@ -53,7 +88,7 @@ struct Table {
 }
 
 impl Table {
-    fn row(&self, call: &str, codecs: &str, inputs: &[Vec<u8>], sides: &[Side]) {
+    fn row(&self, call: &str, codecs: &str, inputs: &[Vec<u8>], sides: &[Option<Side>]) {
         let line = line(self.budget, call, codecs, inputs, sides);
         self.lines.borrow_mut().push((call.to_string(), line));
     }
@@ -67,19 +102,23 @@ impl Table {
         println!("{HEAD}");
         places.iter().for_each(|&i| println!("{}", lines[i].1));
         println!("\nAll values, a connection: the library is its Rust crate here, and nom makes owned records.");
+        println!("By hand and with nom, the CRC is the library's fold; the last columns are by hand with another CRC.");
+        if !crcs::multiplies() {
+            println!("By hand with PCLMULQDQ was not measured: this machine has no such instruction.");
+        }
     }
 
     /// Look-ups of any record, and of each packet's last value.
     fn lookup_rows(&mut self, codecs: &str, data: &[Data], tcp: &[Vec<u8>]) {
         let any: Vec<_> = data.iter().map(|d| self.random.below(d.records)).collect();
-        self.row("record_in_packet", codecs, tcp, &sides!(record_in_packet(|i| &tcp[i][..], any[i])));
+        self.row("record_in_packet", codecs, tcp, &crc_sides!(record_in_packet(|i| &tcp[i][..], any[i])));
         let last = |i: usize| (data[i].records - 1, data[i].elements - 1, data[i].last_id);
-        let sides = sides!(value_in_packet(|i| &tcp[i][..], last(i).0, last(i).1));
+        let sides = crc_sides!(value_in_packet(|i| &tcp[i][..], last(i).0, last(i).1));
         self.row("value_in_packet", codecs, tcp, &sides);
-        let sides = sides!(id_in_packet(|i| &tcp[i][..], last(i).0, last(i).2));
+        let sides = crc_sides!(id_in_packet(|i| &tcp[i][..], last(i).0, last(i).2));
         self.row("id_in_packet", codecs, tcp, &sides);
         // the newer packet is another of the pool and in most cases lacks the ID
-        let sides = sides!(last_known(|i| &tcp[(i + 1) % POOL][..], &tcp[i][..], last(i).2));
+        let sides = crc_sides!(last_known(|i| &tcp[(i + 1) % POOL][..], &tcp[i][..], last(i).2));
         self.row("last_known (two packets)", codecs, tcp, &sides);
     }
 
@@ -92,16 +131,16 @@ impl Table {
         };
         let forms: Vec<_> = tcp.iter().map(form).collect();
         let out = &self.out;
-        let sides = sides!(form_of_packet(|i| &tcp[i][..], &mut out.borrow_mut()[..]));
+        let sides = crc_sides!(form_of_packet(|i| &tcp[i][..], &mut out.borrow_mut()[..]));
         self.row("form_of_packet", codecs, tcp, &sides);
-        let sides = sides!(packet_of_form(|i| &forms[i][..], &mut out.borrow_mut()[..]));
+        let sides = crc_sides!(packet_of_form(|i| &forms[i][..], &mut out.borrow_mut()[..]));
         self.row("packet_of_form", codecs, &forms, &sides);
     }
 
     /// The lines of everything in a packet or datagram: all records, all values.
     fn sum_rows(&self, codecs: &str, tcp: &[Vec<u8>], udp: &[Vec<u8>]) {
         let room = &self.room;
-        self.row("all values of a packet", codecs, tcp, &sides!(sum_of_packet(|i| &tcp[i][..]), room));
+        self.row("all values of a packet", codecs, tcp, &crc_sides!(sum_of_packet(|i| &tcp[i][..]), room));
         let sides = sides!(sum_of_datagram(|i| &udp[i][..]), room);
         self.row("all values of a datagram (no CRC)", codecs, udp, &sides);
     }
@@ -141,8 +180,9 @@ impl Table {
             side!(hand::sum_of_stream(|i| stream(i), SEGMENT, &mut *hand.borrow_mut(), &mut out.borrow_mut()[..])),
             side!(library::sum_of_stream(|i| stream(i), SEGMENT, &mut *library.borrow_mut())),
         ];
+        let [hand, library] = sides.map(Some);
         let call = format!("a connection (packets of {from} to {to} bytes, {SEGMENT} a feed)");
-        self.row(&call, "all", &streams, &sides);
+        self.row(&call, "all", &streams, &[hand, library, None, None, None]);
     }
 
     /// The table of a packet that is fed in pieces, beside one that is read and copied.
@@ -159,7 +199,7 @@ impl Table {
                     side!(library::pieces_by_value(|i| p(i), pieces, &mut *value.borrow_mut())),
                     side!(library::pieces_lent(|i| p(i), pieces, &mut *lent.borrow_mut(), &mut out.borrow_mut()[..])),
                 ];
-                println!("{}", line(self.budget / 3, how, "all", &tcp, &sides));
+                println!("{}", line(self.budget / 3, how, "all", &tcp, &sides.map(Some)));
             }
         }
         let size = [size_of::<Connection>(), size_of::<brundilope::Connection>()];
@@ -186,7 +226,7 @@ impl Table {
         if !all {
             return;
         }
-        self.row("read_packet", name, &tcp, &sides!(read_packet(|i| &tcp[i][..])));
+        self.row("read_packet", name, &tcp, &crc_sides!(read_packet(|i| &tcp[i][..])));
         self.row("read_datagram (no CRC)", name, &udp, &sides!(read_datagram(|i| &udp[i][..])));
         self.lookup_rows(name, &data, &tcp);
         self.form_rows(name, &tcp);
@@ -199,11 +239,13 @@ impl Table {
         let packets: Vec<_> = (0..POOL).map(|i| input::tcp(&input::command(random, codec(i), size))).collect();
         let texts: Vec<_> = (0..POOL).map(|_| random.bytes(size)).collect();
         let imeis: Vec<_> = (0..POOL).map(|i| random.digits(i % 2 * 15)).collect();
-        self.row("read_command", "12, 14", &packets, &sides!(read_command(|i| &packets[i][..])));
+        self.row("read_command", "12, 14", &packets, &crc_sides!(read_command(|i| &packets[i][..])));
         let (out, imei, text) = (&self.out, |i: usize| &imeis[i][..], |i: usize| &texts[i][..]);
         let hand = side!(hand::write_command(|i| codec(i), 5, imei(i), text(i), &mut out.borrow_mut()[..]));
         let library = side!(library::write_command(|i| codec(i), 5, imei(i), text(i), &mut out.borrow_mut()[..]));
-        self.row("write_command", "12, 14", &packets, &[hand, library]);
+        let sliced = side!(sliced::write_command(|i| codec(i), 5, imei(i), text(i), &mut out.borrow_mut()[..]));
+        let floor = floor!(write_command(|i| codec(i), 5, imei(i), text(i), &mut out.borrow_mut()[..]));
+        self.row("write_command", "12, 14", &packets, &[Some(hand), Some(library), None, Some(sliced), floor]);
     }
 
     fn login_row(&mut self) {
@@ -252,6 +294,7 @@ fn main() {
     table.print();
     table.growth();
     table.feeds();
+    alone::print(budget / 4, &mut table.random);
     let cores = std::thread::available_parallelism().map_or(0, usize::from);
     println!("\n{cores} cores; load average {before} at the start and {} at the end.", load());
 }

@@ -14,7 +14,7 @@ const RUN_TIME: Duration = Duration::from_micros(100);
 pub type Side<'a> = Box<dyn Fn(Range<usize>) + 'a>;
 
 /// How many calls make a run: 4 to 64, as many as the slowest side does in its time.
-fn calls(sides: &[Side]) -> usize {
+fn calls(sides: &[&Side]) -> usize {
     let mut calls = MOST;
     for side in sides {
         side(0..POOL);
@@ -29,7 +29,7 @@ fn calls(sides: &[Side]) -> usize {
 }
 
 /// Times all sides in turn over the same inputs, another part of the pool in each round: ns per call.
-fn measure(budget: Duration, inputs: &[Vec<u8>], sides: &[Side]) -> Vec<Vec<f64>> {
+fn measure(budget: Duration, inputs: &[Vec<u8>], sides: &[&Side]) -> Vec<Vec<f64>> {
     let calls = calls(sides);
     let mut t = vec![vec![]; sides.len()];
     let begin = Instant::now();
@@ -57,28 +57,42 @@ fn figures(mut t: Vec<f64>) -> (f64, f64) {
 
 /// Measures one side by itself: the median and the least.
 pub fn time(budget: Duration, inputs: &[Vec<u8>], side: Side) -> (f64, f64) {
-    figures(measure(budget, inputs, &[side]).remove(0))
+    figures(measure(budget, inputs, &[&side]).remove(0))
+}
+
+/// Measures the sides that are there: the median and the least of each.
+pub fn times(budget: Duration, inputs: &[Vec<u8>], sides: &[Option<Side>]) -> Vec<Option<(f64, f64)>> {
+    let there: Vec<_> = sides.iter().flatten().collect();
+    let mut times = measure(budget, inputs, &there).into_iter().map(figures);
+    sides.iter().map(|side| side.as_ref().and_then(|_| times.next())).collect()
 }
 
 /// The head of the table.
 pub const HEAD: &str = "\
-| call | codecs | bytes | by hand, ns | library, ns | library / hand | nom, ns | nom / hand |
-|---|---|---:|---:|---:|---:|---:|---:|";
+| call | codecs | bytes | by hand, ns | library, ns | library / hand | nom, ns | nom / hand \
+| slicing-by-8, ns | library / slicing | PCLMULQDQ, ns | library / PCLMULQDQ |
+|---|---|---:|---:|---:|---:|---:|---:|---:|---:|---:|---:|";
 
 /// The head of the table of feeds.
 pub const FEED_HEAD: &str = "\
 | a packet fed | codecs | bytes | read_packet and a copy, ns | by value, ns | by value / read | lent, ns | lent / read |
 |---|---|---:|---:|---:|---:|---:|---:|";
 
-/// Measures one line of a table: medians, with minimums in brackets. The others beside the first side: by hand, the
-/// library, perhaps nom; or what the head says.
-pub fn line(budget: Duration, call: &str, codecs: &str, inputs: &[Vec<u8>], sides: &[Side]) -> String {
+/// Measures one line of a table: medians, with minimums in brackets. The second and third side beside the first: the
+/// library and nom beside the code by hand; or what the head says. Then the second beside each of the others: the
+/// library beside the code by hand with another CRC. What is missing stays empty.
+pub fn line(budget: Duration, call: &str, codecs: &str, inputs: &[Vec<u8>], sides: &[Option<Side>]) -> String {
     let bytes = inputs.iter().map(Vec::len).sum::<usize>() / inputs.len();
-    let times: Vec<_> = measure(budget, inputs, sides).into_iter().map(figures).collect();
-    let first = times[0];
+    let times = times(budget, inputs, sides);
+    let [first, second] = [0, 1].map(|k| times[k].unwrap_or_default());
     let mut line = format!("| {call} | {codecs} | {bytes} | {:.1} ({:.1}) |", first.0, first.1);
-    for t in &times[1..] {
-        line += &format!(" {:.1} ({:.1}) | {:.2} ({:.2}) |", t.0, t.1, t.0 / first.0, t.1 / first.1);
+    for (k, time) in times.iter().enumerate().skip(1) {
+        let Some(t) = *time else {
+            line += " | |";
+            continue;
+        };
+        let (a, b) = if k < 3 { (t, first) } else { (second, t) };
+        line += &format!(" {:.1} ({:.1}) | {:.2} ({:.2}) |", t.0, t.1, a.0 / b.0, a.1 / b.1);
     }
-    line + if times.len() < 3 { " | |" } else { "" }
+    line
 }

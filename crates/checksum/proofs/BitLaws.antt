@@ -1,18 +1,19 @@
 -- Counting bits: lists, numbers as bytes, and parity.
 use Prim.Native.Nat.{ℕ, zero, suc, _+_, _*_, _/_, _%_, _^_, _<_}
-use native.Mathlib.Nat.{suc-inj, div-one, div-div-eq-div-mul, add-zero, zero-add, add-comm, add-assoc, suc-add, div-eq-of-lt, div-add-mod'}
+use native.Mathlib.Nat.{suc-inj, div-one, div-div-eq-div-mul, add-zero, zero-add, add-comm, add-assoc, suc-add, div-eq-of-lt, div-add-mod', lt-of-le-of-lt}
 use native.Mathlib.Numerals.{add-one}
 use native.Mathlib.Omega.{arith}
 use mathlib.Core.Path.{_≡_, refl, sym, ap, ap₂, _∙_}
 use mathlib.Core.List.{List, [], _∷_, _++_}
 use lib.ListN.{length}
 use lib.Dec.{lit<}
+use lib.Pow.{shr-le}
 use lib.Bits.{bitXor, xor-lt, block-half, block-odd}
 use Rattle.wire.specs.Numbers.{Bytes, digits, be}
 use Rattle.checksum.specs.Crc.{feedback, shift, shifts, absorb, crcFrom, crc}
 use Rattle.checksum.specs.Bits.{ones, onesOf, differing}
 use Rattle.checksum.proofs.XorLaws.{xor-half, xor-odd}
-use Rattle.checksum.proofs.CrcLaws.{crcFrom-nil, crcFrom-cons, shift-lt, absorb-lt, crc-lt}
+use Rattle.checksum.proofs.CrcLaws.{crcFrom-nil, crcFrom-cons, feedback-lt, shift-below, absorb-lt, crc-lt}
 
 -- ---- of a number
 
@@ -89,20 +90,21 @@ feedback-parity zero h = refl
 feedback-parity (suc zero) h = refl
 feedback-parity (suc (suc b)) h = absurd (omega arith)
 
-pub shift-parity : (c : ℕ) → c < 65536 → ones 16 (shift c) % 2 ≡ ones 16 c % 2
+pub shift-parity : (k c : ℕ) → c < 2 ^ (16 + k) → ones (16 + k) (shift c) % 2 ≡ ones (16 + k) c % 2
 unfolding shift
-shift-parity c h =
-    ones-xor 16 (c / 2) (feedback (c % 2)) ∙ omega (arith, feedback-parity (c % 2) (omega arith), ones-half 16 c h)
+shift-parity k c h =
+    let fed : ones (16 + k) (feedback (c % 2)) ≡ ones 16 (feedback (c % 2)) = ones-more 16 k (feedback (c % 2)) (feedback-lt (c % 2)) in
+    ones-xor (16 + k) (c / 2) (feedback (c % 2)) ∙ omega (arith, fed, feedback-parity (c % 2) (omega arith), ones-half (16 + k) c h)
 
-pub shifts-parity : (k c : ℕ) → c < 65536 → ones 16 (shifts k c) % 2 ≡ ones 16 c % 2
+pub shifts-parity : (j k c : ℕ) → c < 2 ^ (16 + k) → ones (16 + k) (shifts j c) % 2 ≡ ones (16 + k) c % 2
 unfolding shifts
-shifts-parity zero c h = refl
-shifts-parity (suc k) c h = shifts-parity k (shift c) (shift-lt c h) ∙ shift-parity c h
+shifts-parity zero k c h = refl
+shifts-parity (suc j) k c h = shifts-parity j k (shift c) (shift-below k c (lt-of-le-of-lt (shr-le c 1) h)) ∙ shift-parity k c h
 
 pub absorb-parity : (c b : ℕ) → c < 65536 → b < 256 → ones 16 (absorb c b) % 2 ≡ (ones 16 c + ones 8 b) % 2
 unfolding absorb
 absorb-parity c b h k =
-    shifts-parity 8 (bitXor c b) (xor-lt 16 c b h (omega arith)) ∙ ones-xor 16 c b ∙ ap (λ (n : ℕ). (ones 16 c + n) % 2) (ones-more 8 8 b k)
+    shifts-parity 8 0 (bitXor c b) (xor-lt 16 c b h (omega arith)) ∙ ones-xor 16 c b ∙ ap (λ (n : ℕ). (ones 16 c + n) % 2) (ones-more 8 8 b k)
 
 pub crcFrom-parity : (c : ℕ) (s : List ℕ) → c < 65536 → Bytes s → ones 16 (crcFrom c s) % 2 ≡ (ones 16 c + onesOf s) % 2
 unfolding onesOf

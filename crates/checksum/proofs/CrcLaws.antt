@@ -1,12 +1,13 @@
 -- The CRC is linear and loses nothing of the state, so it tells two lists of bytes apart that differ in two neighbours.
 use Prim.Native.Nat.{ℕ, zero, suc, _+_, _*_, _/_, _%_, _^_, _<_, _≤_}
-use native.Mathlib.Nat.{suc-inj}
+use native.Mathlib.Nat.{suc-inj, lt-of-lt-of-le}
 use native.Mathlib.Numerals.{add-one}
 use native.Mathlib.Omega.{arith}
 use mathlib.Core.Path.{_≡_, refl, sym, ap, ap₂, _∙_}
 use mathlib.Core.List.{List, [], _∷_}
 use lib.ListN.{length, getD, drop, drop-of-length-le}
 use lib.Dec.{lit<}
+use lib.Pow.{pow-mono}
 use lib.Seq.{drop-cons, ext-getD}
 use lib.Bits.{bitXor, xor-zero-r, xor-self, xor-lt, xor-mod, shifted-half, shifted-even}
 use Rattle.wire.specs.Numbers.{Bytes}
@@ -38,14 +39,20 @@ crcFrom-end c s h = ap (crcFrom c) (drop-of-length-le s h) ∙ crcFrom-nil c
 
 -- ---- a state has 16 bits
 
-feedback-lt : (b : ℕ) → feedback b < 65536
+pub feedback-lt : (b : ℕ) → feedback b < 65536
 unfolding feedback
 feedback-lt zero = lit< tt
 feedback-lt (suc b) = lit< tt
 
-pub shift-lt : (c : ℕ) → c < 65536 → shift c < 65536
+-- or more, where half of it has no more
+pub shift-below : (k n : ℕ) → n / 2 < 2 ^ (16 + k) → shift n < 2 ^ (16 + k)
 unfolding shift
-shift-lt c h = xor-lt 16 (c / 2) (feedback (c % 2)) (omega arith) (feedback-lt (c % 2))
+shift-below k n h =
+    let more : 16 ≤ 16 + k = omega arith in
+    xor-lt (16 + k) (n / 2) (feedback (n % 2)) h (lt-of-lt-of-le (feedback-lt (n % 2)) (pow-mono more))
+
+pub shift-lt : (c : ℕ) → c < 65536 → shift c < 65536
+shift-lt c h = shift-below 0 c (omega arith)
 
 pub shifts-lt : (k c : ℕ) → c < 65536 → shifts k c < 65536
 unfolding shifts

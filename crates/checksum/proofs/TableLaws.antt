@@ -1,15 +1,15 @@
 -- The table's rule, computed over all of its entries at once, and eight shifts by it.
-use Prim.Native.Nat.{ℕ, zero, suc, _+_, _*_, _/_, _%_, _<_}
-use native.Mathlib.Nat.{zero-add, add-zero, suc-add, add-suc, le-of-suc-le-suc, div-add-mod'}
+use Prim.Native.Nat.{ℕ, zero, suc, _+_, _/_, _%_, _<_}
+use native.Mathlib.Nat.{zero-add, add-zero, suc-add, add-suc, le-of-suc-le-suc}
 use native.Mathlib.Omega.{arith}
 use mathlib.Core.Path.{_≡_, refl, sym, ap, _∙_}
 use mathlib.Core.List.{List, [], _∷_}
 use lib.ListN.{length, getD}
-use lib.Bits.{bitXor, xor-comm, xor-shifted}
+use lib.Bits.{bitXor, xor-comm}
 use Rattle.checksum.specs.Crc.{shifts, absorb, crc}
 use Rattle.checksum.specs.Table.{CrcTable}
 use Rattle.checksum.proofs.XorLaws.{xor-assoc}
-use Rattle.checksum.proofs.CrcLaws.{shifts-linear, shifts-up}
+use Rattle.checksum.proofs.ModuloLaws.{shifts-split}
 
 -- ---- the rule
 
@@ -38,17 +38,10 @@ by-rule t e =
 
 -- ---- eight shifts
 
--- the high bits go down, and the lowest byte gives its CRC
-shifts-byte : (n : ℕ) → shifts 8 n ≡ bitXor (n / 256) (crc (n % 256 ∷ []))
-unfolding crc
-shifts-byte n =
-    let parts : bitXor (n / 256 * 256) (n % 256) ≡ n = xor-shifted (n / 256) 8 (n % 256) (omega arith) ∙ div-add-mod' n 256 in
-    ap (shifts 8) (sym parts) ∙ shifts-linear 8 (n / 256 * 256) (n % 256) ∙ ap (λ (m : ℕ). bitXor m (shifts 8 (n % 256))) (shifts-up 8 (n / 256))
-
--- the same by the table: the high half of the state, and the entry at its low half
+-- the high half of the state goes down, and the entry at its low half is what is shifted out
 pub shifted : (t : List ℕ) → CrcTable t → (c : ℕ) → bitXor (c / 256) (getD t (c % 256) 0) ≡ shifts 8 c
-unfolding CrcTable
-shifted t r c = ap (bitXor (c / 256)) (r .1 (c % 256) (omega arith)) ∙ sym (shifts-byte c)
+unfolding CrcTable crc
+shifted t r c = ap (bitXor (c / 256)) (r .1 (c % 256) (omega arith)) ∙ sym (shifts-split 8 c)
 
 -- with the next byte put in before the entry
 pub shifted-next : (t : List ℕ) → CrcTable t → (c b : ℕ) → shifts 8 (bitXor (bitXor (c / 256) b) (getD t (c % 256) 0)) ≡ absorb (shifts 8 c) b

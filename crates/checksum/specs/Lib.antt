@@ -1,3 +1,4 @@
 pub mod Crc
 pub mod Bits
+pub mod Fold
 pub mod Table
