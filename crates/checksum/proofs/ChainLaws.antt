@@ -1,6 +1,6 @@
 -- Fifteen words a step: x^960 = x^64 + 1 modulo x^15 + x + 1.
 use Prim.Native.Nat.{ℕ, zero, suc, _+_, _*_, _^_, _<_, _≤_}
-use native.Mathlib.Nat.{lt-of-lt-of-le, eq-or-lt-of-le}
+use native.Mathlib.Nat.{eq-or-lt-of-le}
 use native.Mathlib.Numerals.{add-one}
 use native.Mathlib.Omega.{arith}
 use mathlib.Core.Path.{_≡_, refl, sym, ap, ap₂, _∙_, subst}
@@ -9,14 +9,14 @@ use mathlib.Core.Logic.{⊎-elim}
 use lib.ListN.{length, getD, set, replicate, length-set}
 use lib.Dec.{lit<, lit≤}
 use lib.Seq.{getD-set-same, getD-set-other}
-use lib.Bits.{bitXor, xor-comm, xor-zero-l, xor-zero-r, xor-self, xor-lt}
+use lib.Bits.{bitXor, xor-comm, xor-zero-l, xor-zero-r, xor-lt}
 use Rattle.wire.specs.Numbers.{Bytes, littleAt}
 use Rattle.checksum.specs.Crc.{shifts}
 use Rattle.checksum.specs.Fold.{raised, Alike, joined, chain, Fifteen, held, Reached}
-use Rattle.checksum.proofs.XorLaws.{xor-assoc, xor-swap}
+use Rattle.checksum.proofs.XorLaws.{xor-assoc, xor-swap, xor-right, xor-undo}
 use Rattle.checksum.proofs.CrcLaws.{shifts-linear}
-use Rattle.checksum.proofs.ModuloLaws.{shifts-add, shifts-comm, shifts-below, raised-linear, alike-xor, beside, beside-linear, beside-shifts, factor-64}
-use Rattle.checksum.proofs.WordLaws.{little-lt, otherwise, behind, next-word, two-words}
+use Rattle.checksum.proofs.ModuloLaws.{shifts-add, shifts-comm, shifts-word, alike-xor, alike-cancel, beside, beside-linear, beside-shifts, factor-64}
+use Rattle.checksum.proofs.WordLaws.{little-lt, state-fits, otherwise, behind, next-word, two-words}
 
 -- ---- words in a row
 
@@ -46,25 +46,16 @@ chain-linear f g h (suc n) e =
     ∙ xor-swap (shifts 64 (chain 0 f n)) (shifts 64 (chain 0 g n)) (f n) (g n)
 
 -- the first word and those behind it
-chain-first : (f : ℕ → ℕ) (n : ℕ) → chain 0 f (suc n) ≡ bitXor (shifts (64 * n) (f 0)) (chain 0 (λ (i : ℕ). f (suc i)) n)
+chain-first : (f : ℕ → ℕ) (n : ℕ) → chain 0 f (suc n) ≡ chain (f 0) (λ (i : ℕ). f (suc i)) n
 unfolding chain
-chain-first f zero = xor-zero-l (f 0) ∙ sym (xor-zero-r (f 0))
-chain-first f (suc n) =
-    let width : 64 * n + 64 ≡ 64 * suc n = omega arith in
-    let c : ℕ = chain 0 (λ (i : ℕ). f (suc i)) n in
-    ap (λ (m : ℕ). bitXor (shifts 64 m) (f (suc n))) (chain-first f n)
-    ∙ ap (λ (m : ℕ). bitXor m (f (suc n))) (shifts-linear 64 (shifts (64 * n) (f 0)) c)
-    ∙ xor-assoc (shifts 64 (shifts (64 * n) (f 0))) (shifts 64 c) (f (suc n))
-    ∙ ap (λ (m : ℕ). bitXor m (bitXor (shifts 64 c) (f (suc n)))) (sym (shifts-add (64 * n) 64 (f 0)) ∙ ap (λ (k : ℕ). shifts k (f 0)) width)
+chain-first f zero = xor-zero-l (f 0)
+chain-first f (suc n) = ap (λ (m : ℕ). joined 64 m (f (suc n))) (chain-first f n)
 
 chain-lt : (f : ℕ → ℕ) (n : ℕ) → ((i : ℕ) → f i < 2 ^ 64) → chain 0 f n < 2 ^ 64
 unfolding chain
 chain-lt f zero h = lit< tt
 chain-lt f (suc n) h =
-    let wide : 2 ^ 64 ≤ 2 ^ (16 + 64) = lit≤ tt in
-    let state : 65536 ≤ 2 ^ 64 = lit≤ tt in
-    let small : shifts 64 (chain 0 f n) < 65536 = shifts-below 64 (chain 0 f n) (lt-of-lt-of-le (chain-lt f n h) wide) in
-    xor-lt 64 (shifts 64 (chain 0 f n)) (f n) (lt-of-lt-of-le small state) (h n)
+    xor-lt 64 (shifts 64 (chain 0 f n)) (f n) (state-fits (shifts-word 64 (chain 0 f n) (chain-lt f n h))) (h n)
 
 -- ---- fifteen of them
 
@@ -83,10 +74,10 @@ with-first a b c w f =
     ap₂ (joined 64) (chain-ext 0 b a 14 (f .same)) (f .last) ∙ sym (xor-assoc (shifts 64 (chain 0 a 14)) (a 14) (a 0))
 
 -- the words, and their neighbours behind
-neighbours : (a b c w : ℕ → ℕ) → Folded a b c w
+with-next : (a b c w : ℕ → ℕ) → Folded a b c w
     → chain 0 c 15 ≡ bitXor (bitXor (chain 0 b 15) (shifts 64 (chain 0 (λ (i : ℕ). b (suc i)) 14))) (chain 0 w 15)
 unfolding chain
-neighbours a b c w f =
+with-next a b c w f =
     let d : ℕ → ℕ = λ (i : ℕ). b (suc i) in
     let e : ℕ → ℕ = λ (i : ℕ). bitXor (b i) (d i) in
     let both : chain 0 e 14 ≡ bitXor (chain 0 b 14) (chain 0 d 14) = chain-linear b d e 14 (λ i h. refl) in
@@ -97,13 +88,11 @@ neighbours a b c w f =
     ap (shifts 64) (chain-linear e w c 14 (f .pairs))
     ∙ shifts-linear 64 (chain 0 e 14) (chain 0 w 14)
     ∙ ap (λ (m : ℕ). bitXor m w14) (ap (shifts 64) both ∙ shifts-linear 64 (chain 0 b 14) (chain 0 d 14)) in
-    let moved : bitXor (bitXor b14 d14) (b 14) ≡ bitXor (bitXor b14 (b 14)) d14 =
-    xor-assoc b14 d14 (b 14) ∙ ap (bitXor b14) (xor-comm d14 (b 14)) ∙ sym (xor-assoc b14 (b 14) d14) in
     ap₂ bitXor first (f .end)
     ∙ xor-swap (bitXor b14 d14) w14 (b 14) (w 14)
-    ∙ ap (λ (m : ℕ). bitXor m (bitXor w14 (w 14))) moved
+    ∙ ap (λ (m : ℕ). bitXor m (bitXor w14 (w 14))) (xor-right b14 d14 (b 14))
 
--- x^960 times the words, where the first is what is too much
+-- so it is the words times x^64 + 1, but for the first word, and the data
 folded : (a b c w : ℕ → ℕ) → Folded a b c w
     → chain 0 c 15 ≡ bitXor (bitXor (beside 64 (chain 0 a 15)) (bitXor (beside 64 (a 0)) (shifts 960 (a 0)))) (chain 0 w 15)
 unfolding beside
@@ -112,25 +101,22 @@ folded a b c w f =
     let m : ℕ = chain 0 b 15 in
     let d : ℕ = chain 0 (λ (i : ℕ). b (suc i)) 14 in
     let x : ℕ = shifts 896 (b 0) in
-    let behind : d ≡ bitXor m x =
-    sym (ap (λ (k : ℕ). bitXor k x) (chain-first b 14 ∙ xor-comm x d) ∙ xor-assoc d x x ∙ ap (bitXor d) (xor-self x) ∙ xor-zero-r d) in
+    let rest : d ≡ bitXor m x =
+    sym (ap (λ (k : ℕ). bitXor k x) (chain-first b 14 ∙ chain-from (b 0) (λ (i : ℕ). b (suc i)) 14 ∙ xor-comm x d) ∙ xor-undo d x) in
     let first : shifts 64 x ≡ shifts 960 (a 0) = sym (shifts-add 896 64 (b 0)) ∙ ap (shifts 960) (f .same 0 (lit< tt)) in
-    let shifted : shifts 64 d ≡ bitXor (shifts 64 m) (shifts 960 (a 0)) = ap (shifts 64) behind ∙ shifts-linear 64 m x ∙ ap (bitXor (shifts 64 m)) first in
+    let shifted : shifts 64 d ≡ bitXor (shifts 64 m) (shifts 960 (a 0)) = ap (shifts 64) rest ∙ shifts-linear 64 m x ∙ ap (bitXor (shifts 64 m)) first in
     let all : bitXor m (shifts 64 d) ≡ bitXor (beside 64 n) (bitXor (beside 64 (a 0)) (shifts 960 (a 0))) =
     ap (bitXor m) shifted
     ∙ sym (xor-assoc m (shifts 64 m) (shifts 960 (a 0)))
     ∙ ap (λ (k : ℕ). bitXor k (shifts 960 (a 0))) (xor-comm m (shifts 64 m) ∙ ap (beside 64) (with-first a b c w f) ∙ beside-linear 64 n (a 0))
     ∙ xor-assoc (beside 64 n) (beside 64 (a 0)) (shifts 960 (a 0)) in
-    neighbours a b c w f ∙ ap (λ (k : ℕ). bitXor k (chain 0 w 15)) all
+    with-next a b c w f ∙ ap (λ (k : ℕ). bitXor k (chain 0 w 15)) all
 
 pub fifteen : (a b c w : ℕ → ℕ) → Folded a b c w → Alike (shifts 64 (chain (chain 0 a 15) w 15)) (shifts 64 (chain 0 c 15))
 fifteen a b c w f =
     let n : ℕ = shifts 64 (chain 0 a 15) in
     let m : ℕ = shifts 64 (a 0) in
     let v : ℕ = shifts 64 (chain 0 w 15) in
-    let wide : 2 ^ 64 ≤ 2 ^ (16 + 64) = lit≤ tt in
-    let hn : n < 65536 = shifts-below 64 (chain 0 a 15) (lt-of-lt-of-le (chain-lt a 15 (f .fits)) wide) in
-    let hm : m < 65536 = shifts-below 64 (a 0) (lt-of-lt-of-le (f .fits 0) wide) in
     let left : shifts 64 (chain (chain 0 a 15) w 15) ≡ bitXor (shifts 960 n) v =
     ap (shifts 64) (chain-from (chain 0 a 15) w 15)
     ∙ shifts-linear 64 (shifts 960 (chain 0 a 15)) (chain 0 w 15)
@@ -143,9 +129,10 @@ fifteen a b c w f =
     (shifts-linear 64 (beside 64 (chain 0 a 15)) (bitXor (beside 64 (a 0)) (shifts 960 (a 0)))
     ∙ ap₂ bitXor (beside-shifts 64 64 (chain 0 a 15))
     (shifts-linear 64 (beside 64 (a 0)) (shifts 960 (a 0)) ∙ ap₂ bitXor (beside-shifts 64 64 (a 0)) (shifts-comm 64 960 (a 0)))) in
-    let none : raised extra ≡ 0 = raised-linear (beside 64 m) (shifts 960 m) ∙ ap (bitXor (raised (beside 64 m))) (factor-64 m hm) ∙ xor-self (raised (beside 64 m)) in
     let same : Alike (bitXor (beside 64 n) extra) (shifts 960 n) =
-    raised-linear (beside 64 n) extra ∙ ap₂ bitXor (sym (factor-64 n hn)) none ∙ xor-zero-r (raised (shifts 960 n)) in
+    alike-cancel (beside 64 n) (shifts 960 n) (beside 64 m) (shifts 960 m)
+    (sym (factor-64 n (shifts-word 64 (chain 0 a 15) (chain-lt a 15 (f .fits)))))
+    (sym (factor-64 m (shifts-word 64 (a 0) (f .fits 0)))) in
     ap raised left ∙ alike-xor (shifts 960 n) (bitXor (beside 64 n) extra) v v (sym same) refl ∙ ap raised (sym right)
 
 -- ---- of data
@@ -201,19 +188,19 @@ turning-start b s at p h = (lit≤ tt, h, λ i f. absurd (omega arith), λ i f. 
 pub turning-next : (b s : List ℕ) (at q : ℕ) (v : List ℕ) (p k w : ℕ) → Turning b s at q v p k → k < 14 → w < 2 ^ 64 → w ≡ wordsAt s at k
     → Turning b s at q (set v k (bitXor (bitXor (getD v k 0) (getD v (k + 1) 0)) w)) (bitXor p w) (k + 1)
 unfolding gathered
-turning-next b s at q v p k w (f, h, before, behind, parity) g hw e =
+turning-next b s at q v p k w (f, h, done, left, parity) g hw e =
     let x : ℕ = bitXor (bitXor (getD v k 0) (getD v (k + 1) 0)) w in
     let hx : x < 2 ^ 64 = xor-lt 64 (bitXor (getD v k 0) (getD v (k + 1) 0)) w (xor-lt 64 (getD v k 0) (getD v (k + 1) 0) (h .1 k) (h .1 (k + 1))) hw in
     let one : k + 1 ≡ suc k = add-one k in
     let new : getD (set v k x) k 0 ≡ bitXor (bitXor (getD b k 0) (getD b (suc k) 0)) (wordsAt s at k) =
-    getD-set-same v k x 0 (omega (arith, h .0)) ∙ ap₂ (λ (m n : ℕ). bitXor m n) (ap₂ bitXor (behind k (omega arith)) (behind (k + 1) (omega arith) ∙ ap (λ (i : ℕ). getD b i 0) one)) e in (
+    getD-set-same v k x 0 (omega (arith, h .0)) ∙ ap₂ (λ (m n : ℕ). bitXor m n) (ap₂ bitXor (left k (omega arith)) (left (k + 1) (omega arith) ∙ ap (λ (i : ℕ). getD b i 0) one)) e in (
       omega arith,
       set-fifteen v k x h hx,
       λ i r. ⊎-elim
           (λ same. subst (λ (n : ℕ). getD (set v k x) n 0 ≡ bitXor (bitXor (getD b n 0) (getD b (suc n) 0)) (wordsAt s at n)) (sym same) new)
-          (λ less. getD-set-other v k i x 0 (λ same. omega arith) ∙ before i less)
+          (λ less. getD-set-other v k i x 0 (λ same. omega arith) ∙ done i less)
           (eq-or-lt-of-le (le-of-lt-suc i k r)),
-      λ i r. getD-set-other v k i x 0 (λ same. omega arith) ∙ behind i (omega arith),
+      λ i r. getD-set-other v k i x 0 (λ same. omega arith) ∙ left i (omega arith),
       ap₂ bitXor parity e ∙ ap (gathered q (wordsAt s at)) (sym one),
     )
   where
@@ -223,21 +210,21 @@ turning-next b s at q v p k w (f, h, before, behind, parity) g hw e =
 -- at the end: the last word with the first, and a word of data
 pub turning-end : (a s : List ℕ) (at q : ℕ) (v : List ℕ) (p k w : ℕ) → Fifteen a → Turning (set a 14 (bitXor (getD a 14 0) (getD a 0 0))) s at q v p k → 14 ≤ k → w ≡ wordsAt s at 14
     → Folded (λ (i : ℕ). getD a i 0) (λ (i : ℕ). getD (set a 14 (bitXor (getD a 14 0) (getD a 0 0))) i 0) (λ (i : ℕ). getD (set v 14 (bitXor (getD v 14 0) w)) i 0) (wordsAt s at)
-turning-end a s at q v p k w ha (f, h, before, behind, parity) g e =
+turning-end a s at q v p k w ha (f, h, done, left, parity) g e =
     let x : ℕ = bitXor (getD a 14 0) (getD a 0 0) in
     let y : ℕ = bitXor (getD v 14 0) w in
     record {
       fits = ha .1;
       same = λ i r. getD-set-other a 14 i x 0 (λ n. omega arith);
       last = getD-set-same a 14 x 0 (omega (arith, ha .0));
-      pairs = λ i r. getD-set-other v 14 i y 0 (λ n. omega arith) ∙ before i (omega arith);
-      end = getD-set-same v 14 y 0 (omega (arith, h .0)) ∙ ap₂ bitXor (behind 14 (omega arith)) e;
+      pairs = λ i r. getD-set-other v 14 i y 0 (λ n. omega arith) ∙ done i (omega arith);
+      end = getD-set-same v 14 y 0 (omega (arith, h .0)) ∙ ap₂ bitXor (left 14 (omega arith)) e;
     }
 
 -- and its parity
 pub gathered-next : (b s : List ℕ) (at q : ℕ) (v : List ℕ) (p k w : ℕ) → Turning b s at q v p k → 14 ≤ k → w ≡ wordsAt s at 14 → bitXor p w ≡ gathered q (wordsAt s at) 15
 unfolding gathered
-gathered-next b s at q v p k w (f, h, before, behind, parity) g e =
+gathered-next b s at q v p k w (f, h, done, left, parity) g e =
     let all : k ≡ 14 = omega arith in
     ap₂ bitXor (parity ∙ ap (gathered q (wordsAt s at)) all) e
 

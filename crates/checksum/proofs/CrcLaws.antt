@@ -44,7 +44,7 @@ unfolding feedback
 feedback-lt zero = lit< tt
 feedback-lt (suc b) = lit< tt
 
--- or more, where half of it has no more
+-- a wider number keeps the bits of its half
 pub shift-below : (k n : ℕ) → n / 2 < 2 ^ (16 + k) → shift n < 2 ^ (16 + k)
 unfolding shift
 shift-below k n h =

@@ -9,10 +9,10 @@ use lib.Bits.{bitXor, xor-comm, xor-zero-r, xor-self, xor-lt, xor-mod}
 use Rattle.checksum.specs.Crc.{feedback, shift, shifts}
 use Rattle.checksum.specs.Bits.{ones}
 use Rattle.checksum.specs.Fold.{raised, Alike, joined}
-use Rattle.checksum.proofs.XorLaws.{xor-odd, xor-assoc, xor-swap, xor-equal}
+use Rattle.checksum.proofs.XorLaws.{xor-odd, xor-assoc, xor-swap, xor-undo, xor-cancel, xor-equal}
 use Rattle.checksum.proofs.BitLaws.{ones-xor}
 use Rattle.checksum.proofs.CrcLaws.{shifts-linear, shifts-lt, shifts-injective, shifts-up}
-use Rattle.checksum.proofs.ModuloLaws.{xor-cancel, shifts-add, shifts-comm, shifts-split, shifts-below, raised-linear, raised-shifts, raised-lt, alike-shifts, alike-xor, beside, Factor, factor-1}
+use Rattle.checksum.proofs.ModuloLaws.{shifts-add, shifts-comm, shifts-split, shifts-below, shifts-word, raised-linear, raised-shifts, raised-lt, alike-shifts, alike-xor, alike-cancel, beside, beside-linear, beside-shifts, Factor, factor-1}
 
 -- ---- what the code does
 
@@ -32,31 +32,31 @@ fold k n = lowered k (bitXor n (carried (16 * k) k n))
 -- ---- x^16k = x^2k + x^k
 
 -- times x^2k + x^k
-unfoldable pub spread : ℕ → ℕ → ℕ
-spread k n = bitXor (shifts k n) (shifts (2 * k) n)
+spread : ℕ → ℕ → ℕ
+spread k n = shifts k (beside k n)
+
+spread-terms : (k n : ℕ) → spread k n ≡ bitXor (shifts k n) (shifts (2 * k) n)
+unfolding spread beside
+spread-terms k n =
+    let twice : k + k ≡ 2 * k = omega arith in
+    shifts-linear k (shifts k n) n
+    ∙ xor-comm (shifts k (shifts k n)) (shifts k n)
+    ∙ ap (bitXor (shifts k n)) (sym (shifts-add k k n) ∙ ap (λ (m : ℕ). shifts m n) twice)
 
 spread-linear : (k a b : ℕ) → spread k (bitXor a b) ≡ bitXor (spread k a) (spread k b)
 unfolding spread
-spread-linear k a b =
-    ap₂ bitXor (shifts-linear k a b) (shifts-linear (2 * k) a b) ∙ xor-swap (shifts k a) (shifts k b) (shifts (2 * k) a) (shifts (2 * k) b)
+spread-linear k a b = ap (shifts k) (beside-linear k a b) ∙ shifts-linear k (beside k a) (beside k b)
 
 spread-shifts : (j k n : ℕ) → shifts j (spread k n) ≡ spread k (shifts j n)
 unfolding spread
-spread-shifts j k n = shifts-linear j (shifts k n) (shifts (2 * k) n) ∙ ap₂ bitXor (shifts-comm j k n) (shifts-comm j (2 * k) n)
+spread-shifts j k n = shifts-comm j k (beside k n) ∙ ap (shifts k) (beside-shifts j k n)
 
 -- the factor, times x^k
 power : (k n : ℕ) → Factor k → n < 65536 → Alike (shifts (16 * k) n) (spread k n)
-unfolding spread beside
+unfolding spread
 power k n p h =
     let width : 15 * k + k ≡ 16 * k = omega arith in
-    let twice : k + k ≡ 2 * k = omega arith in
-    ap (λ (m : ℕ). raised (shifts m n)) (sym width)
-    ∙ ap raised (shifts-add (15 * k) k n)
-    ∙ alike-shifts k (shifts (15 * k) n) (beside k n) (p n h)
-    ∙ ap raised
-    (shifts-linear k (shifts k n) n
-    ∙ xor-comm (shifts k (shifts k n)) (shifts k n)
-    ∙ ap (bitXor (shifts k n)) (sym (shifts-add k k n) ∙ ap (λ (m : ℕ). shifts m n) twice))
+    ap (λ (m : ℕ). raised (shifts m n)) (sym width) ∙ ap raised (shifts-add (15 * k) k n) ∙ alike-shifts k (shifts (15 * k) n) (beside k n) (p n h)
 
 -- ---- bits that leave a word
 
@@ -101,16 +101,14 @@ lost-lt k n h = xor-lt 16 (shifts k (n % 2 ^ k)) (shifts (2 * k) (n % 2 ^ (2 * k
     small j g = shifts-lt j (n % 2 ^ j) (lt-of-lt-of-le (mod-lt n (pow-pos j)) (pow-mono g))
 
 quotient : (k n : ℕ) → n / 2 ^ k ≡ bitXor (shifts k n) (shifts k (n % 2 ^ k))
-quotient k n =
-    let high : ℕ = n / 2 ^ k in
-    let out : ℕ = shifts k (n % 2 ^ k) in
-    sym (ap (λ (m : ℕ). bitXor m out) (shifts-split k n) ∙ xor-assoc high out out ∙ ap (bitXor high) (xor-self out) ∙ xor-zero-r high)
+quotient k n = sym (ap (λ (m : ℕ). bitXor m (shifts k (n % 2 ^ k))) (shifts-split k n) ∙ xor-undo (n / 2 ^ k) (shifts k (n % 2 ^ k)))
 
 lowered-spread : (k n : ℕ) → lowered k n ≡ bitXor (spread k n) (lost k n)
-unfolding lowered spread lost
+unfolding lowered lost
 lowered-spread k n =
     ap₂ bitXor (quotient k n) (quotient (2 * k) n)
     ∙ xor-swap (shifts k n) (shifts k (n % 2 ^ k)) (shifts (2 * k) n) (shifts (2 * k) (n % 2 ^ (2 * k)))
+    ∙ ap (λ (m : ℕ). bitXor m (lost k n)) (sym (spread-terms k n))
 
 carried-shifts : (w k n : ℕ) → 4 * k ≤ w → shifts w (carried w k n) ≡ lost k n
 unfolding carried lost
@@ -137,11 +135,7 @@ lost-carried w k n m h = ap₂ (λ (a b : ℕ). bitXor (shifts k a) (shifts (2 *
 cancelled : (k : ℕ) → Factor k → (c m : ℕ) → c < 65536 → m < 65536
     → Alike (bitXor (spread k c) (bitXor (spread k m) (shifts (16 * k) m))) (shifts (16 * k) c)
 cancelled k p c m hc hm =
-    let s : ℕ = spread k m in
-    let none : raised (bitXor s (shifts (16 * k) m)) ≡ 0 = raised-linear s (shifts (16 * k) m) ∙ ap (bitXor (raised s)) (power k m p hm) ∙ xor-self (raised s) in
-    raised-linear (spread k c) (bitXor s (shifts (16 * k) m))
-    ∙ ap₂ bitXor (sym (power k c p hc)) none
-    ∙ xor-zero-r (raised (shifts (16 * k) c))
+    alike-cancel (spread k c) (shifts (16 * k) c) (spread k m) (shifts (16 * k) m) (sym (power k c p hc)) (sym (power k m p hm))
 
 pub fold-alike : (k : ℕ) → Factor k → 2 * k ≤ 16 → (n : ℕ) → n < 2 ^ (16 * k) → Alike (shifts (16 * k) (fold k n)) (shifts (16 * k) (shifts (16 * k) n))
 unfolding fold
@@ -158,16 +152,14 @@ fold-alike k p g n h =
     ∙ ap (λ (a : ℕ). bitXor a (shifts w m)) (shifts-linear w (spread k n) (spread k c))
     ∙ ap₂ (λ (a b : ℕ). bitXor (bitXor a b) (shifts w m)) (spread-shifts w k n) (spread-shifts w k c ∙ ap (spread k) (carried-shifts w k n wide))
     ∙ xor-assoc (spread k (shifts w n)) (spread k m) (shifts w m) in
-    let more : w ≤ 16 + w = omega arith in
-    ap raised shifted ∙ cancelled k p (shifts w n) m (shifts-below w n (lt-of-lt-of-le h (pow-mono more))) (lost-lt k n g)
+    ap raised shifted ∙ cancelled k p (shifts w n) m (shifts-word w n h) (lost-lt k n g)
 
 joined-below : (w l h : ℕ) → l < 2 ^ w → h < 2 ^ w → shifts w (joined w l h) < 65536
 unfolding joined
 joined-below w l h hl hh =
     let more : w ≤ 16 + w = omega arith in
     let wide : 16 ≤ 16 + w = omega arith in
-    let state : shifts w l < 65536 = shifts-below w l (lt-of-lt-of-le hl (pow-mono more)) in
-    shifts-below w (bitXor (shifts w l) h) (xor-lt (16 + w) (shifts w l) h (lt-of-lt-of-le state (pow-mono wide)) (lt-of-lt-of-le hh (pow-mono more)))
+    shifts-below w (bitXor (shifts w l) h) (xor-lt (16 + w) (shifts w l) h (lt-of-lt-of-le (shifts-word w l hl) (pow-mono wide)) (lt-of-lt-of-le hh (pow-mono more)))
 
 -- of two words, each of half as many bits: the second with what the first carries, and the first with what that carries
 pub pair-alike : (k : ℕ) → Factor k → 2 * k ≤ 16 → (l h b : ℕ) → l < 2 ^ (8 * k) → h < 2 ^ (8 * k) → b ≡ bitXor h (carried (8 * k) k l)

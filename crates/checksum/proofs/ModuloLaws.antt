@@ -1,22 +1,16 @@
 -- Shifts, and numbers modulo x^15 + x + 1: that it is a factor of the polynomial is computed once, and squared.
-use Prim.Native.Nat.{ℕ, zero, suc, _+_, _*_, _/_, _%_, _^_, _<_}
-use native.Mathlib.Nat.{zero-add, add-comm, suc-add, mod-lt}
+use Prim.Native.Nat.{ℕ, zero, suc, _+_, _*_, _/_, _%_, _^_, _<_, _≤_}
+use native.Mathlib.Nat.{zero-add, add-comm, suc-add, mod-lt, lt-of-lt-of-le}
 use native.Mathlib.Omega.{arith}
 use mathlib.Core.Path.{_≡_, refl, sym, ap, ap₂, _∙_, subst}
 use mathlib.Core.List.{List, [], _∷_}
 use lib.ListN.{getD, drop}
-use lib.Pow.{pow-pos, shr-lt, split}
+use lib.Pow.{pow-mono, pow-pos, shr-lt, split}
 use lib.Bits.{bitXor, xor-comm, xor-zero-r, xor-self, xor-lt, xor-shifted}
 use Rattle.checksum.specs.Crc.{shift, shifts}
 use Rattle.checksum.specs.Fold.{raised, Alike}
-use Rattle.checksum.proofs.XorLaws.{xor-swap}
+use Rattle.checksum.proofs.XorLaws.{xor-swap, xor-cancel}
 use Rattle.checksum.proofs.CrcLaws.{shift-below, shift-lt, shift-linear, shifts-linear, shifts-up}
-
--- ---- exclusive or
-
--- a term that stands on both sides
-pub xor-cancel : (a b c : ℕ) → bitXor (bitXor a c) (bitXor b c) ≡ bitXor a b
-xor-cancel a b c = xor-swap a c b c ∙ ap (bitXor (bitXor a b)) (xor-self c) ∙ xor-zero-r (bitXor a b)
 
 -- ---- shifts
 
@@ -42,6 +36,11 @@ unfolding shifts
 shifts-below zero n h = h
 shifts-below (suc k) n h = shifts-below k (shift n) (shift-below k n (shr-lt (16 + k) 1 (subst (λ (m : ℕ). n < 2 ^ m) (omega arith) h)))
 
+pub shifts-word : (w n : ℕ) → n < 2 ^ w → shifts w n < 65536
+shifts-word w n h =
+    let more : w ≤ 16 + w = omega arith in
+    shifts-below w n (lt-of-lt-of-le h (pow-mono more))
+
 -- ---- modulo x^15 + x + 1
 
 pub raised-linear : (a b : ℕ) → raised (bitXor a b) ≡ bitXor (raised a) (raised b)
@@ -62,6 +61,12 @@ alike-shifts k m n e = raised-shifts k m ∙ ap (shifts k) e ∙ sym (raised-shi
 pub alike-xor : (a b c d : ℕ) → Alike a b → Alike c d → Alike (bitXor a c) (bitXor b d)
 alike-xor a b c d e f = raised-linear a c ∙ ap₂ bitXor e f ∙ sym (raised-linear b d)
 
+-- numbers that are alike cancel each other
+pub alike-cancel : (a b c d : ℕ) → Alike a b → Alike c d → Alike (bitXor a (bitXor c d)) b
+alike-cancel a b c d e f =
+    let none : raised (bitXor c d) ≡ 0 = raised-linear c d ∙ ap (bitXor (raised c)) (sym f) ∙ xor-self (raised c) in
+    raised-linear a (bitXor c d) ∙ ap₂ bitXor e none ∙ xor-zero-r (raised b)
+
 -- ---- linear functions
 
 abbrev pub Linear : (ℕ → ℕ) → Type 0
@@ -72,13 +77,11 @@ unfoldable pub atPowers : (ℕ → ℕ) → ℕ → List ℕ
 atPowers f zero = []
 atPowers f (suc k) = f (2 ^ k) ∷ atPowers f k
 
-linear-zero : (f : ℕ → ℕ) → Linear f → f 0 ≡ 0
-linear-zero f p = p 0 0 ∙ xor-self (f 0)
+at-zero : (f g : ℕ → ℕ) → Linear f → Linear g → (n : ℕ) → n ≡ 0 → f n ≡ g n
+at-zero f g p q n e = ap f e ∙ p 0 0 ∙ xor-self (f 0) ∙ sym (q 0 0 ∙ xor-self (g 0)) ∙ ap g (sym e)
 
 top-bit : (f g : ℕ → ℕ) → Linear f → Linear g → (b m : ℕ) → b < 2 → f m ≡ g m → f (b * m) ≡ g (b * m)
-top-bit f g p q zero m h e =
-    let none : 0 * m ≡ 0 = omega arith in
-    ap f none ∙ linear-zero f p ∙ sym (linear-zero g q) ∙ ap g (sym none)
+top-bit f g p q zero m h e = at-zero f g p q (0 * m) (omega arith)
 top-bit f g p q (suc zero) m h e =
     let one : 1 * m ≡ m = omega arith in
     ap f one ∙ e ∙ ap g (sym one)
@@ -87,9 +90,7 @@ top-bit f g p q (suc (suc b)) m h e = absurd (omega arith)
 -- those that agree on the powers of two agree
 pub by-powers : (f g : ℕ → ℕ) → Linear f → Linear g → (k : ℕ) → atPowers f k ≡ atPowers g k → (n : ℕ) → n < 2 ^ k → f n ≡ g n
 unfolding atPowers
-by-powers f g p q zero e n h =
-    let none : n ≡ 0 = omega arith in
-    ap f none ∙ linear-zero f p ∙ sym (linear-zero g q) ∙ ap g (sym none)
+by-powers f g p q zero e n h = at-zero f g p q n (omega arith)
 by-powers f g p q (suc k) e n h =
     let b : ℕ = n / 2 ^ k in
     let low : ℕ = n % 2 ^ k in

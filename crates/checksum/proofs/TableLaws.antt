@@ -5,10 +5,10 @@ use native.Mathlib.Omega.{arith}
 use mathlib.Core.Path.{_≡_, refl, sym, ap, _∙_}
 use mathlib.Core.List.{List, [], _∷_}
 use lib.ListN.{length, getD}
-use lib.Bits.{bitXor, xor-comm}
+use lib.Bits.{bitXor}
 use Rattle.checksum.specs.Crc.{shifts, absorb, crc}
 use Rattle.checksum.specs.Table.{CrcTable}
-use Rattle.checksum.proofs.XorLaws.{xor-assoc}
+use Rattle.checksum.proofs.XorLaws.{xor-right}
 use Rattle.checksum.proofs.ModuloLaws.{shifts-split}
 
 -- ---- the rule
@@ -49,5 +49,4 @@ unfolding absorb
 shifted-next t r c b =
     let h : ℕ = c / 256 in
     let e : ℕ = getD t (c % 256) 0 in
-    let late : bitXor (bitXor h b) e ≡ bitXor (bitXor h e) b = xor-assoc h b e ∙ ap (bitXor h) (xor-comm b e) ∙ sym (xor-assoc h e b) in
-    ap (shifts 8) (late ∙ ap (λ (n : ℕ). bitXor n b) (shifted t r c))
+    ap (shifts 8) (xor-right h b e ∙ ap (λ (n : ℕ). bitXor n b) (shifted t r c))

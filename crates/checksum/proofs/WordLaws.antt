@@ -18,7 +18,7 @@ use Rattle.checksum.specs.Fold.{raised, Alike, joined, Reached}
 use Rattle.checksum.proofs.XorLaws.{xor-assoc, xor-swap}
 use Rattle.checksum.proofs.CrcLaws.{crcFrom-at, crcFrom-end, shifts-linear, shifts-up}
 use Rattle.checksum.proofs.BitLaws.{ones-zero, ones-more, ones-xor, shifts-parity}
-use Rattle.checksum.proofs.ModuloLaws.{shifts-add, shifts-below, alike-shifts, alike-xor}
+use Rattle.checksum.proofs.ModuloLaws.{shifts-add, shifts-word, alike-shifts, alike-xor}
 use Rattle.checksum.proofs.FoldLaws.{upper, halved, alike-equal}
 
 -- ---- little-endian numbers
@@ -98,16 +98,17 @@ crcFrom-bytes (suc w) c s at h f =
 
 -- ---- a word
 
--- a state and the word put into it are below 2 ^ 64
-state-word : (c w : ℕ) → c < 65536 → w < 2 ^ 64 → bitXor c w < 2 ^ 64
-state-word c w h k =
+pub state-fits : {n : ℕ} → n < 65536 → n < 2 ^ 64
+state-fits h =
     let wide : 65536 ≤ 2 ^ 64 = lit≤ tt in
-    xor-lt 64 c w (lt-of-lt-of-le h wide) k
+    lt-of-lt-of-le h wide
+
+-- a state and the word put into it
+state-word : (c w : ℕ) → c < 65536 → w < 2 ^ 64 → bitXor c w < 2 ^ 64
+state-word c w h k = xor-lt 64 c w (state-fits h) k
 
 word-lt : (c w : ℕ) → c < 65536 → w < 2 ^ 64 → shifts 64 (bitXor c w) < 65536
-word-lt c w h k =
-    let wide : 2 ^ 64 ≤ 2 ^ (16 + 64) = lit≤ tt in
-    shifts-below 64 (bitXor c w) (lt-of-lt-of-le (state-word c w h k) wide)
+word-lt c w h k = shifts-word 64 (bitXor c w) (state-word c w h k)
 
 word-parity : (c w : ℕ) → c < 65536 → w < 2 ^ 64 → ones 16 (shifts 64 (bitXor c w)) % 2 ≡ (ones 16 c + ones 64 w) % 2
 word-parity c w h k =
@@ -130,12 +131,11 @@ odd-bytes s q x h f g k e =
     ∙ ap₂ shifts (sym width) (sym (e ∙ upper-bytes s q h f)) in
     let rest : crcFrom 0 s ≡ crcFrom (shifts 64 x) (drop q s) =
     crcFrom-bytes q 0 s 0 h (omega arith) ∙ ap₂ (λ (c n : ℕ). crcFrom c (drop n s)) same (zero-add q) in
-    let small : shifts 64 x < 65536 = subst (λ (n : ℕ). shifts 64 n < 65536) (xor-zero-l x) (word-lt 0 x (lit< tt) k) in
     let parity : ones 16 (shifts 64 x) % 2 ≡ ones 64 x % 2 =
     ap (λ (n : ℕ). ones 16 (shifts 64 n) % 2) (sym (xor-zero-l x)) ∙ word-parity 0 x (lit< tt) k ∙ omega (arith, ones-zero 16) in
-    (shifts 64 x, small, refl, parity, sym rest)
+    (shifts 64 x, shifts-word 64 x k, refl, parity, sym rest)
 
--- in other words
+-- another number that holds the same
 pub otherwise : (s : List ℕ) (at v u p : ℕ) → Alike (shifts 64 v) (shifts 64 u) → Reached s at v p → Reached s at u p
 unfolding Reached
 otherwise s at v u p e (c, below, alike, parity, rest) = (c, below, alike ∙ e, parity, rest)
@@ -225,7 +225,6 @@ counted (suc k) n h = ones-step n ∙ ap (λ (m : ℕ). n % 2 + m) (counted k (n
 
 pub parity-counted : (p r : ℕ) → p < 2 ^ 64 → r < 65536 → (ones 64 p + ones 16 r) % 2 ≡ count (bitXor p r) % 2
 parity-counted p r h k =
-    let wide : 65536 ≤ 2 ^ 64 = lit≤ tt in
     ap (λ (n : ℕ). (ones 64 p + n) % 2) (sym (ones-more 16 48 r k))
     ∙ sym (ones-xor 64 p r)
-    ∙ ap (λ (n : ℕ). n % 2) (sym (counted 64 (bitXor p r) (xor-lt 64 p r h (lt-of-lt-of-le k wide))))
+    ∙ ap (λ (n : ℕ). n % 2) (sym (counted 64 (bitXor p r) (xor-lt 64 p r h (state-fits k))))

@@ -1,7 +1,7 @@
 -- The exclusive or of numbers, as a group.
 use Prim.Native.Nat.{ℕ, _+_, _/_, _%_}
 use native.Mathlib.Omega.{arith}
-use mathlib.Core.Path.{_≡_, refl, sym, _∙_}
+use mathlib.Core.Path.{_≡_, refl, sym, ap, _∙_}
 use mathlib.Core.List.{List, [], _∷_}
 use lib.Arith.{bin-ind}
 use lib.Bits.{bitXor, xor-comm, xor-zero-r, xor-self, xor-shr, xor-add-and}
@@ -24,6 +24,18 @@ xor-assoc = bin-ind (λ (a : ℕ). (b c : ℕ) → bitXor (bitXor a b) c ≡ bit
 
 pub xor-swap : (a b c d : ℕ) → bitXor (bitXor a b) (bitXor c d) ≡ bitXor (bitXor a c) (bitXor b d)
 xor-swap a b c d = cc (xor-assoc a b (bitXor c d), xor-assoc b c d, xor-comm b c, xor-assoc c b d, xor-assoc a c (bitXor b d))
+
+-- the last two the other way round
+pub xor-right : (a b c : ℕ) → bitXor (bitXor a b) c ≡ bitXor (bitXor a c) b
+xor-right a b c = xor-assoc a b c ∙ ap (bitXor a) (xor-comm b c) ∙ sym (xor-assoc a c b)
+
+-- a term that is put in twice
+pub xor-undo : (a b : ℕ) → bitXor (bitXor a b) b ≡ a
+xor-undo a b = xor-assoc a b b ∙ ap (bitXor a) (xor-self b) ∙ xor-zero-r a
+
+-- a term that stands on both sides
+pub xor-cancel : (a b c : ℕ) → bitXor (bitXor a c) (bitXor b c) ≡ bitXor a b
+xor-cancel a b c = xor-swap a c b c ∙ ap (bitXor (bitXor a b)) (xor-self c) ∙ xor-zero-r (bitXor a b)
 
 -- numbers that do not differ are equal
 pub xor-equal : (a b : ℕ) → bitXor a b ≡ 0 → a ≡ b
