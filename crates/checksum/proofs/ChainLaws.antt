@@ -11,12 +11,13 @@ use lib.Dec.{lit<, lit≤}
 use lib.Seq.{getD-set-same, getD-set-other}
 use lib.Bits.{bitXor, xor-comm, xor-zero-l, xor-zero-r, xor-lt}
 use Rattle.wire.specs.Numbers.{Bytes, littleAt}
+use Rattle.wire.proofs.Widths.{little-lt}
 use Rattle.checksum.specs.Crc.{shifts}
 use Rattle.checksum.specs.Fold.{raised, Alike, joined, chain, Fifteen, held, Reached}
 use Rattle.checksum.proofs.XorLaws.{xor-assoc, xor-swap, xor-right, xor-undo}
 use Rattle.checksum.proofs.CrcLaws.{shifts-linear}
 use Rattle.checksum.proofs.ModuloLaws.{shifts-add, shifts-comm, shifts-word, alike-xor, alike-cancel, beside, beside-linear, beside-shifts, factor-64}
-use Rattle.checksum.proofs.WordLaws.{little-lt, state-fits, otherwise, behind, next-word, two-words}
+use Rattle.checksum.proofs.WordLaws.{state-fits, otherwise, behind, next-word, two-words}
 
 -- ---- words in a row
 

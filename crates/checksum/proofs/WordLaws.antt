@@ -1,17 +1,17 @@
--- The CRC by words: little-endian numbers, the words of a list from its first bytes on, and the 16 bits at the end.
+-- The CRC by words: the bytes that do not fill a word, the words of a list from its first bytes on, and the 16 bits at the end.
 use Prim.Native.Nat.{ℕ, zero, suc, _+_, _-_, _*_, _/_, _%_, _^_, _<_, _≤_}
-use native.Mathlib.Nat.{zero-add, add-zero, add-comm, suc-add, mul-one, mul-assoc, lt-of-lt-of-le}
+use native.Mathlib.Nat.{zero-add, add-zero, add-comm, mul-assoc, lt-of-lt-of-le}
 use native.Mathlib.Omega.{arith}
 use mathlib.Core.Path.{_≡_, refl, sym, ap, ap₂, _∙_, subst}
 use mathlib.Core.List.{List}
 use lib.ListN.{length, getD, drop}
 use lib.Dec.{lit<, lit≤}
-use lib.Arith.{digits-lt}
 use lib.Count.{ones as count, ones-step}
-use lib.Pow.{pow-add, mod-mod-pow, low, shl-exact, shr-lt}
-use lib.Bits.{bitXor, bitOr, or-shifted-r, xor-comm, xor-zero-l, xor-zero-r, xor-lt, xor-shifted}
+use lib.Pow.{pow-add, mod-mod-pow, low, shr-lt}
+use lib.Bits.{bitXor, xor-comm, xor-zero-l, xor-zero-r, xor-lt, xor-shifted}
 use Rattle.wire.specs.Numbers.{Bytes, littleAt}
 use Rattle.wire.proofs.Widths.{bytes-getD}
+use Rattle.wire.proofs.Shifts.{little-bits, little-add}
 use Rattle.checksum.specs.Crc.{shifts, absorb, crcFrom, crc}
 use Rattle.checksum.specs.Bits.{ones}
 use Rattle.checksum.specs.Fold.{raised, Alike, joined, Reached}
@@ -21,44 +21,11 @@ use Rattle.checksum.proofs.BitLaws.{ones-zero, ones-more, ones-xor, shi
 use Rattle.checksum.proofs.ModuloLaws.{shifts-add, shifts-word, alike-shifts, alike-xor}
 use Rattle.checksum.proofs.FoldLaws.{upper, halved, alike-equal}
 
--- ---- little-endian numbers
-
-pub little-lt : (s : List ℕ) (at w : ℕ) → Bytes s → littleAt s at w < 2 ^ (8 * w)
-unfolding littleAt
-little-lt s at zero h = lit< tt
-little-lt s at (suc w) h =
-    let width : 8 * w + 8 ≡ 8 * suc w = omega arith in
-    let below : littleAt s (at + 1) w * 256 + getD s at 0 < 2 ^ (8 * w) * 256 = digits-lt (little-lt s (at + 1) w h) (bytes-getD s at h) in
-    subst (λ (n : ℕ). littleAt s at (suc w) < n) (sym (pow-add 2 (8 * w) 8) ∙ ap (λ (k : ℕ). 2 ^ k) width) (omega (arith, below))
-
-little-add : (s : List ℕ) (at v w : ℕ) → littleAt s at (v + w) ≡ littleAt s (at + v) w * 2 ^ (8 * v) + littleAt s at v
-unfolding littleAt
-little-add s at zero w =
-    ap₂ (littleAt s) (sym (add-zero at)) (zero-add w) ∙ sym (add-zero (littleAt s (at + 0) w * 1) ∙ mul-one (littleAt s (at + 0) w))
-little-add s at (suc v) w =
-    let high : ℕ = littleAt s (at + suc v) w in
-    let place : at + 1 + v ≡ at + suc v = omega arith in
-    let width : 8 * v + 8 ≡ 8 * suc v = omega arith in
-    let power : high * 2 ^ (8 * v) * 256 ≡ high * 2 ^ (8 * suc v) = mul-assoc high (2 ^ (8 * v)) 256 ∙ ap (λ (n : ℕ). high * n) (sym (pow-add 2 (8 * v) 8) ∙ ap (λ (k : ℕ). 2 ^ k) width) in
-    let rest : littleAt s (at + 1) (v + w) ≡ high * 2 ^ (8 * v) + littleAt s (at + 1) v =
-    little-add s (at + 1) v w ∙ ap (λ (n : ℕ). littleAt s n w * 2 ^ (8 * v) + littleAt s (at + 1) v) place in
-    ap (littleAt s at) (suc-add v w) ∙ omega (arith, rest, power)
-
-pub little-one : (s : List ℕ) (at : ℕ) → littleAt s at 1 ≡ getD s at 0
-unfolding littleAt
-little-one s at = add-zero (getD s at 0)
-
--- the shift and the or of the machine, in `b` bits
-pub little-or : (s : List ℕ) (at v w b : ℕ) → Bytes s → 8 * v + 8 * w ≤ b
-    → bitOr (littleAt s at v) (littleAt s (at + v) w * 2 ^ (8 * v) % 2 ^ b) ≡ littleAt s at (v + w)
-little-or s at v w b h f =
-    ap (bitOr (littleAt s at v)) (shl-exact (8 * w) (8 * v) b (little-lt s (at + v) w h) (omega arith))
-    ∙ or-shifted-r (littleAt s (at + v) w) (8 * v) (littleAt s at v) (little-lt s at v h)
-    ∙ sym (little-add s at v w)
+-- ---- the bytes that do not fill a word
 
 -- the first bytes of a word
 little-mod : (s : List ℕ) (at v w : ℕ) → Bytes s → littleAt s at (v + w) % 2 ^ (8 * v) ≡ littleAt s at v
-little-mod s at v w h = ap (λ (n : ℕ). n % 2 ^ (8 * v)) (little-add s at v w) ∙ low (littleAt s (at + v) w) (8 * v) (little-lt s at v h)
+little-mod s at v w h = ap (λ (n : ℕ). n % 2 ^ (8 * v)) (little-add s at v w) ∙ low (littleAt s (at + v) w) (8 * v) (little-bits s at v h)
 
 -- the first bytes of eight, moved to the upper end: by a shift that keeps a byte too many, and one that drops it
 upper-bytes : (s : List ℕ) (q : ℕ) → Bytes s → q ≤ 7 → littleAt s 0 8 * 2 ^ (56 - 8 * q) % 2 ^ 64 * 2 ^ 8 % 2 ^ 64 ≡ littleAt s 0 q * 2 ^ (64 - 8 * q)

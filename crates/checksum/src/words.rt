@@ -3,33 +3,9 @@
 ghost use mathlib.Core.Path.{_≡_};
 ghost use Prim.Native.Nat.{_+_, _%_, _≤_};
 ghost use lib.ListN.{length};
-ghost use Rattle.wire.specs.Numbers.{littleAt};
 ghost use Rattle.checksum.specs.Crc.{shifts, crc};
 ghost use Rattle.checksum.specs.Bits.{ones};
 ghost use Rattle.checksum.specs.Fold.{Alike, joined, Fifteen, held, Reached, Ready};
-
-// ---- reading, the lowest byte first
-
-fn little(s: &[u8], at: usize, w: usize) -> u64
-    requires { ⌜ (at + w ≤ length (now s)) × (w ≤ 8) ⌝ }
-    ensures { λ r. ⌜ r ≡ littleAt (now (s .entry)) at w ⌝ }
-{
-    let mut n: u64 = 0;
-    let mut i: usize = w;
-    while i > 0 {
-        i -= 1;
-        n = (s[at + i] as u64) | (n << 8);
-    }
-    n
-}
-
-// By two halves it compiles to one load.
-fn word(s: &[u8], at: usize) -> u64
-    requires { ⌜ at + 8 ≤ length (now s) ⌝ }
-    ensures { λ r. ⌜ r ≡ littleAt (now (s .entry)) at 8 ⌝ }
-{
-    little(s, at, 4) | (little(s, at + 4, 4) << 32)
-}
 
 // ---- folding: times x^128, x^64, x^32, x^16
 
@@ -107,13 +83,13 @@ fn to_the_end(s: &[u8], from: Lanes) -> u16
     let mut parity = from.parity;
     if (s.len() - at) % 16 >= 8 {
         low = fold64(low) ^ high;
-        high = word(s, at);
+        high = wire::le64(s, at);
         parity = parity ^ high;
         at += 8;
     }
     while at < s.len() {
-        let first = word(s, at);
-        let second = word(s, at + 8);
+        let first = wire::le64(s, at);
+        let second = wire::le64(s, at + 8);
         let p = fold128(low, high);
         low = p.low ^ first;
         high = p.high ^ second;
@@ -134,12 +110,12 @@ fn fold960(v: &mut [u64; 15], s: &[u8], at: usize, parity: u64) -> u64
     let mut p = parity;
     let mut k: usize = 0;
     while k < 14 {
-        let w = word(s, at + 8 * k);
+        let w = wire::le64(s, at + 8 * k);
         v[k] = (v[k] ^ v[k + 1]) ^ w;
         p = p ^ w;
         k += 1;
     }
-    let w = word(s, at + 112);
+    let w = wire::le64(s, at + 112);
     v[14] = v[14] ^ w;
     p ^ w
 }
@@ -193,7 +169,7 @@ fn odd_bytes(s: &[u8]) -> u64
     ensures { λ r. ⌜ Ready (now (s .entry)) (length (now (s .entry)) % 8) r r ⌝ }
 {
     let few = s.len() % 8;
-    (word(s, 0) << (56 - 8 * few)) << 8
+    (wire::le64(s, 0) << (56 - 8 * few)) << 8
 }
 
 // From two steps of fifteen words on they pay (docs/PERFORMANCE.md).

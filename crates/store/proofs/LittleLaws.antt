@@ -1,6 +1,6 @@
 -- Little-endian numbers, byte by byte.
 use Prim.Native.Nat.{ℕ, zero, suc, _+_, _-_, _*_, _≤_, _<_, _^_}
-use native.Mathlib.Nat.{pow-suc, lt-of-lt-of-le, pow-le-pow-right}
+use native.Mathlib.Nat.{lt-of-lt-of-le, pow-le-pow-right}
 use native.Mathlib.Omega.{arith}
 use mathlib.Core.Path.{_≡_, refl, ap, ap₂, _∙_}
 use mathlib.Core.List.{List}
@@ -8,18 +8,13 @@ use lib.ListN.{drop, getD}
 use lib.Dec.{lit<}
 use lib.Seq.{getD-drop}
 use Rattle.wire.specs.Numbers.{Bytes, littleAt}
-use Rattle.wire.proofs.Widths.{bytes-getD}
+use Rattle.wire.proofs.Widths.{little-lt}
 
 pub little-drop : (f : List ℕ) (at k w : ℕ) → littleAt (drop at f) k w ≡ littleAt f (at + k) w
 unfolding littleAt
 little-drop f at k zero = refl
 little-drop f at k (suc w) =
     ap₂ (λ (a b : ℕ). a + 256 * b) (getD-drop at f k 0) (little-drop f at (k + 1) w ∙ ap (λ (j : ℕ). littleAt f j w) (omega arith))
-
-pub little-lt : (f : List ℕ) (at w : ℕ) → Bytes f → littleAt f at w < 256 ^ w
-unfolding littleAt
-little-lt f at zero h = lit< tt
-little-lt f at (suc w) h = omega (arith, pow-suc 256 w, little-lt f (at + 1) w h, bytes-getD f at h)
 
 -- one byte more, in front
 pub little-more : (f : List ℕ) (at w i : ℕ) → 0 < i → i ≤ w

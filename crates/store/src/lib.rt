@@ -103,22 +103,7 @@ pub fn byte_or_zero(f: &[u8], at: usize) -> u8
     0
 }
 
-// The little-endian number of `w` bytes where they are all there.
-fn whole_little(f: &[u8], at: usize, w: usize) -> u64
-    requires { ⌜ (at + w ≤ length (now f)) × (w ≤ 8) ⌝ }
-    ensures { λ r. ⌜ r ≡ littleAt (now (f .entry)) at w ⌝ }
-{
-    let mut n: u64 = 0;
-    let mut i = w;
-    while 0 < i {
-        i -= 1;
-        let b = f[at + i];
-        n = n * 256 + (b as u64);
-    }
-    n
-}
-
-// The same where some are not there.
+// The little-endian number of `w` bytes where some are not there.
 fn cut_little(f: &[u8], at: usize, w: usize) -> u64
     requires { ⌜ (at + w < 2 ^ 64) × (w ≤ 8) ⌝ }
     ensures { λ r. ⌜ r ≡ littleAt (now (f .entry)) at w ⌝ }
@@ -138,7 +123,7 @@ pub fn little(f: &[u8], at: usize, w: usize) -> u64
     ensures { λ r. ⌜ r ≡ littleAt (now (f .entry)) at w ⌝ }
 {
     if at + w <= f.len() {
-        return whole_little(f, at, w);
+        return wire::little(f, at, w);
     }
     cut_little(f, at, w)
 }

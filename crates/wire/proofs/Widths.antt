@@ -144,6 +144,11 @@ be-number (suc w) s at h f =
 
 -- ---- little-endian
 
+pub little-lt : (s : List ℕ) (at w : ℕ) → Bytes s → littleAt s at w < 256 ^ w
+unfolding littleAt
+little-lt s at zero h = lit< tt
+little-lt s at (suc w) h = omega (arith, pow-suc 256 w, little-lt s (at + 1) w h, bytes-getD s at h)
+
 pub little-le : (w n : ℕ) (s : List ℕ) (at : ℕ) (rest : List ℕ) → n < 256 ^ w → drop at s ≡ le w n ++ rest → littleAt s at w ≡ n
 unfolding littleAt le
 little-le zero n s at rest h e = sym (lt-one h)

@@ -1,9 +1,9 @@
-// Numbers in bytes: big-endian at a width, and the two's complement.
+// Numbers in bytes: big- and little-endian at a width, and the two's complement.
 ghost use mathlib.Core.Path.{_≡_};
 ghost use Prim.Native.Nat.{_+_, _≤_, _<_};
 ghost use lib.ListN.{length};
 ghost use lib.Seq.{sets};
-ghost use Rattle.wire.specs.Numbers.{numberAt, signed, valueFrom, be, le};
+ghost use Rattle.wire.specs.Numbers.{numberAt, littleAt, signed, valueFrom, be, le};
 ghost use Rattle.wire.specs.Reading.{numbered, _>>=_ as bind, pure, repeat};
 ghost use Rattle.wire.specs.Imei.{imeiOf, textDigit, readImei, pairUpTo, readPacked};
 
@@ -110,6 +110,27 @@ pub fn be64(s: &[u8], at: usize) -> u64
     ensures { λ r. ⌜ r ≡ numberAt (now (s .entry)) at 8 ⌝ }
 {
     (number(s, at, 4) << 32) | number(s, at + 4, 4)
+}
+
+// The same for little-endian numbers.
+pub fn little(s: &[u8], at: usize, w: usize) -> u64
+    requires { ⌜ (at + w ≤ length (now s)) × (w ≤ 8) ⌝ }
+    ensures { λ r. ⌜ r ≡ littleAt (now (s .entry)) at w ⌝ }
+{
+    let mut n: u64 = 0;
+    let mut i: usize = w;
+    while i > 0 {
+        i -= 1;
+        n = (s[at + i] as u64) | (n << 8);
+    }
+    n
+}
+
+pub fn le64(s: &[u8], at: usize) -> u64
+    requires { ⌜ at + 8 ≤ length (now s) ⌝ }
+    ensures { λ r. ⌜ r ≡ littleAt (now (s .entry)) at 8 ⌝ }
+{
+    little(s, at, 4) | (little(s, at + 4, 4) << 32)
 }
 
 // A negative number by its distance from -1, so that each cast keeps the value.

@@ -1,7 +1,6 @@
 use native.Mathlib.Omega.{arith}
 use borrow.Author.Needs.{needs}
-use Rattle.wire.proofs.Widths.{getD-bytes}
-use Rattle.store.proofs.LittleLaws.{little-lt}
+use Rattle.wire.proofs.Widths.{getD-bytes, little-lt}
 use Rattle.store.proofs.next_at.Statement.{statement}
 use Rattle.store.proofs.next_at.Tie as tie
 

@@ -32,14 +32,14 @@ loop-holds c =
     turning-start (set a 14 (bitXor (getD a 14 0) (getD a 0 0))) (args .s .now) (args .at) (args .parity)
     (set-fifteen a 14 (bitXor (getD a 14 0) (getD a 0 0)) fifteen (xor-lt 64 (getD a 14 0) (getD a 0 0) (fifteen .1 14) (fifteen .1 0)))
 
-mul-word : tie.Need-mul-word Inv-loop μ-loop
-mul-word c = search needs
+mul-le64 : tie.Need-mul-le64 Inv-loop μ-loop
+mul-le64 c = search needs
 
-add-word : tie.Need-add-word Inv-loop μ-loop
-add-word c = search needs
+add-le64 : tie.Need-add-le64 Inv-loop μ-loop
+add-le64 c = search needs
 
-word-requires : tie.Need-word-requires Inv-loop μ-loop
-word-requires c κs = search needs
+le64-requires : tie.Need-le64-requires Inv-loop μ-loop
+le64-requires c κs = search needs
 
 mul-v : tie.Need-mul-v Inv-loop μ-loop
 mul-v c = search needs
@@ -73,14 +73,14 @@ loop-again c =
     let args = c .before .before .before .before .before .before .before .before .args in
     let a = args .v .now in
     let loop = c .before .before .before .before .loop in
-    let w = c .before .before .word in
+    let w = c .before .before .le64 in
     turning-next (set a 14 (bitXor (getD a 14 0) (getD a 0 0))) (args .s .now) (args .at) (args .parity) (loop .v) (loop .p) (loop .k) (w .result) (loop .inv) (c .before .before .before .loop-test .taken) (w .ok) (w .ensures)
 
-add-word-2 : tie.Need-add-word-2 Inv-loop μ-loop
-add-word-2 c = search needs
+add-le64-2 : tie.Need-add-le64-2 Inv-loop μ-loop
+add-le64-2 c = search needs
 
-word-requires-2 : tie.Need-word-requires-2 Inv-loop μ-loop
-word-requires-2 c κs = search needs
+le64-requires-2 : tie.Need-le64-requires-2 Inv-loop μ-loop
+le64-requires-2 c κs = search needs
 
 element-copy-out-v-5 : tie.Need-element-copy-out-v-5 Inv-loop μ-loop
 element-copy-out-v-5 c = search needs
@@ -94,7 +94,7 @@ returns c =
     let a = args .v .now in
     let b = set a 14 (bitXor (getD a 14 0) (getD a 0 0)) in
     let loop = c .before .before .before .loop in
-    let w = c .before .word2 in
+    let w = c .before .le642 in
     let y = bitXor (getD (loop .v) 14 0) (w .result) in
     let fifteen = c .before .before .before .before .before .before .before .pre .1 in
     let rest = loop .inv .1 in (
@@ -115,9 +115,9 @@ fold960-spec =
     element-copy-out-v-2
     element-write-v
     loop-holds
-    mul-word
-    add-word
-    word-requires
+    mul-le64
+    add-le64
+    le64-requires
     mul-v
     element-copy-out-v-3
     add-v
@@ -128,8 +128,8 @@ fold960-spec =
     add-k
     loop-less
     loop-again
-    add-word-2
-    word-requires-2
+    add-le64-2
+    le64-requires-2
     element-copy-out-v-5
     element-write-v-3
     returns)

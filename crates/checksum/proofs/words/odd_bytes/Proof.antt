@@ -10,8 +10,8 @@ use Rattle.checksum.proofs.WordLaws.{odd-bytes}
 use Rattle.checksum.proofs.words.odd_bytes.Statement.{statement}
 use Rattle.checksum.proofs.words.odd_bytes.Tie as tie
 
-word-requires : tie.Need-word-requires
-word-requires c κs = search needs
+le64-requires : tie.Need-le64-requires
+le64-requires c κs = search needs
 
 mul-result : tie.Need-mul-result
 mul-result c = search needs
@@ -29,9 +29,9 @@ returns c =
     let moved : ℕ → ℕ = λ (n : ℕ). n * 2 ^ (56 - 8 * q) % 2 ^ 64 * 2 ^ 8 % 2 ^ 64 in (
       omega arith,
       omega arith,
-      odd-bytes s q (moved (c .word .result)) (getD-bytes s (λ i. c .before .shared-slice-known .given i .fits)) (omega arith) (omega arith)
-          (mod-lt (c .word .result * 2 ^ (56 - 8 * q) % 2 ^ 64 * 2 ^ 8) (pow-pos 64)) (ap moved (c .word .ensures)),
+      odd-bytes s q (moved (c .le64 .result)) (getD-bytes s (λ i. c .before .shared-slice-known .given i .fits)) (omega arith) (omega arith)
+          (mod-lt (c .le64 .result * 2 ^ (56 - 8 * q) % 2 ^ 64 * 2 ^ 8) (pow-pos 64)) (ap moved (c .le64 .ensures)),
     )
 
 pub odd-bytes-spec : {M : Type 1} → statement M
-odd-bytes-spec = tie.close (tie.spec word-requires mul-result sub-result shl-result returns)
+odd-bytes-spec = tie.close (tie.spec le64-requires mul-result sub-result shl-result returns)

@@ -24,8 +24,8 @@ sub-if1 c = search needs
 fold64-requires : tie.Need-fold64-requires Inv-loop μ-loop
 fold64-requires c κs = search needs
 
-word-requires : tie.Need-word-requires Inv-loop μ-loop
-word-requires c κs = search needs
+le64-requires : tie.Need-le64-requires Inv-loop μ-loop
+le64-requires c κs = search needs
 
 add-at : tie.Need-add-at Inv-loop μ-loop
 add-at c = search needs
@@ -50,14 +50,14 @@ loop-holds c =
     ))
     (now .came)
 
-word-requires-2 : tie.Need-word-requires-2 Inv-loop μ-loop
-word-requires-2 c κs = search needs
+le64-requires-2 : tie.Need-le64-requires-2 Inv-loop μ-loop
+le64-requires-2 c κs = search needs
 
-add-word : tie.Need-add-word Inv-loop μ-loop
-add-word c = search needs
+add-le64 : tie.Need-add-le64 Inv-loop μ-loop
+add-le64 c = search needs
 
-word-requires-3 : tie.Need-word-requires-3 Inv-loop μ-loop
-word-requires-3 c κs = search needs
+le64-requires-3 : tie.Need-le64-requires-3 Inv-loop μ-loop
+le64-requires-3 c κs = search needs
 
 fold128-requires : tie.Need-fold128-requires Inv-loop μ-loop
 fold128-requires c κs = search needs
@@ -72,8 +72,8 @@ loop-again : tie.Need-loop-again Inv-loop μ-loop
 loop-again c =
     let s = c .before .before .before .before .before .before .before .before .before .before .before .args .s .now in
     let loop = c .before .before .before .before .before .before .before .before .loop in
-    let first = c .before .before .before .before .before .before .word2 in
-    let second = c .before .before .before .before .word3 in
+    let first = c .before .before .before .before .before .before .le642 in
+    let second = c .before .before .before .before .le643 in
     let p = c .before .before .before .fold128 in (
       omega (arith, c .before .before .before .before .before .before .before .loop-test .taken, loop .inv .0, loop .inv .1),
       omega (arith, c .before .before .before .before .before .before .before .loop-test .taken, loop .inv .0, loop .inv .1),
@@ -103,12 +103,12 @@ to-the-end-spec =
     μ-loop
     sub-if1
     fold64-requires
-    word-requires
+    le64-requires
     add-at
     loop-holds
-    word-requires-2
-    add-word
-    word-requires-3
+    le64-requires-2
+    add-le64
+    le64-requires-3
     fold128-requires
     add-at-2
     loop-less

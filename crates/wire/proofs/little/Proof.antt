@@ -4,11 +4,11 @@ use native.Mathlib.Omega.{arith}
 use mathlib.Core.Path.{_≡_, sym, ap, ap₂, _∙_}
 use lib.Bits.{bitOr}
 use borrow.Author.Needs.{needs}
 use Rattle.wire.specs.Numbers.{littleAt}
 use Rattle.wire.proofs.Widths.{getD-bytes}
-use Rattle.checksum.proofs.WordLaws.{little-one, little-or}
-use Rattle.checksum.proofs.words.little.Statement.{statement}
-use Rattle.checksum.proofs.words.little.Tie as tie
+use Rattle.wire.proofs.Shifts.{little-one, little-or}
+use Rattle.wire.proofs.little.Statement.{statement}
+use Rattle.wire.proofs.little.Tie as tie
 
 abbrev Inv-loop : tie.InvT-loop
 Inv-loop s at w n₀ i₀ n i = (i ≤ w) × (n ≡ littleAt s (at + i) (w - i))
