@@ -1,4 +1,5 @@
-//! The CRC by itself, in all ways, where each call waits for the one before and where calls overlap.
+//! The CRC by itself, the library's beside all other ways, where each call waits for the one before and where calls
+//! overlap.
 
 use crate::check;
 use crate::crcs::{self, Way};
@@ -30,18 +31,22 @@ pub fn print(budget: Duration, random: &mut Random) {
     let mut ways = crcs::ways();
     ways.push(("bit by bit", check::crc));
     let bytes = random.bytes(PLACES + SIZES[SIZES.len() - 1]);
-    println!("\nThe CRC alone, ns:\n");
-    let names: Vec<_> = ways.iter().map(|way| way.0).collect();
-    println!("| each call | bytes | {} |", names.join(" | "));
-    println!("|---|---:|{}", "---:|".repeat(ways.len()));
+    println!("\nThe CRC alone, ns, and the library's time divided by the others':\n");
+    let heads: Vec<_> = ways[1..].iter().map(|way| format!("{} | library / {0}", way.0)).collect();
+    println!("| each call | bytes | {} | {} |", ways[0].0, heads.join(" | "));
+    println!("|---|---:|---:|{}", "---:|---:|".repeat(heads.len()));
     for (how, waits) in [("waits for the one before", true), ("overlaps the one before", false)] {
         for size in SIZES {
             let sides: Vec<_> = ways.iter().map(|way| Some(side(way.1, &bytes, size, waits))).collect();
             // all bytes are in the cache: there is no pool to get there
             let times = times(budget, &vec![vec![]; POOL], &sides);
-            let each = TIMES as f64;
-            let cells = times.iter().flatten().map(|t| format!(" {:.1} ({:.1}) |", t.0 / each, t.1 / each));
-            println!("| {how} | {size} |{}", cells.collect::<String>());
+            let times: Vec<_> = times.iter().flatten().map(|t| (t.0 / TIMES as f64, t.1 / TIMES as f64)).collect();
+            let first = times[0];
+            let mut line = format!("| {how} | {size} | {:.1} ({:.1}) |", first.0, first.1);
+            for t in &times[1..] {
+                line += &format!(" {:.1} ({:.1}) | {:.2} ({:.2}) |", t.0, t.1, first.0 / t.0, first.1 / t.1);
+            }
+            println!("{line}");
         }
     }
 }

@@ -1,6 +1,8 @@
 //! CRC-16/IBM in several ways: from tables, by folding whole words as the library does it, and with PCLMULQDQ.
 //! Bits come lowest first and the start is 0, so zeros before the first byte change nothing.
 
+use crate::library;
+
 /// One bit more: the state times x modulo x^16 + x^15 + x^2 + 1. Its lowest bit belongs to x^15, its highest to 1.
 const fn shifted(c: u16) -> u16 {
     (c >> 1) ^ if c & 1 != 0 { 0xA001 } else { 0 }
@@ -347,9 +349,10 @@ pub fn multiplied(data: &[u8]) -> u16 {
 /// A way to the CRC.
 pub type Way = fn(&[u8]) -> u16;
 
-/// All ways that there are here.
+/// All ways that there are here, the library's first.
 pub fn ways() -> Vec<(&'static str, Way)> {
-    let mut ways: Vec<(_, Way)> = vec![("slicing-by-8", sliced), ("slicing-by-16", sliced16), ("folding", folded)];
+    let mut ways: Vec<(_, Way)> = vec![("library", library::crc)];
+    ways.extend([("the same fold", folded as Way), ("slicing-by-8", sliced), ("slicing-by-16", sliced16)]);
     if multiplies() {
         ways.push(("PCLMULQDQ", multiplied));
     }

@@ -79,6 +79,7 @@ macro_rules! calls {
 }
 
 calls! {
+    crc = bench_crc16(data: bytes) -> u16;
     read_packet = brundilope_read_packet(p: bytes) -> Packet;
     read_datagram = brundilope_read_datagram(p: bytes) -> Datagram;
     read_login = brundilope_read_login(p: bytes) -> Login;
