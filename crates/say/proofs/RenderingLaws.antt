@@ -9,7 +9,8 @@ use lib.ListN.{length, getD, drop, replicate}
 use lib.Seq.{getD-drop, drop-drop}
 use borrow.Author.Tests.{lt-ltb, le-ltb}
 use Rattle.io.specs.Digits.{digits, glyph, Fewest}
-use Rattle.say.specs.Rendering.{decimalIn, decimal, padded, shown, isMark, rendered, quotable, closing}
+use Rattle.text.specs.Decimal.{decimalIn, decimal}
+use Rattle.say.specs.Rendering.{padded, shown, isMark, rendered, quotable, closing}
 use Rattle.say.specs.Page.{OnPage}
 use Rattle.say.proofs.PageLaws.{Left, left-first, left-as, left-put, left-done, page-then, next, none-left}
 

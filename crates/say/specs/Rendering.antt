@@ -6,17 +6,9 @@ use lib.ListN.{length, getD, drop, replicate}
 use lib.Dec.{eqb, ltb}
 use Rattle.wire.specs.Numbers.{pick}
 use Rattle.text.specs.Hex.{among, hexText}
+use Rattle.text.specs.Decimal.{decimal}
 
 -- ---- a number in decimal
-
--- of at most `most` digits
-unfoldable pub decimalIn : ℕ → ℕ → List ℕ
-decimalIn zero n = []
-decimalIn (suc most) n = pick (ltb n 10) ((48 + n) ∷ []) (decimalIn most (n / 10) ++ ((48 + n % 10) ∷ []))
-
--- a number below 2 ^ 64 has at most 20 digits
-unfoldable pub decimal : ℕ → List ℕ
-decimal n = decimalIn 20 n
 
 -- with `pad` in front up to `width`
 unfoldable pub padded : ℕ → ℕ → ℕ → List ℕ
