@@ -91,7 +91,8 @@ pub fn decode(s: &[u8], out: &mut [u8]) -> usize
     to
 }
 
-fn glyph_of(d: u8) -> u8
+// A hex digit, in upper case.
+pub fn glyph_of(d: u8) -> u8
     requires { ⌜ d < 16 ⌝ }
     ensures { λ r. ⌜ r ≡ glyphOf d ⌝ }
 {

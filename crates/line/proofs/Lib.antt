@@ -1,0 +1,12 @@
+pub mod Samples
+pub mod Cases
+pub mod PieceLaws
+pub mod Inverses
+pub mod DecimalLaws
+pub mod DegreesLaws
+pub mod TagLaws
+pub mod PrintedLaws
+pub mod LineLaws
+pub mod WalkLaws
+pub mod CountLaws
+pub mod RecordLineLaws
