@@ -1,0 +1,4 @@
+pub mod Fields
+pub mod Tags
+pub mod Walking
+pub mod Answers
