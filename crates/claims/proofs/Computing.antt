@@ -32,7 +32,16 @@ use Rattle.checksum.specs.Bits.{ones, differing}
 use Rattle.stream.specs.Stream.{needed, itemOf, judgedPacket, judged, verdictBy, verdict, next, afterByte, taken, cons, byVerdict, stream}
 use Rattle.connection.specs.State.{padded, phaseNumber, kept, fresh, isZero, isMore, phaseOf, heldBy, opened, countOf, judgedAt, wanted}
 use Rattle.connection.specs.Feeding.{outcome, feeding, fed, fedInto, packetIn, itemAs, fedAs, lentAs}
+use Rattle.text.specs.Decimal.{decimalIn, decimal}
+use Rattle.text.specs.Hex.{glyphOf}
+use Rattle.line.specs.Pieces.{before, behind as behindByte, onto, pieces, separated}
+use Rattle.line.specs.Lines.{unsignedDegrees, degrees, isPlain, escaped, quoted, printedText, texts, lineFields, lineBytes}
+use Rattle.line.specs.LineReader.{allDigits, digitsOf, noSpareZero, readDecimal, readUnsigned, readDegrees, readHex, readTag, readValue, readPrinted, onField, nextField, isTag, readElements, readFields, judgeLine, readLine, placeIn, wrongAt}
+use Rattle.line.specs.LineElements.{startFrom, elementOf, elementAt}
+use Rattle.line.specs.RecordLines.{printedOf, printedAll, recordLine, lineOfPacket, lineOfDatagram, linesOfPacket, linesOfDatagram}
+use Rattle.scan.specs.Walking.{lineResult}
+use Rattle.scan.specs.Answers.{answerLine, lineAs, tagBytes, elementResult, answerElement, leavingElement, elementAs}
 
 unfoldable pub computing : Unit {0}
-unfolding onAccepted told check enclosed codecOf firstCount lastCount inner textDigit readImei packed pairUpTo readPacked numberAt digits valueFrom littleAt le signed andThen _>>=_ _>>_ pure here require span number bytes upTo repeat feedback shift shifts absorb crcFrom crc framed fieldLength fieldOf unframe lastFour widthsOf isDataCodec kinds dataBytes readData dataResult valueSize element group groups fixedFields avlRecord tagged inRecord avlRecords atEnd allRecords elementCount lengthBytes elementBytes groupBytes groupsBytes fixedBytes recordBytes packetBytes readPacket answerPacket acknowledged tcpAcknowledgement packetAs commandField commandBody readField readCommand answerCommand textView textOffset commandAs types layouts findLayout layoutOf answered readLogin isAccepted loginAnswer loginAs readHeader readDatagram answerDatagram acknowledgementBytes udpAcknowledgement datagramAs judgeHeader entryBytes entriesFrom entriesOf fixedEntry elementEntry groupEntries groupsEntries recordsEntries formEntries form formOfPacket formOfDatagram or17 readForm packetOfForm writing leaving writtenAs givenImei packetOf commandBytes entryElement run behind groupsOf fixedOf recordsOf dataOf decoded leadSize locateGroup locateGroups fixedSize elements nth firstWith recordResult placeRecords tcpSource udpSource placedRecord recordByNumber foundIn valueIn valueByNumber valueById view viewOffset valueInLast inOlder orElse lastKnown knownPlace recordAs valueResult answerValue valueAs answerKnown knownAs knownView quad titleWords recordWords valueWord recordContents contents contentsOfPacket contentsOfDatagram ones differing needed itemOf judgedPacket judged verdictBy verdict next afterByte taken cons byVerdict stream padded phaseNumber kept fresh isZero isMore phaseOf heldBy opened countOf judgedAt wanted outcome feeding fed fedInto packetIn itemAs fedAs lentAs
+unfolding onAccepted told check enclosed codecOf firstCount lastCount inner textDigit readImei packed pairUpTo readPacked numberAt digits valueFrom littleAt le signed andThen _>>=_ _>>_ pure here require span number bytes upTo repeat feedback shift shifts absorb crcFrom crc framed fieldLength fieldOf unframe lastFour widthsOf isDataCodec kinds dataBytes readData dataResult valueSize element group groups fixedFields avlRecord tagged inRecord avlRecords atEnd allRecords elementCount lengthBytes elementBytes groupBytes groupsBytes fixedBytes recordBytes packetBytes readPacket answerPacket acknowledged tcpAcknowledgement packetAs commandField commandBody readField readCommand answerCommand textView textOffset commandAs types layouts findLayout layoutOf answered readLogin isAccepted loginAnswer loginAs readHeader readDatagram answerDatagram acknowledgementBytes udpAcknowledgement datagramAs judgeHeader entryBytes entriesFrom entriesOf fixedEntry elementEntry groupEntries groupsEntries recordsEntries formEntries form formOfPacket formOfDatagram or17 readForm packetOfForm writing leaving writtenAs givenImei packetOf commandBytes entryElement run behind groupsOf fixedOf recordsOf dataOf decoded leadSize locateGroup locateGroups fixedSize elements nth firstWith recordResult placeRecords tcpSource udpSource placedRecord recordByNumber foundIn valueIn valueByNumber valueById view viewOffset valueInLast inOlder orElse lastKnown knownPlace recordAs valueResult answerValue valueAs answerKnown knownAs knownView quad titleWords recordWords valueWord recordContents contents contentsOfPacket contentsOfDatagram ones differing needed itemOf judgedPacket judged verdictBy verdict next afterByte taken cons byVerdict stream padded phaseNumber kept fresh isZero isMore phaseOf heldBy opened countOf judgedAt wanted outcome feeding fed fedInto packetIn itemAs fedAs lentAs decimalIn decimal glyphOf before behindByte onto pieces separated unsignedDegrees degrees isPlain escaped quoted printedText texts lineFields lineBytes allDigits digitsOf noSpareZero readDecimal readUnsigned readDegrees readHex readTag readValue readPrinted onField nextField isTag readElements readFields judgeLine readLine placeIn wrongAt startFrom elementOf elementAt printedOf printedAll recordLine lineOfPacket lineOfDatagram linesOfPacket linesOfDatagram lineResult answerLine lineAs tagBytes elementResult answerElement leavingElement elementAs
 computing = tt

@@ -10,3 +10,5 @@ pub mod FeedsProof
 pub mod ConnectionsProof
 pub mod TotalsProof
 pub mod DriverTagsProof
+pub mod LinesProof
+pub mod BillingLinesProof

@@ -26,6 +26,14 @@ use Rattle.lookup.specs.declared.KnownAnswer.{KnownAnswer}
 use Rattle.lookup.specs.Lookups.{Found, LastKnown, tcpSource, udpSource, recordByNumber, valueByNumber, valueById, lastKnown, view, viewOffset, knownPlace}
 use Rattle.lookup.specs.Answers.{recordAs, answerValue, valueAs, KnownResult, answerKnown, knownAs, knownView}
 use Rattle.contents.specs.Contents.{contentsOfPacket, contentsOfDatagram}
+use Rattle.line.specs.RecordLines.{lineOfPacket, lineOfDatagram, linesOfPacket, linesOfDatagram}
+use Rattle.line.specs.LineReader.{wrongAt}
+use Rattle.line.specs.LineElements.{Standing, elementOf, elementAt}
+use Rattle.scan.specs.declared.LineFields.{LineFields}
+use Rattle.scan.specs.declared.LineAnswer.{LineAnswer}
+use Rattle.scan.specs.declared.LineElement.{LineElement}
+use Rattle.scan.specs.declared.LineElementAnswer.{LineElementAnswer}
+use Rattle.scan.specs.Answers.{answerLine, lineAs, answerElement, leavingElement, elementAs}
 use Rattle.stream.specs.Stream.{Item, State, waiting, forLogin, Streamed, stream}
 use Rattle.connection.specs.declared.Connection.{Connection}
 use Rattle.connection.specs.declared.Fed.{Fed}
@@ -128,6 +136,34 @@ contents-of-packet label p = written label (contentsOfPacket baseLimits p)
 
 abbrev pub contents-of-datagram : String → List ℕ → List ℕ → Written → List ℕ → Row
 contents-of-datagram label p = written label (contentsOfDatagram baseLimits p)
+
+-- ---- lines for the billing desk
+
+abbrev pub line-of-packet : String → List ℕ → ℕ → List ℕ → Written → List ℕ → Row
+line-of-packet label p n = written label (lineOfPacket baseLimits p n)
+
+abbrev pub line-of-datagram : String → List ℕ → ℕ → List ℕ → Written → List ℕ → Row
+line-of-datagram label p n = written label (lineOfDatagram baseLimits p n)
+
+abbrev pub lines-of-packet : String → List ℕ → List ℕ → Written → List ℕ → Row
+lines-of-packet label p = written label (linesOfPacket baseLimits p)
+
+abbrev pub lines-of-datagram : String → List ℕ → List ℕ → Written → List ℕ → Row
+lines-of-datagram label p = written label (linesOfDatagram baseLimits p)
+
+-- with the byte at which the line is wrong
+abbrev pub read-line : String → List ℕ → LineAnswer → ℕ → Row
+read-line label s r wrong = row {A = Answer LineFields × ℕ} label (answerLine s, wrongAt s) (lineAs r, wrong)
+
+-- the lent buffer, the answer, and the buffer afterwards
+abbrev pub element : String → Answer Standing → List ℕ → LineElementAnswer → List ℕ → Row
+element label found out r after = row {A = Answer LineElement × List ℕ} label (answerElement found out, leavingElement found out) (elementAs r, after)
+
+abbrev pub element-in-line : String → List ℕ → ℕ → List ℕ → LineElementAnswer → List ℕ → Row
+element-in-line label s k = element label (elementOf s k)
+
+abbrev pub element-at : String → List ℕ → ℕ → List ℕ → LineElementAnswer → List ℕ → Row
+element-at label s at = element label (elementAt s at)
 
 -- ---- a connection: its state, the bytes, and what a feed gives
 

@@ -1,4 +1,5 @@
 pub mod Rows
+pub mod Texts
 pub mod Calls
 pub mod Packets
 pub mod Demand3
@@ -12,3 +13,5 @@ pub mod Feeds
 pub mod Connections
 pub mod Totals
 pub mod DriverTags
+pub mod Lines
+pub mod BillingLines
