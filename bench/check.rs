@@ -10,13 +10,13 @@ use std::fmt::Debug;
 #[derive(Default)]
 pub struct Check {
     pub compared: usize,
-    pub refusals: [usize; 20],
+    pub refusals: [usize; 21],
     room: Contents,
 }
 
 impl Check {
     fn note(&mut self, number: usize) {
-        self.refusals[number.min(19)] += 1;
+        self.refusals[number.min(20)] += 1;
     }
 
     /// Stops if an answer differs from the library's.
@@ -76,6 +76,22 @@ macro_rules! written {
     }};
 }
 
+/// The lines of a packet or datagram, all or that of one record, in rooms that are long enough, and such as are not.
+macro_rules! check_lines {
+    ($c:expr, $random:expr, $p:expr, $record:expr, $one:ident, $all:ident) => {{
+        let (c, random, p, record) = (&mut *$c, &mut *$random, $p, $record);
+        let need = written!(c, $one(p, record), 6000, hand);
+        if need > 0 {
+            written!(c, $one(p, record), random.range(need - 1, need + 1), hand);
+        }
+        let need = written!(c, $all(p), 6000, hand);
+        if need > 0 {
+            written!(c, $all(p), random.range(need - 1, need + 1), hand);
+            written!(c, $all(p), random.below(need), hand);
+        }
+    }};
+}
+
 /// All calls on one TCP input.
 fn check_tcp(c: &mut Check, random: &mut Random, p: &[u8]) {
     same!(c, read_packet(p));
@@ -92,10 +108,39 @@ fn check_tcp(c: &mut Check, random: &mut Random, p: &[u8]) {
     if let Ok(v) = hand::value_in_packet(p, record, element) {
         same!(c, id_in_packet(p, record, v.id));
     }
+    check_lines!(c, random, p, record, line_of_packet, lines_of_packet);
     let need = written!(c, form_of_packet(p), 6000, hand, combinator);
     if need > 0 {
         written!(c, form_of_packet(p), random.range(need - 1, need + 1), hand, combinator);
         written!(c, form_of_packet(p), random.below(need), hand, combinator);
+    }
+}
+
+/// A line read whole, and damaged.
+fn check_line(c: &mut Check, random: &mut Random, line: &[u8]) {
+    for round in 0..8 {
+        let mut s = line.to_vec();
+        if round > 0 {
+            input::damage_line(random, &mut s);
+        }
+        let (mut a, mut b) = ([0xA5u8; 6000], [0xA5u8; 6000]);
+        let library = Sum::from(library::sum_of_line(&s, &mut a));
+        c.note(library.number);
+        c.same("sum_of_line", "hand", &library, &hand::sum_of_line(&s, &mut b).into(), &[&s]);
+    }
+}
+
+/// The lines of a packet: written by both, and again without judging; each read.
+fn check_read(c: &mut Check, random: &mut Random, packet: &[u8]) {
+    let (mut a, mut b) = ([0xA5u8; 6000], [0xA5u8; 6000]);
+    let library = library::lines_of_packet(packet, &mut a);
+    if library.number != 0 {
+        return;
+    }
+    c.same("lines_alone", "hand", &library, &hand::lines_alone(packet, &mut b).into(), &[&packet]);
+    c.same("lines_alone", "hand, buffer", &a, &b, &[&packet]);
+    for line in a[..library.written].split_inclusive(|&x| x == b'\n') {
+        check_line(c, random, line);
     }
 }
 
@@ -112,6 +157,7 @@ fn check_udp(c: &mut Check, random: &mut Random, p: &[u8]) {
     if let Ok(v) = hand::value_in_datagram(p, record, element) {
         same!(c, id_in_datagram(p, record, v.id));
     }
+    check_lines!(c, random, p, record, line_of_datagram, lines_of_datagram);
     let need = written!(c, form_of_datagram(p), 6000, hand, combinator);
     if need > 0 {
         written!(c, form_of_datagram(p), random.range(need - 1, need + 1), hand, combinator);
@@ -177,6 +223,7 @@ fn check_data(c: &mut Check, random: &mut Random, codec: u8, (from, to): (usize,
     }
     let other = CODECS[random.below(3)].0;
     check_last_known(c, random, &whole, other);
+    check_read(c, random, &whole);
     check_forms(c, random, &whole);
 }
 

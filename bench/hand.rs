@@ -3,6 +3,10 @@
 
 use super::crc;
 
+#[path = "hand_lines.rs"]
+mod lines;
+pub use lines::*;
+
 #[derive(Clone, Copy, Debug, PartialEq, Eq)]
 pub struct Refusal {
     pub number: u8,

@@ -151,6 +151,55 @@ pub fn alike(random: &mut Random, records: usize, values: usize) -> Vec<u8> {
     b
 }
 
+/// A data field whose records have values of these kinds, in packet order, no ID twice in a record. A variable value
+/// (kind 9) is a text of 8 to 20 bytes.
+pub fn of_kinds(random: &mut Random, codec: u8, records: usize, kinds: &[usize]) -> Vec<u8> {
+    let (id, count) = if codec == 0x8E { (2, 2) } else { (1, 1) };
+    let mut b = vec![codec, records as u8];
+    for _ in 0..records {
+        let mut elements: Vec<Element> = vec![];
+        for &kind in kinds {
+            let new = loop {
+                let new = random.next() as u16 & if id == 1 { 0xFF } else { 0xFFFF };
+                if elements.iter().all(|e| e.1 != new) {
+                    break new;
+                }
+            };
+            let value = if kind == 9 { text(random) } else { random.bytes(kind) };
+            elements.push((kind, new, value));
+        }
+        record(random, &mut b, codec, id, count, &elements);
+    }
+    b.push(records as u8);
+    b
+}
+
+/// A name as a driver tag may have it: ASCII text, few bytes of which have to be escaped.
+fn text(random: &mut Random) -> Vec<u8> {
+    (0..random.range(8, 20)).map(|_| random.range(0x20, 0x7E) as u8).collect()
+}
+
+/// Bytes that matter in a billing line.
+const OF_LINES: &[u8] = b"00129,,==\"\"..--+\\\\\n\r AFaf\x7F";
+
+/// Damages to a billing line: one or two bytes changed, lost, doubled or added, mostly such as lines have; or any.
+pub fn damage_line(random: &mut Random, s: &mut Vec<u8>) {
+    if random.below(4) == 0 {
+        return damage(random, s);
+    }
+    for _ in 0..random.range(1, 2) {
+        let at = random.below(s.len().max(1));
+        let byte = OF_LINES[random.below(OF_LINES.len())];
+        match random.below(4) {
+            0 => s.insert(at.min(s.len()), byte),
+            1 if at < s.len() => drop(s.remove(at)),
+            2 if at < s.len() => s.insert(at, s[at]),
+            _ if at < s.len() => s[at] = byte,
+            _ => {}
+        }
+    }
+}
+
 /// The data field of a command.
 pub fn command(random: &mut Random, codec: u8, text: usize) -> Vec<u8> {
     let imei = if codec == 0x0E { 8 } else { 0 };

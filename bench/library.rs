@@ -37,6 +37,8 @@ answer!(Record {
 });
 answer!(Value { id: u16, kind: u8, offset: usize, size: usize });
 answer!(Known { older: bool, id: u16, kind: u8, offset: usize, size: usize });
+answer!(Line { timestamp: u64, longitude: i32, latitude: i32, speed: u16, elements: usize, start: usize });
+answer!(LineElement { id: u16, tag: bool, value: u64, size: usize, next: usize });
 answer!(Taken { used: usize, item: u8, imei: u64, size: usize, fill: usize, phase: u8 });
 
 #[repr(C)]
@@ -98,6 +100,12 @@ calls! {
     form_of_packet = brundilope_form_of_packet(p: bytes, out: buffer) -> Written;
     form_of_datagram = brundilope_form_of_datagram(p: bytes, out: buffer) -> Written;
     packet_of_form = brundilope_packet_of_form(form: bytes, out: buffer) -> Written;
+    line_of_packet = brundilope_line_of_packet(p: bytes, record: usize, out: buffer) -> Written;
+    line_of_datagram = brundilope_line_of_datagram(p: bytes, record: usize, out: buffer) -> Written;
+    lines_of_packet = brundilope_lines_of_packet(p: bytes, out: buffer) -> Written;
+    lines_of_datagram = brundilope_lines_of_datagram(p: bytes, out: buffer) -> Written;
+    read_line = brundilope_read_line(s: bytes) -> Line;
+    element_at = brundilope_element_at(s: bytes, at: usize, out: buffer) -> LineElement;
     feed = brundilope_feed(state: Connection, p: bytes) -> Fed;
     feed_parts = brundilope_feed_lent(phase: u8, fill: usize, held: buffer, p: bytes, out: buffer) -> Taken;
 }
@@ -204,6 +212,26 @@ pub fn sum_of_packet(p: &[u8], room: &mut Contents) -> Answer<u64> {
 #[inline(never)]
 pub fn sum_of_datagram(p: &[u8], room: &mut Contents) -> Answer<u64> {
     Ok(sum_of(DataDatagram::read(p, room)?.records()))
+}
+
+// ---- billing lines
+
+/// The sum of what is in a line, its elements one behind another.
+#[inline(never)]
+pub fn sum_of_line(s: &[u8], out: &mut [u8]) -> Answer<u64> {
+    let line = read_line(s);
+    if line.number != 0 {
+        return Err(hand::no(line.number as u8));
+    }
+    let mut sum = sum_of_fields(line.timestamp, line.longitude, line.latitude).wrapping_add(u64::from(line.speed));
+    let mut at = line.start;
+    for _ in 0..line.elements {
+        let e = element_at(s, at, out);
+        let value = if e.tag { sum_of_bytes(&out[..e.size]) } else { e.value };
+        sum = sum.wrapping_add(u64::from(e.id)).wrapping_add(value);
+        at = e.next;
+    }
+    Ok(sum)
 }
 
 // ---- shapes

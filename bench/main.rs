@@ -6,12 +6,13 @@ mod combinator;
 mod crcs;
 mod input;
 mod library;
+mod lines;
 mod measure;
 
 /// The code by hand, with one of the CRCs; perhaps with calls that are never made.
 macro_rules! by_hand {
     ($module:ident, $crc:ident, $unused:ident) => {
-        #[$unused(dead_code)]
+        #[$unused(dead_code, unused_imports)]
         #[path = "."]
         mod $module {
             pub use crate::crcs::$crc as crc;
@@ -272,7 +273,7 @@ fn main() {
     let mut random = Random(0x9E37_79B9_7F4A_7C15);
     let c = check::check(&mut random);
     println!("Answers compared: {}, none differ. Accepted {}; refused by number:", c.compared, c.refusals[0]);
-    let each: Vec<_> = (1..20).map(|n| format!("{n}: {}", c.refusals[n])).collect();
+    let each: Vec<_> = (1..21).map(|n| format!("{n}: {}", c.refusals[n])).collect();
     println!("{}.\n", each.join(", "));
 
     let before = load();
@@ -294,6 +295,7 @@ fn main() {
     table.print();
     table.growth();
     table.feeds();
+    lines::print(budget / 2, &mut table.random);
     alone::print(budget / 4, &mut table.random);
     let cores = std::thread::available_parallelism().map_or(0, usize::from);
     println!("\n{cores} cores; load average {before} at the start and {} at the end.", load());

@@ -21,6 +21,7 @@ import coverage
 import edges
 import examples
 import generate
+import line_edges
 import reference
 
 SHOWN_DIFFERENCES = 20
@@ -107,6 +108,8 @@ def calls(count, seed):
         yield f"example {name}", line, expected
     for name, line, expected in edges.edge_calls():
         yield f"edge {name}", line, expected
+    for name, line, expected in line_edges.line_edge_calls():
+        yield f"edge of lines {name}", line, expected
     for place, line in enumerate(generate.lines(count, seed), 1):
         yield f"line {place} of seed {seed}", line, None
 
@@ -115,7 +118,7 @@ def main():
     parser = argparse.ArgumentParser(usage="compare.py DRIVER VIEWS [--count N] [--seed S]", allow_abbrev=False)
     parser.add_argument("driver")
     parser.add_argument("views")
-    parser.add_argument("--count", type=int, default=12000)
+    parser.add_argument("--count", type=int, default=15000)
     parser.add_argument("--seed", type=int, default=1)
     options = parser.parse_args()
     if options.count < 0:

@@ -4,7 +4,7 @@ from collections import Counter
 
 import reference
 
-NUMBERS = range(1, 20)
+NUMBERS = range(1, 21)
 CODECS = {0x08: "8", 0x8E: "8E", 0x10: "16"}
 
 # The refusals of each input in the order of document 01, each with its places: the parts of the rule.
@@ -16,6 +16,19 @@ WALK = {8: ["timestamp", "priority", "longitude", "latitude", "altitude", "angle
             "4 value", "8 count", "8 ID", "8 value", "variable count", "variable ID", "variable length",
             "variable value", "left over"],
         9: ["", "variable left out"], 10: [""], 11: [""], 12: [""]}
+
+
+def number_places(field):
+    return [f"{field}: {why}" for why in ("empty", "digit", "range", "spare zero")]
+
+
+def degrees_places(field):
+    return [f"{field}: {why}" for why in ("form", "range", "spare zero", "minus zero")]
+
+
+# Why a field is no element of a billing line.
+ELEMENT_PLACES = ["element: no =", *number_places("ID"), *number_places("value"),
+                  "tag: end", "tag: byte", "tag: escape", "tag: escape not due"]
 INPUTS = {
     "packet": FRAME | COUNTS,
     "datagram": {1: [""], 3: [""], 4: ["missing", "too many"], 15: ["length", "digit"]} | COUNTS,
@@ -32,6 +45,9 @@ INPUTS = {
                    10: [""], 11: [""], 12: [""], 13: [""], 14: ["size", "under 8", "text with 11"],
                    15: ["length", "digit", "first digit"]},
     "state": {},
+    "line": {20: ["line: LF", "line: fields missing", *number_places("timestamp"), *degrees_places("longitude"),
+                  *degrees_places("latitude"), *number_places("speed"), *ELEMENT_PLACES, "element: order"]},
+    "field": {20: ELEMENT_PLACES},
 }
 
 WALK_PLACES = [(number, place) for number, places in WALK.items() for place in places]
@@ -47,6 +63,9 @@ def walk_places(codec):
 # Each call: its input, and what it can give behind or before that input's refusals. A lent buffer is too short by one
 # byte or word or by more, or it is as long as the result or longer.
 ROOM = {18: ["by one"], None: ["exact", "longer"]}
+
+# An element of a line: a number leaves the buffer alone, a tag may have more bytes.
+TAG_ROOM = {18: ["by one", "by more"], None: ["number", "exact", "longer"]}
 
 # Why a state gets 19; the last ones hold an item, or what a refusal should have taken out of it.
 NO_STATE = {19: ["closed", "phase", "length", "fill", "spare byte", "login held", "packet held", "2 held", "3 held",
@@ -85,6 +104,14 @@ CALLS = {
     "packet_of_form": ("form", ROOM),
     "contents_of_packet": ("packet", ROOM),
     "contents_of_datagram": ("datagram", ROOM),
+    "line_of_packet": ("packet", {16: ["record"]} | ROOM),
+    "line_of_datagram": ("datagram", {16: ["record"]} | ROOM),
+    "lines_of_packet": ("packet", ROOM),
+    "lines_of_datagram": ("datagram", ROOM),
+    "read_line": ("line", {}),
+    "element_in_line": ("line", {16: ["element"]} | TAG_ROOM),
+    "element_at": ("field", TAG_ROOM),
+    "wrong_byte": ("line", {}),
     "feed": ("connection", NO_STATE | {18: ["by one", "by more"], None: FEEDS}),
     "stream": ("connection", {}),
     "wanted": ("state", NO_STATE),
@@ -92,10 +119,11 @@ CALLS = {
     "fresh": ("state", {}),
 }
 
-# Calls that do not show the refusal behind their answer, and one that does. Of views and of what is wanted the
-# reference tells it.
+# Calls that do not show the refusal behind their answer, and one that does. Of views, of what is wanted and of the
+# byte that is wrong the reference tells it.
 BEHIND = {"acknowledge_packet": "read_packet", "answer_login": "read_login"}
-HIDING = {name for name, (sort, _, _) in reference.CALLS.items() if sort == "view"} | set(BEHIND) | {"wanted"}
+VIEWS = {name for name, (sort, _, _) in reference.CALLS.items() if sort == "view"}
+HIDING = VIEWS | set(BEHIND) | {"wanted", "wrong_byte"}
 
 
 def allowed(row):
@@ -151,6 +179,10 @@ class Coverage:
             _, size, lent = answer.split()
             exact = len(lent) == 2 * int(size) * reference.unit(name)
             self.reached[row, "kind", None, "exact" if exact else "longer"] += 1
+        if name.startswith("element_") and number is None:
+            _, _, tag, _, size, _, lent = answer.split()
+            kind = "number" if tag == "0" else "exact" if len(lent.strip("-")) == 2 * int(size) else "longer"
+            self.reached[row, "kind", None, kind] += 1
         if name == "feed" and number not in (18, 19):
             self.reached[row, "kind", None, feed_kind(words, answer)] += 1
 

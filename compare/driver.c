@@ -150,11 +150,22 @@ static void written(struct brundilope_written w, struct bytes out) {
     print_bytes(out.at, out.size);
 }
 
+static void line(struct brundilope_line l) {
+    head("accepted", l.number, l.index);
+    printf("%" PRIu64 " %" PRId32 " %" PRId32 " %u %zu %zu", l.timestamp, l.longitude, l.latitude, l.speed, l.elements, l.start);
+}
+
+static void line_element(struct brundilope_line_element e, struct bytes out) {
+    head("accepted", e.number, e.index);
+    printf("%u %d %" PRIu64 " %zu %zu ", e.id, e.tag, e.value, e.size, e.next);
+    print_bytes(out.at, out.size);
+}
+
 /* ---- calls */
 
 static size_t number(const char *word) { return (size_t)strtoull(word, NULL, 10); }
 
-/* The calls on one packet or datagram. */
+/* The calls on one packet, datagram or line. */
 static int on_input(const char *call, struct bytes p, char **w) {
     if (!strcmp(call, "read_packet")) packet(brundilope_read_packet(p.at, p.size));
     else if (!strcmp(call, "read_datagram")) datagram(brundilope_read_datagram(p.at, p.size));
@@ -166,6 +177,8 @@ static int on_input(const char *call, struct bytes p, char **w) {
     else if (!strcmp(call, "value_in_datagram")) value(brundilope_value_in_datagram(p.at, p.size, number(w[2]), number(w[3])));
     else if (!strcmp(call, "id_in_packet")) value(brundilope_id_in_packet(p.at, p.size, number(w[2]), (uint16_t)number(w[3])));
     else if (!strcmp(call, "id_in_datagram")) value(brundilope_id_in_datagram(p.at, p.size, number(w[2]), (uint16_t)number(w[3])));
+    else if (!strcmp(call, "read_line")) line(brundilope_read_line(p.at, p.size));
+    else if (!strcmp(call, "wrong_byte")) printf("byte %zu", brundilope_wrong_byte(p.at, p.size));
     else return 0;
     return 1;
 }
@@ -180,7 +193,7 @@ static void contents(words_call *call, struct bytes p, struct bytes out) {
 
 /* The calls that write into the buffer of their last word. */
 static void on_buffer(const char *call, struct bytes p, char **w) {
-    struct bytes out = bytes_of(w[!strcmp(call, "answer_login") ? 3 : 2]);
+    struct bytes out = bytes_of(w[w[3] ? 3 : 2]);
     if (!strcmp(call, "acknowledge_packet")) written(brundilope_acknowledge_packet(p.at, p.size, out.at, out.size), out);
     else if (!strcmp(call, "acknowledge_datagram")) written(brundilope_acknowledge_datagram(p.at, p.size, out.at, out.size), out);
     else if (!strcmp(call, "form_of_packet")) written(brundilope_form_of_packet(p.at, p.size, out.at, out.size), out);
@@ -188,6 +201,12 @@ static void on_buffer(const char *call, struct bytes p, char **w) {
     else if (!strcmp(call, "packet_of_form")) written(brundilope_packet_of_form(p.at, p.size, out.at, out.size), out);
     else if (!strcmp(call, "contents_of_packet")) contents(brundilope_contents_of_packet, p, out);
     else if (!strcmp(call, "contents_of_datagram")) contents(brundilope_contents_of_datagram, p, out);
+    else if (!strcmp(call, "lines_of_packet")) written(brundilope_lines_of_packet(p.at, p.size, out.at, out.size), out);
+    else if (!strcmp(call, "lines_of_datagram")) written(brundilope_lines_of_datagram(p.at, p.size, out.at, out.size), out);
+    else if (!strcmp(call, "line_of_packet")) written(brundilope_line_of_packet(p.at, p.size, number(w[2]), out.at, out.size), out);
+    else if (!strcmp(call, "line_of_datagram")) written(brundilope_line_of_datagram(p.at, p.size, number(w[2]), out.at, out.size), out);
+    else if (!strcmp(call, "element_in_line")) line_element(brundilope_element_in_line(p.at, p.size, number(w[2]), out.at, out.size), out);
+    else if (!strcmp(call, "element_at")) line_element(brundilope_element_at(p.at, p.size, number(w[2]), out.at, out.size), out);
     else written(brundilope_answer_login(p.at, p.size, number(w[2]) != 0, out.at, out.size), out);
     done_buffer(out);
 }
@@ -323,7 +342,7 @@ static void streams(char **w) {
     done_input(p);
 }
 
-/* ---- lines */
+/* ---- the lines of standard input */
 
 /* How many words follow the name of a call; -1 for an unknown one. */
 static int words_after(const char *call) {
@@ -337,7 +356,9 @@ static int words_after(const char *call) {
         {"acknowledge_packet", 2}, {"acknowledge_datagram", 2}, {"form_of_packet", 2},     {"form_of_datagram", 2},
         {"packet_of_form", 2},     {"contents_of_datagram", 2}, {"contents_of_packet", 2}, {"write_command", 5},
         {"fresh", 0},              {"reset", 3},                {"wanted", 4},             {"feed", 6},
-        {"stream", 2},
+        {"stream", 2},             {"line_of_packet", 3},       {"line_of_datagram", 3},   {"lines_of_packet", 2},
+        {"lines_of_datagram", 2},  {"read_line", 1},            {"element_in_line", 3},    {"element_at", 3},
+        {"wrong_byte", 1},
     };
     for (size_t i = 0; i < sizeof calls / sizeof *calls; i++)
         if (!strcmp(call, calls[i].call)) return calls[i].words;

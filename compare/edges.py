@@ -685,6 +685,10 @@ def everywhere():
             yield "everywhere", f"form_of_{side} {data} {'ee' * 400}", f"{answer} {'ee' * 400}"
             yield "everywhere", f"contents_of_{side} {data} -", answer + " -"
             yield "everywhere", f"contents_of_{side} {data} {'ee' * 400}", f"{answer} {'ee' * 400}"
+            yield "everywhere", f"line_of_{side} {data} 9 -", answer + " -"
+            yield "everywhere", f"line_of_{side} {data} 0 {'ee' * 99}", f"{answer} {'ee' * 99}"
+            yield "everywhere", f"lines_of_{side} {data} -", answer + " -"
+            yield "everywhere", f"lines_of_{side} {data} {'ee' * 400}", f"{answer} {'ee' * 400}"
             if side == "datagram":
                 yield "everywhere", f"acknowledge_datagram {data} -", answer + " -"
                 continue

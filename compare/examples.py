@@ -2,15 +2,18 @@
 
 P1 to P13 are the bench sheet of document 01; compare/vectors/006.txt holds the
 streams of document 006, compare/vectors/request-2.txt our own, for request 2 of
-document 02. The expected answers are those of the papers, but for TLV forms and
-the packets behind them, which the reference makes.
+document 02, samples/lines.txt the lines of samples. The expected answers are
+those of the papers, but for TLV forms and the packets behind them, which the
+reference makes.
 """
 
 import os
 
 import reference
 
-VECTORS = os.path.join(os.path.dirname(os.path.abspath(__file__)), "vectors")
+HERE = os.path.dirname(os.path.abspath(__file__))
+VECTORS = os.path.join(HERE, "vectors")
+SAMPLES = os.path.join(HERE, "..", "samples")
 
 SAMPLE = ("0038cafe0105000f313233343536373839303132333435080100000000000003e801ffffffff209cca80"
           "00640000070005000101150300000001")
@@ -53,6 +56,8 @@ def bench_calls():
          "accepted 1000 1 -1 547146368 100 0 7 5 0 0 1"),
         ("sample", f"value_in_datagram {SAMPLE} 0 0", "accepted 21 1 53 1"),
         ("sample", f"id_view_in_datagram {SAMPLE} 0 21", "bytes 03"),
+        ("sample", f"line_of_datagram {SAMPLE} 0 {'ee' * 36}",
+         f"written 34 {b'1000,-0.0000001,54.7146368,5,21=3'.hex()}0aeeee"),
     ]
 
 
@@ -67,6 +72,8 @@ def refused_calls(name, kind, text, number):
         (name, f"view_in_{kind} {text} 0 0", "bytes -"), (name, f"id_view_in_{kind} {text} 0 1", "bytes -"),
         (name, f"form_of_{kind} {text} eeee", answer + " eeee"),
         (name, f"contents_of_{kind} {text} {'ee' * 64}", f"{answer} {'ee' * 64}"),
+        (name, f"line_of_{kind} {text} 0 {'ee' * 64}", f"{answer} {'ee' * 64}"),
+        (name, f"lines_of_{kind} {text} {'ee' * 64}", f"{answer} {'ee' * 64}"),
         (name, f"acknowledge_{kind} {text} {'ee' * 7}",
          f"{answer} {'ee' * 7}" if kind == "datagram" else "written 4 00000000eeeeee")]
 
@@ -155,8 +162,27 @@ def vector_calls(lines):
             yield from calls.get(side, data_calls)(*first, *told[1::2])
 
 
+def sample_line_calls():
+    """The lines of the samples, as samples/lines.txt has them: each and all of them written."""
+    with open(os.path.join(SAMPLES, "lines.txt"), "rb") as file:
+        lines = file.readlines()
+    for name, kind, records in (
+            ("codec8", "packet", 1), ("codec8e", "packet", 1), ("codec16", "packet", 2),
+            ("udp-codec8", "datagram", 1), ("udp-codec8e", "datagram", 1), ("driver-tags", "packet", 2)):
+        with open(os.path.join(SAMPLES, f"{name}.hex"), encoding="ascii") as file:
+            text = file.read().strip().lower()
+        own, lines = lines[:records], lines[records:]
+        for number, line in enumerate(own):
+            yield name, f"line_of_{kind} {text} {number} {'ee' * len(line)}", f"written {len(line)} {line.hex()}"
+            yield name, f"wrong_byte {line.hex()}", f"byte {len(line)}"
+        together = b"".join(own)
+        yield name, f"lines_of_{kind} {text} {'ee' * len(together)}", f"written {len(together)} {together.hex()}"
+    assert not lines
+
+
 def example_calls():
     yield from bench_calls()
+    yield from sample_line_calls()
     for name in ("006.txt", "request-2.txt"):
         with open(os.path.join(VECTORS, name), encoding="ascii") as file:
             yield from vector_calls(line for line in file if line.strip() and not line.startswith("#"))

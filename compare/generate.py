@@ -63,6 +63,24 @@ def shown(data):
     return bytes(data).hex() or "-"
 
 
+# ---------------------------------------------------------------- the text of billing lines
+
+def degrees(value):
+    """Ten-millionths of a degree."""
+    whole, rest = divmod(abs(value), 10 ** 7)
+    return b"%s%d.%07d" % (b"-" if value < 0 else b"", whole, rest)
+
+
+def quoted(value):
+    """A tag; all that is not plain, and quote, comma and backslash, by its number."""
+    return b'"%s"' % b"".join(bytes([byte]) if 0x20 <= byte < 0x7F and byte not in b'",\\' else b"\\%02X" % byte
+                              for byte in value)
+
+
+def joined(fields):
+    return b",".join(fields) + b"\n"
+
+
 class Record:
     """A record's fields. Total, counts and lengths say what is written in place
     of the right number; counts go by group, lengths by place in the last group."""
@@ -94,6 +112,16 @@ class Record:
             if place == 4:
                 size += sum(len(value) for _, value in group)
         return size
+
+    def line(self, codec):
+        """The record as a billing line."""
+        fields = [b"%d" % int.from_bytes(self.time, "big"),
+                  *(degrees(int.from_bytes(self.place[at:at + 4], "big", signed=True)) for at in (0, 4)),
+                  b"%d" % int.from_bytes(self.place[13:], "big")]
+        for kind, group in zip(KINDS if codec == 0x8E else KINDS[:4], self.groups):
+            fields += [b"%d=%s" % (ident, quoted(value) if kind == 9 else b"%d" % int.from_bytes(value, "big"))
+                       for ident, value in group]
+        return joined(fields)
 
     def encode(self, codec):
         event, generation, count, ident = WIDTHS[codec]
@@ -774,6 +802,91 @@ class Maker:
     def form_size(self, codec, records):
         return sum(4 + len(body) for _, _, body in self.form_entries(codec, records))
 
+    # ------------------------------------------------------------ billing lines
+
+    def wide(self, bits):
+        """A number of so many bits: any, a small one, an end of the range or a round one."""
+        return self.pick((0, 1, 9, 10, 255, (1 << bits) - 1, 1 << bits - 1, 10 ** self.upto(bits * 3 // 10 + 1),
+                          self.rng.getrandbits(bits), self.rng.getrandbits(bits))) & (1 << bits) - 1
+
+    def coordinate(self):
+        value = self.wide(32)
+        return value - (1 << 32) if value >> 31 else value
+
+    def tag(self):
+        """The bytes of a tag."""
+        style = self.rng.random()
+        size = self.pick((0, 1, 2, 3, 8, 20, 20, self.upto(256)))
+        if style < 0.3:
+            return self.bytes(size)
+        letters = b"Jonas 0129AF" if style < 0.6 else b'"",,\\\\\n\r 0A2C=~\x1f\x7f\x80\xff\0'
+        return bytes(self.pick(letters) for _ in range(size))
+
+    def line_fields(self):
+        """The fields of a line, and the tags among its elements by place, None for numbers."""
+        fields = [b"%d" % self.wide(64), degrees(self.coordinate()), degrees(self.coordinate()), b"%d" % self.wide(16)]
+        numbers, tags = self.pick((0, 1, 1, 2, 5, 12)), self.pick((0, 0, 1, 1, 2, 4))
+        values = [None] * numbers + [self.tag() for _ in range(tags)]
+        fields += [b"%d=%s" % (self.wide(16), b"%d" % self.wide(64) if value is None else quoted(value))
+                   for value in values]
+        return fields, values
+
+    def spoil_field(self, text):
+        """A field with a rule broken, or with any byte changed."""
+        head, sign, value = text.rpartition(b"=")
+        at = self.upto(len(text) + 1)
+        other = bytes([self.pick(b'0129-+. ,="\\\n\rAFaf\0\x7f\xff' + text)])
+        return self.pick((
+            text[:at] + other + text[at:], text[:at] + other + text[at + 1:], text[:at] + text[at + 1:], text[:at],
+            text[:at] + text[at:at + 1] + text[at:], b"0" + text, b"-" + text, b"+" + text, b" " + text, text + b" ",
+            text + b"0", b"", head + sign + b"0" + value, head + sign + value + b"0", head + sign, b"1" + text, value,
+            head + sign + b"%d" % ((1 << 64) + self.upto(2)), head + sign + b'"' + value + b'"', text.lower(),
+            text.replace(b"\\", b"\\4"), text.replace(b'"', b""), b"%d" % (65535 + self.upto(2)) + sign + value,
+            degrees(self.pick((1, -1)) * ((1 << 31) + self.upto(2))), b"-0.0000000", text.replace(b".", b""),
+            b"%d" % ((1 << 64) - self.upto(2)), head + sign + b"7" * self.pick((19, 20, 21, 50)), text + text))
+
+    def spoil_line(self, fields):
+        """Fields as a line that is most likely none."""
+        fields = list(fields)
+        place, other = self.upto(len(fields)), self.upto(len(fields))
+        style = self.upto(14)
+        if style == 0:
+            del fields[place]
+        elif style == 1:
+            fields.insert(other, fields[place])
+        elif style == 2:
+            fields[place], fields[other] = fields[other], fields[place]
+        elif style == 3:
+            fields = fields[:place]
+        elif style == 4:
+            fields.append(self.pick((b"", b"5", b"5=", b"=5", b'5="', b"5=5", b'5="5"')))
+        elif style < 12:
+            fields[place] = self.spoil_field(fields[place])
+        text = joined(fields)
+        if style < 12:
+            return text
+        at = self.upto(len(text))
+        return self.pick((text[:-1], text[:-1] + b"\r\n", text + b"\n", text[:at], text[at:], text + text,
+                          text[:-1] + b"\0", self.bytes(at), text[:at] + self.bytes(1) + text[at + 1:], b""))
+
+    def line_words(self, name):
+        """The words of a call that reads a line."""
+        fields, values = self.line_fields()
+        text = joined(fields) if self.chance(0.4 if name in ("read_line", "wrong_byte") else 0.7) else \
+            self.spoil_line(fields)
+        if name in ("read_line", "wrong_byte"):
+            return shown(text)
+        place = self.numbered(len(values))
+        size = len((values[place] if place < len(values) else None) or b"")
+        if name == "element_at":
+            fields = text.split(b",")
+            place = min(place + 4, self.upto(len(fields) + 1) + 3)
+            place = sum(len(field) + 1 for field in fields[:place])
+            if self.chance(0.15):
+                end = len(text)
+                place = self.pick((0, self.upto(end + 1), end, max(end - 1, 0), self.beyond(end)))
+        return f"{shown(text)} {place} {shown(self.buffer(size))}"
+
     # ------------------------------------------------------------ connections
 
     def item(self, phase, valid):
@@ -913,6 +1026,8 @@ class Maker:
             return f"{name} {self.stream()}"
         if name in ("feed", "wanted", "reset"):
             return f"{name} {self.connection_words(name)}"
+        if name in ("read_line", "element_in_line", "element_at", "wrong_byte"):
+            return f"{name} {self.line_words(name)}"
         data, codec, records = self.any_input(self.datagram if name.endswith("datagram") else self.packet)
         records = records or [self.record(codec)]
         start = f"{name} {shown(data)}"
@@ -926,6 +1041,12 @@ class Maker:
             return f"{start} {self.id_words(codec, records)}"
         if name.startswith("form_"):
             return f"{start} {shown(self.buffer(self.form_size(codec, records)))}"
+        if name.startswith("line_"):
+            place = self.record_word(records)
+            record = records[place] if place < len(records) else records[-1]
+            return f"{start} {place} {shown(self.buffer(len(record.line(codec))))}"
+        if name.startswith("lines_"):
+            return f"{start} {shown(self.buffer(sum(len(record.line(codec)) for record in records)))}"
         if name.startswith("contents_"):
             return f"{start} {shown(self.words(2 + sum(4 + record.elements() for record in records)))}"
         return f"{start} {shown(self.buffer(7 if name == 'acknowledge_datagram' else 4))}"
@@ -938,7 +1059,8 @@ NAMES = (
     "id_view_in_packet", "id_view_in_datagram", "last_known", "last_known_view",
     "acknowledge_packet", "acknowledge_datagram", "answer_login", "write_command",
     "form_of_packet", "form_of_datagram", "packet_of_form", "contents_of_packet", "contents_of_datagram",
-    "feed", "feed", "stream", "wanted", "reset")
+    "line_of_packet", "line_of_datagram", "lines_of_packet", "lines_of_datagram", "read_line", "element_in_line",
+    "element_at", "wrong_byte", "feed", "feed", "stream", "wanted", "reset")
 
 
 def lines(count, seed):

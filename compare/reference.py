@@ -1,11 +1,12 @@
 #!/usr/bin/env python3
-"""A second implementation of the rules of document 01 and of requests 1 and 2 of document 02.
+"""A second implementation of the rules of document 01 and of requests 1, 2 and 4 of document 02.
 
     python3 reference.py     answers calls from standard input, one a line
 
 It is written from the papers alone and is meant to be read beside them; only how
-the calls for C lay an answer out (`flat`), the words of a table of contents, and
-what a feed of a lent state adds to document 02 are from include/brundilope.h.
+the calls for C lay an answer out (`flat`), the words of a table of contents,
+what a feed of a lent state adds to document 02, and how a line is gone along or
+its wrong byte said are from include/brundilope.h. Billing lines are in lines.py.
 Byte strings in a call are lower-case hexadecimal, '-' stands for none. A buffer
 of 64-bit words is given and shown as its bytes, each word's lowest first; one
 that is no whole number of words is an error. The bytes of a connection's state
@@ -17,6 +18,8 @@ import re
 import struct
 import sys
 from collections import namedtuple
+
+import lines
 
 PACKET_LIMIT = 1280
 RECORD_LIMIT = 255
@@ -523,6 +526,40 @@ def login_answer(data, known):
     return bytes([known])
 
 
+# ---------------------------------------------------------------- billing lines (document 02, request 4)
+
+def record_line(data, record):
+    """The line of a record that was read from data."""
+    elements = [lines.Printed(element.id, part(data, element) if element.kind == VARIABLE_KIND
+                              else big(part(data, element))) for element in record.elements]
+    return lines.line_text(lines.Line(record.timestamp, record.longitude, record.latitude, record.speed, elements))
+
+
+def read_line(data):
+    """A line, and the bytes at which its fields start."""
+    try:
+        return lines.read_line(data)
+    except lines.Wrong as wrong:
+        raise Refused(20, place=wrong.why) from None
+
+
+def element_in_line(data, number):
+    """An element of a line, and where the next field starts."""
+    line, starts = read_line(data)
+    if number >= len(line.elements):
+        raise Refused(16, place="element")
+    return line.elements[number], starts[number + 5]
+
+
+def element_from(data, at):
+    """The element whose field starts at a byte, and where the next field starts. The last byte is not the field's."""
+    text = data[:-1][at:].split(lines.COMMA)[0]
+    try:
+        return lines.read_element(text), at + len(text) + 1
+    except lines.Wrong as wrong:
+        raise Refused(20, place=wrong.why) from None
+
+
 # ---------------------------------------------------------------- connections (document 02, request 1)
 
 EXPECTS_LOGIN, EXPECTS_PACKET, CLOSED = range(3)    # the phases
@@ -656,6 +693,27 @@ def contents_of_datagram(data):
     return contents(datagram, datagram.packet, datagram.unused, datagram.avl, datagram.imei)
 
 
+def line_of(reader):
+    return lambda data, number: record_line(data, record_at(reader(data), number))
+
+
+def lines_of(reader):
+    return lambda data: b"".join(record_line(data, record) for record in reader(data).records)
+
+
+def line_words(data):
+    line, starts = read_line(data)
+    return line[:4] + (len(line.elements), starts[4])
+
+
+def wrong_byte(data):
+    try:
+        lines.read_line(data)
+    except lines.Wrong as wrong:
+        return f"byte {wrong.at}", Refused(20, place=wrong.why)
+    return f"byte {len(data)}", None
+
+
 def lent_held(held, length):
     return held.ljust(length, b"\0")[:length]
 
@@ -716,8 +774,8 @@ def fresh(*_):
 
 
 # Each call: its sort of answer, the sorts of its words, its function. The last
-# word of a 'write' call, the lent buffer, does not go to the function. That of a
-# 'whole' call gives the answer itself, and the refusal in it or behind it.
+# word of a 'write' or 'element' call, the lent buffer, does not go to the function.
+# That of a 'whole' call gives the answer itself, and the refusal in it or behind it.
 CALLS = {
     "read_packet": ("read", "P", packet_words),
     "read_datagram": ("read", "P", datagram_words),
@@ -745,6 +803,14 @@ CALLS = {
     "packet_of_form": ("write", "PP", packet_of_form),
     "contents_of_packet": ("write", "PW", contents_of_packet),
     "contents_of_datagram": ("write", "PW", contents_of_datagram),
+    "line_of_packet": ("write", "PNP", line_of(read_packet)),
+    "line_of_datagram": ("write", "PNP", line_of(read_datagram)),
+    "lines_of_packet": ("write", "PP", lines_of(read_packet)),
+    "lines_of_datagram": ("write", "PP", lines_of(read_datagram)),
+    "read_line": ("read", "P", line_words),
+    "element_in_line": ("element", "PNP", element_in_line),
+    "element_at": ("element", "PNP", element_from),
+    "wrong_byte": ("whole", "P", wrong_byte),
     "fresh": ("whole", "", fresh),
     "reset": ("whole", "BNP", fresh),
     "wanted": ("whole", "BNPL", wanted),
@@ -758,6 +824,8 @@ FIELDS = {
     "record_in_datagram": 11, "value_in_packet": 4, "value_in_datagram": 4, "id_in_packet": 4, "id_in_datagram": 4,
     "last_known": 5, "acknowledge_packet": 1, "acknowledge_datagram": 1, "answer_login": 1, "write_command": 1,
     "form_of_packet": 1, "form_of_datagram": 1, "packet_of_form": 1, "contents_of_packet": 1, "contents_of_datagram": 1,
+    "line_of_packet": 1, "line_of_datagram": 1, "lines_of_packet": 1, "lines_of_datagram": 1, "read_line": 6,
+    "element_in_line": 5, "element_at": 5,
 }
 
 # The sorts of words: P bytes; W a buffer of 64-bit words; S sizes of pieces, which go over and over; numbers below
@@ -792,9 +860,16 @@ def unit(name):
     return WORD if CALLS[name][1].endswith("W") else 1
 
 
+def written(result, lent, one):
+    """The lent buffer with the result at its start; 18 if it is shorter."""
+    if len(lent) < len(result):
+        raise Refused(18, place="by one" if len(lent) == len(result) - one else "by more")
+    return shown(result + lent[len(result):])
+
+
 def evaluate(line):
-    """The answer to a call line, and the refusal behind it or None. A view or how
-    many bytes are wanted shows no refusal; it is given all the same."""
+    """The answer to a call line, and the refusal behind it or None. A view, how many
+    bytes are wanted or which byte is wrong shows no refusal; it is given all the same."""
     words = line.split()
     if not words or words[0] not in CALLS:
         return "error unknown call", None
@@ -807,22 +882,25 @@ def evaluate(line):
         return "error " + str(error), None
     if answered == "whole":
         return function(*arguments)
-    lent = arguments.pop() if answered == "write" else b""
+    lent = arguments.pop() if answered in ("write", "element") else b""
     try:
         result = function(*arguments)
         if answered == "read":
             return "accepted " + " ".join(map(str, result)), None
         if answered == "view":
             return "bytes " + shown(result), None
+        if answered == "element":
+            (ident, value), behind = result
+            tag, data = (1, value) if isinstance(value, bytes) else (0, b"")
+            after = written(data, lent, 1)
+            return f"accepted {ident} {tag} {0 if tag else value} {len(data)} {behind} {after}", None
         one = unit(words[0])
-        if len(lent) < len(result):
-            raise Refused(18, place="by one" if len(lent) == len(result) - one else "by more")
-        return f"written {len(result) // one} {shown(result + lent[len(result):])}", None
+        return f"written {len(result) // one} {written(result, lent, one)}", None
     except Refused as refusal:
         text = f"refused {refusal.number} {refusal.index}"
         if answered == "view":
             text = "bytes -"
-        elif answered == "write":
+        elif answered in ("write", "element"):
             text += " " + shown(lent)
         return text, refusal
 

@@ -25,6 +25,7 @@
  *   17  not the TLV form of any acceptable TCP data packet
  *   18  lent buffer too short for the result
  *   19  connection closed, or a state that no feeds from a fresh one give
+ *   20  not a billing line
  *
  * An input is a pointer and a length; a null pointer with length 0 is an empty input, and so for buffers. A call that
  * writes puts its result at the start of the lent buffer `out` and changes nothing behind it; a refusal changes no
@@ -41,6 +42,10 @@
 /* The most bytes of a packet or a datagram; and of a TLV form, which has at most four times as many as its packet. */
 #define BRUNDILOPE_LARGEST 1280
 #define BRUNDILOPE_LARGEST_FORM (4 * BRUNDILOPE_LARGEST)
+
+/* The most bytes of all lines of a packet or a datagram together, and so of any one line: at most four times as many as
+ * its packet. */
+#define BRUNDILOPE_LARGEST_LINES (4 * BRUNDILOPE_LARGEST)
 
 /* The most words of a table of contents: at most one for every two bytes of its packet or datagram. */
 #define BRUNDILOPE_LARGEST_CONTENTS (BRUNDILOPE_LARGEST / 2)
@@ -132,6 +137,29 @@ struct brundilope_written {
     size_t number;
     size_t index;
     size_t written;
+};
+
+/* A billing line: its four leading fields, and the number of its elements. */
+struct brundilope_line {
+    size_t number;
+    size_t index;
+    uint64_t timestamp; /* ms since 1970, UTC */
+    int32_t longitude;  /* degrees times 10^7, as latitude */
+    int32_t latitude;
+    uint16_t speed;
+    size_t elements;
+    size_t start; /* the byte at which the field of its first element starts */
+};
+
+/* An element of a billing line. The bytes of a tag stand at the start of the lent buffer. */
+struct brundilope_line_element {
+    size_t number;
+    size_t index;
+    uint16_t id;
+    bool tag;       /* a value of variable length, else one of 1, 2, 4 or 8 bytes */
+    uint64_t value; /* its number; 0 for a tag */
+    size_t size;    /* how many bytes a tag has; 0 for a number */
+    size_t next;    /* the byte at which the next field starts */
 };
 
 /* ---- reading */
@@ -366,6 +394,52 @@ struct brundilope_written brundilope_form_of_datagram(const uint8_t *p, size_t p
 
 /* The TCP data packet of a TLV form. Refusals 17, 18. */
 struct brundilope_written brundilope_packet_of_form(const uint8_t *form, size_t form_len, uint8_t *out, size_t out_len);
+
+/* ---- lines for the billing desk
+ *
+ * A line is a record as text: timestamp, longitude, latitude and speed, then ID=value for each element, with commas
+ * between them and LF at the end:
+ *
+ *   1000,-0.0000001,54.7146368,5,21=3
+ *   1562760414000,25.2797130,54.6872050,47,21=3,239=1,66=24079,403="Jonas Petraitis",406=""
+ *
+ * Coordinates are degrees with exactly seven places, and a minus sign when negative. A value of 1, 2, 4 or 8 bytes is
+ * the unsigned number in them. One of variable length, a tag, stands between double quotes: bytes 0x20 to 0x7E as
+ * themselves, but quote, comma, backslash and all other bytes as a backslash and two upper-case hexadecimal digits. So
+ * a line has one LF, its last byte, and as many commas as fields but one, whatever is in a tag.
+ *
+ * The reader takes exactly lines of this form: numbers in their field's range (timestamps and values below 2^64,
+ * coordinates of 32 bits, speeds and IDs to 65,535) without spare zeros, tags behind all other values, a byte escaped
+ * only where it has to be. How long the record would be is not judged. Anything else gets 20. */
+
+/* The line of a record by its number, from 0. Refusals: those of reading the packet or datagram, then 16, then 18. */
+struct brundilope_written brundilope_line_of_packet(const uint8_t *p, size_t p_len, size_t record,
+                                                    uint8_t *out, size_t out_len);
+struct brundilope_written brundilope_line_of_datagram(const uint8_t *p, size_t p_len, size_t record,
+                                                      uint8_t *out, size_t out_len);
+
+/* The lines of all records, one behind another; the packet or datagram is judged once. BRUNDILOPE_LARGEST_LINES bytes
+ * are enough for every one. Refusals: those of reading it, then 18. */
+struct brundilope_written brundilope_lines_of_packet(const uint8_t *p, size_t p_len, uint8_t *out, size_t out_len);
+struct brundilope_written brundilope_lines_of_datagram(const uint8_t *p, size_t p_len, uint8_t *out, size_t out_len);
+
+/* A line. Refusal 20. */
+struct brundilope_line brundilope_read_line(const uint8_t *s, size_t s_len);
+
+/* An element of a line by its number, from 0. A number leaves the buffer alone, as a refusal does. Refusals 20, 16,
+ * then 18: it is a tag with more bytes than `out`. */
+struct brundilope_line_element brundilope_element_in_line(const uint8_t *s, size_t s_len, size_t element,
+                                                          uint8_t *out, size_t out_len);
+
+/* The element whose field starts at the byte `at`; the rest of the line is not read. This is for going along a line
+ * that brundilope_read_line accepted: from its `start`, then from each `next`, `elements` times. Refusals 20, where no
+ * element stands from `at` up to the next comma or the last byte, then 18. */
+struct brundilope_line_element brundilope_element_at(const uint8_t *s, size_t s_len, size_t at,
+                                                     uint8_t *out, size_t out_len);
+
+/* The byte at which a line is wrong: where its first wrong field starts; the LF where fields are missing; the length
+ * of the line where the LF at its end is missing, and where nothing is wrong. */
+size_t brundilope_wrong_byte(const uint8_t *s, size_t s_len);
 
 #ifdef __cplusplus
 }

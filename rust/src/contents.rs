@@ -2,10 +2,11 @@
 use std::fmt::{Debug, Display, Formatter, Result as Printed};
 use std::mem::MaybeUninit;
 
+use crate::lines::{Lines, RecordLine};
 use crate::raw;
 use crate::records::{getters, Records};
 use crate::refusal::{data_judged, Refusal};
-use crate::LARGEST_CONTENTS;
+use crate::{LARGEST_CONTENTS, LARGEST_LINES};
 
 /// Room for the table of contents of any packet or datagram.
 ///
@@ -85,9 +86,12 @@ impl OwnedTable {
     }
 }
 
-/// What a packet and a datagram have in common: records, bytes, an owned copy.
+/// What a packet and a datagram have in common: records, bytes, billing lines, an owned copy.
 macro_rules! judged {
-    ($data:ident, $owned:ident, $lend:ident, $sample:literal, $times:literal) => {
+    (
+        $data:ident, $owned:ident, $lend:ident, $line:ident, $lines:ident, $sample:literal, $times:literal,
+        $text:literal
+    ) => {
         impl<'a> $data<'a> {
             #[inline]
             fn head(&self) -> &'a [u64] {
@@ -120,6 +124,38 @@ macro_rules! judged {
             /// ```
             pub fn bytes(&self) -> &'a [u8] {
                 self.0.input
+            }
+
+            /// The billing lines of all records, in order, each with the LF at its end. They are written into the
+            /// lent room, and the input is judged again, once for all of them.
+            ///
+            /// ```
+            /// # use brundilope::{samples, Contents, DataDatagram, DataPacket, LARGEST_LINES};
+            /// let (mut room, mut text) = (Contents::new(), [0; LARGEST_LINES]);
+            #[doc = concat!("let it = ", stringify!($data), "::read(", $sample, ", &mut room)?;")]
+            /// let mut lines = it.lines(&mut text);
+            #[doc = concat!("assert_eq!(lines.next(), Some(", $text, "));")]
+            /// # Ok::<(), brundilope::Refusal>(())
+            /// ```
+            pub fn lines<'r>(&self, room: &'r mut [u8; LARGEST_LINES]) -> Lines<'r> {
+                let answer = raw::$lines(self.0.input, room);
+                Lines::new(&room[..answer.written], self.count())
+            }
+
+            /// A record by its number, from 0, that prints as its billing line; none where there is no such record.
+            /// Each time it prints, the input is judged again.
+            ///
+            /// ```
+            /// # use brundilope::{samples, Contents, DataDatagram, DataPacket};
+            /// # let mut room = Contents::new();
+            #[doc = concat!("let it = ", stringify!($data), "::read(", $sample, ", &mut room)?;")]
+            #[doc = concat!("assert_eq!(it.line(0).unwrap().to_string(), ", $text, ");")]
+            /// assert!(it.line(it.records().len()).is_none());
+            /// # Ok::<(), brundilope::Refusal>(())
+            /// ```
+            #[must_use]
+            pub fn line(&self, number: usize) -> Option<RecordLine<'a>> {
+                (number < self.count().into()).then(|| RecordLine::new(self.0.input, number, raw::$line))
             }
 
             /// A copy that borrows nothing: it allocates, and is not judged again.
@@ -172,8 +208,26 @@ macro_rules! judged {
     };
 }
 
-judged!(DataPacket, OwnedPacket, as_packet, "samples::CODEC16", "[1_562_760_414_000, 1_562_760_415_000]");
-judged!(DataDatagram, OwnedDatagram, as_datagram, "samples::UDP_CODEC8", "[1_560_407_006_000]");
+judged!(
+    DataPacket,
+    OwnedPacket,
+    as_packet,
+    line_of_packet,
+    lines_of_packet,
+    "samples::CODEC16",
+    "[1_562_760_414_000, 1_562_760_415_000]",
+    r#""1562760414000,0.0000000,0.0000000,0,1=0,3=0,11=39,66=22074\n""#
+);
+judged!(
+    DataDatagram,
+    OwnedDatagram,
+    as_datagram,
+    line_of_datagram,
+    lines_of_datagram,
+    "samples::UDP_CODEC8",
+    "[1_560_407_006_000]",
+    r#""1560407006000,0.0000000,0.0000000,0,21=3,1=1,66=23996\n""#
+);
 
 /// A TCP data packet with its contents, judged once.
 ///

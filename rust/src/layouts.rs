@@ -1,7 +1,9 @@
 //! Holds the structs of `raw` to the lines of tests/layouts, as tests/layouts.c holds the header's.
 use core::mem::{offset_of, size_of};
 
-use crate::raw::{Command, Connection, Datagram, Known, Login, Packet, Record, Taken, Value, Written};
+use crate::raw::{
+    Command, Connection, Datagram, Known, Line, LineElement, Login, Packet, Record, Taken, Value, Written,
+};
 
 fn size_of_field<S, F>(_: fn(&S) -> &F) -> usize {
     size_of::<F>()
@@ -40,6 +42,8 @@ fn layouts_are_those_of_the_header() {
         Value as "value" { number, index, id, kind, offset, size }
         Known as "known" { number, index, older, id, kind, offset, size }
         Written as "written" { number, index, written }
+        Line as "line" { number, index, timestamp, longitude, latitude, speed, elements, start }
+        LineElement as "line_element" { number, index, id, tag, value, size, next }
         Connection as "connection" { held, fill, phase }
         Taken as "taken" { number, index, used, item, imei, size, fill, phase }
     };

@@ -39,14 +39,29 @@
 //! }
 //! ```
 //!
+//! A record becomes a line of text for the billing desk, and a [`Line`] is read back:
+//!
+//! ```
+//! use brundilope::{samples, Contents, DataPacket, Line, LARGEST_LINES};
+//!
+//! let (mut room, mut text) = (Contents::new(), [0; LARGEST_LINES]);
+//! let packet = DataPacket::read(samples::DRIVER_TAGS, &mut room)?;
+//! for line in packet.lines(&mut text) {
+//!     print!("{line}");
+//!     let line = Line::read(line.as_bytes())?;
+//!     assert_eq!(line.elements().next().map(|element| element.id), Some(21));
+//! }
+//! # Ok::<(), brundilope::Refusal>(())
+//! ```
+//!
 //! The functions are for one thing at a time, such as a value by its ID ([`id_in_packet`]): each call judges its whole
 //! input anew.
 //!
 //! # Buffers
 //!
 //! A function that writes puts its result at the start of the lent buffer, gives the number of bytes written and
-//! changes nothing behind them. A refusal changes no byte. [`LARGEST`] bytes are enough for every packet and
-//! [`LARGEST_FORM`] for every TLV form.
+//! changes nothing behind them. A refusal changes no byte. [`LARGEST`] bytes are enough for every packet,
+//! [`LARGEST_FORM`] for every TLV form and [`LARGEST_LINES`] for all lines of a packet.
 //!
 //! # Building
 //!
@@ -62,6 +77,10 @@ pub const LARGEST: usize = 1280;
 /// The most bytes of a TLV form: it has at most four times as many as its packet.
 pub const LARGEST_FORM: usize = 4 * LARGEST;
 
+/// The most bytes of all billing lines of a packet or a datagram together, and so of any one line: they have at most
+/// four times as many as their packet.
+pub const LARGEST_LINES: usize = 4 * LARGEST;
+
 /// The most words of a table of contents: it has at most one for every two bytes of its packet or datagram.
 pub const LARGEST_CONTENTS: usize = LARGEST / 2;
 
@@ -69,6 +88,7 @@ mod connection;
 mod contents;
 #[cfg(test)]
 mod layouts;
+mod lines;
 mod lookup;
 #[allow(unsafe_code)]
 mod raw;
@@ -80,6 +100,7 @@ mod writing;
 
 pub use connection::{Connection, Fed, Item, Items, Phase, ReceivedCommand, ReceivedData};
 pub use contents::{Contents, DataDatagram, DataPacket, OwnedDatagram, OwnedPacket};
+pub use lines::{element_in_line, wrong_byte, Line, LineElement, LineElements, LineValue, Lines, RecordLine, Tag};
 pub use lookup::{
     id_in_datagram, id_in_packet, last_known, record_in_datagram, record_in_packet, value_in_datagram, value_in_packet,
     LastKnown, Record, Source, Value,
@@ -88,6 +109,6 @@ pub use reading::{read_command, read_datagram, read_login, read_packet, Command,
 pub use records::{DataRecord, Records, Values};
 pub use refusal::Refusal;
 pub use writing::{
-    acknowledge_datagram, acknowledge_packet, answer_login, form_of_datagram, form_of_packet, packet_of_form,
-    write_command,
+    acknowledge_datagram, acknowledge_packet, answer_login, form_of_datagram, form_of_packet, line_of_datagram,
+    line_of_packet, lines_of_datagram, lines_of_packet, packet_of_form, write_command,
 };

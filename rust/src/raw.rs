@@ -88,6 +88,29 @@ pub struct Written {
 }
 
 #[repr(C)]
+pub struct Line {
+    pub number: usize,
+    pub index: usize,
+    pub timestamp: u64,
+    pub longitude: i32,
+    pub latitude: i32,
+    pub speed: u16,
+    pub elements: usize,
+    pub start: usize,
+}
+
+#[repr(C)]
+pub struct LineElement {
+    pub number: usize,
+    pub index: usize,
+    pub id: u16,
+    pub tag: bool,
+    pub value: u64,
+    pub size: usize,
+    pub next: usize,
+}
+
+#[repr(C)]
 #[derive(Clone, PartialEq, Eq, Hash)]
 pub struct Connection {
     pub held: [u8; LARGEST],
@@ -131,15 +154,17 @@ on_input! {
     value_in_datagram, brundilope_value_in_datagram(record: usize, element: usize) -> Value;
     id_in_packet, brundilope_id_in_packet(record: usize, id: u16) -> Value;
     id_in_datagram, brundilope_id_in_datagram(record: usize, id: u16) -> Value;
+    read_line, brundilope_read_line() -> Line;
+    wrong_byte, brundilope_wrong_byte() -> usize;
 }
 
 /// Declares calls that write what belongs to one input into a lent buffer.
 macro_rules! into_buffer {
-    ($($safe:ident, $call:ident($($word:ident: $width:ty),*);)*) => {
+    ($($safe:ident, $call:ident($($word:ident: $width:ty),*) -> $answer:ty;)*) => {
         extern "C" {
-            $(fn $call(p: *const u8, p_len: usize, $($word: $width,)* out: *mut u8, out_len: usize) -> Written;)*
+            $(fn $call(p: *const u8, p_len: usize, $($word: $width,)* out: *mut u8, out_len: usize) -> $answer;)*
         }
-        $(pub fn $safe(p: &[u8], $($word: $width,)* out: &mut [u8]) -> Written {
+        $(pub fn $safe(p: &[u8], $($word: $width,)* out: &mut [u8]) -> $answer {
             // SAFETY: pointers and lengths are those of two slices, which do not overlap since one is `&mut`; the call
             // writes only within the second and keeps none of them.
             unsafe { $call(p.as_ptr(), p.len(), $($word,)* out.as_mut_ptr(), out.len()) }
@@ -148,12 +173,18 @@ macro_rules! into_buffer {
 }
 
 into_buffer! {
-    answer_login, brundilope_answer_login(known: bool);
-    acknowledge_packet, brundilope_acknowledge_packet();
-    acknowledge_datagram, brundilope_acknowledge_datagram();
-    form_of_packet, brundilope_form_of_packet();
-    form_of_datagram, brundilope_form_of_datagram();
-    packet_of_form, brundilope_packet_of_form();
+    answer_login, brundilope_answer_login(known: bool) -> Written;
+    acknowledge_packet, brundilope_acknowledge_packet() -> Written;
+    acknowledge_datagram, brundilope_acknowledge_datagram() -> Written;
+    form_of_packet, brundilope_form_of_packet() -> Written;
+    form_of_datagram, brundilope_form_of_datagram() -> Written;
+    packet_of_form, brundilope_packet_of_form() -> Written;
+    line_of_packet, brundilope_line_of_packet(record: usize) -> Written;
+    line_of_datagram, brundilope_line_of_datagram(record: usize) -> Written;
+    lines_of_packet, brundilope_lines_of_packet() -> Written;
+    lines_of_datagram, brundilope_lines_of_datagram() -> Written;
+    element_in_line, brundilope_element_in_line(element: usize) -> LineElement;
+    element_at, brundilope_element_at(at: usize) -> LineElement;
 }
 
 /// Declares calls that write the table of contents of one input into lent words; they give the words written, too.

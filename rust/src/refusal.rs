@@ -2,8 +2,8 @@
 use std::error::Error;
 use std::fmt::{Display, Formatter, Result as Printed};
 
-/// The meanings of refusals 1 to 19, as in include/brundilope.h.
-const MEANINGS: [&str; 19] = [
+/// The meanings of refusals 1 to 20, as in include/brundilope.h.
+const MEANINGS: [&str; 20] = [
     "under 8 bytes (TCP packet), 17 (login), 26 (UDP)",
     "first four bytes not zero",
     "data length outside 3 to 1,268; datagram over 1,280",
@@ -23,6 +23,7 @@ const MEANINGS: [&str; 19] = [
     "not the TLV form of any acceptable TCP data packet",
     "lent buffer too short for the result",
     "connection closed, or a state that no feeds from a fresh one give",
+    "not a billing line",
 ];
 
 /// Why an input was refused.
@@ -40,7 +41,7 @@ const MEANINGS: [&str; 19] = [
 /// ```
 #[derive(Clone, Copy, Debug, PartialEq, Eq, Hash)]
 pub struct Refusal {
-    /// The number, 1 to 19.
+    /// The number, 1 to 20.
     pub number: usize,
     /// The record's index, from 0. It goes with 8 to 12 in data packets and datagrams; left-over bytes have the number
     /// of records.
@@ -72,7 +73,7 @@ impl Display for Refusal {
 
 impl Error for Refusal {}
 
-/// The judgement of a login, command or form, which have no records: `number` is 0 where it is accepted.
+/// The judgement of a login, command, form or line, which have no records: `number` is 0 where it is accepted.
 #[inline]
 pub(crate) fn judged(number: usize) -> Result<(), Refusal> {
     match number {

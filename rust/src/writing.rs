@@ -1,4 +1,4 @@
-//! Answers to units, commands and TLV forms, written into a lent buffer.
+//! Answers to units, commands, TLV forms and billing lines, written into a lent buffer.
 use crate::raw;
 use crate::refusal::{data_judged, judged, Refusal};
 
@@ -115,4 +115,55 @@ pub fn form_of_datagram(datagram: &[u8], out: &mut [u8]) -> Result<usize, Refusa
 /// ```
 pub fn packet_of_form(form: &[u8], out: &mut [u8]) -> Result<usize, Refusal> {
     written(raw::packet_of_form(form, out))
+}
+
+/// Writes the billing line of a record of a TCP data packet, by its number, from 0. Refusals 1 to 12, then 16, then 18.
+///
+/// ```
+/// let mut line = [0; brundilope::LARGEST_LINES];
+/// let size = brundilope::line_of_packet(brundilope::samples::DRIVER_TAGS, 1, &mut line)?;
+/// assert_eq!(&line[..size], b"1562760415000,25.2795940,54.6871320,46,21=3,403=\"Ona\",403=\"Jonas\"\n");
+/// # Ok::<(), brundilope::Refusal>(())
+/// ```
+pub fn line_of_packet(packet: &[u8], record: usize, out: &mut [u8]) -> Result<usize, Refusal> {
+    data_written(raw::line_of_packet(packet, record, out))
+}
+
+/// Writes the billing line of a record of a datagram, by its number, from 0. Refusals 1, 3, 4, 15, 6 to 12, then 16,
+/// then 18.
+///
+/// ```
+/// let mut line = [0; brundilope::LARGEST_LINES];
+/// let size = brundilope::line_of_datagram(brundilope::samples::UDP_CODEC8, 0, &mut line)?;
+/// assert_eq!(&line[..size], b"1560407006000,0.0000000,0.0000000,0,21=3,1=1,66=23996\n");
+/// # Ok::<(), brundilope::Refusal>(())
+/// ```
+pub fn line_of_datagram(datagram: &[u8], record: usize, out: &mut [u8]) -> Result<usize, Refusal> {
+    data_written(raw::line_of_datagram(datagram, record, out))
+}
+
+/// Writes the billing lines of all records of a TCP data packet, which is judged once. Refusals 1 to 12, then 18.
+///
+/// ```
+/// let mut lines = [0; brundilope::LARGEST_LINES];
+/// let size = brundilope::lines_of_packet(brundilope::samples::CODEC16, &mut lines)?;
+/// let text = "1562760414000,0.0000000,0.0000000,0,1=0,3=0,11=39,66=22074\n\
+///             1562760415000,0.0000000,0.0000000,0,1=0,3=0,11=38,66=22074\n";
+/// assert_eq!(&lines[..size], text.as_bytes());
+/// # Ok::<(), brundilope::Refusal>(())
+/// ```
+pub fn lines_of_packet(packet: &[u8], out: &mut [u8]) -> Result<usize, Refusal> {
+    data_written(raw::lines_of_packet(packet, out))
+}
+
+/// Writes the billing lines of all records of a datagram, which is judged once. Refusals 1, 3, 4, 15, 6 to 12, then 18.
+///
+/// ```
+/// let mut lines = [0; brundilope::LARGEST_LINES];
+/// let size = brundilope::lines_of_datagram(brundilope::samples::UDP_CODEC8, &mut lines)?;
+/// assert_eq!(&lines[..size], b"1560407006000,0.0000000,0.0000000,0,21=3,1=1,66=23996\n");
+/// # Ok::<(), brundilope::Refusal>(())
+/// ```
+pub fn lines_of_datagram(datagram: &[u8], out: &mut [u8]) -> Result<usize, Refusal> {
+    data_written(raw::lines_of_datagram(datagram, out))
 }

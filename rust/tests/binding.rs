@@ -1,6 +1,6 @@
 //! What a wrong binding would get wrong: fields in another's place, offsets, records of refusals, lent buffers.
 use brundilope::*;
-use inputs::{datagram, long_form, packet, with, DATA, RECORD, VALUES};
+use inputs::{datagram, long_form, packet, with, DATA, LINES, RECORD, VALUES};
 
 mod inputs;
 
@@ -72,6 +72,10 @@ fn a_refusal_says_its_record() {
     assert_eq!(last_known(samples::CODEC8, p, 67).err(), Some(refusal));
     assert_eq!(form_of_packet(p, out), Err(refusal));
     assert_eq!(form_of_datagram(d, out), Err(refusal));
+    assert_eq!(line_of_packet(p, 9, out), Err(refusal));
+    assert_eq!(line_of_datagram(d, 9, out), Err(refusal));
+    assert_eq!(lines_of_packet(p, out), Err(refusal));
+    assert_eq!(lines_of_datagram(d, out), Err(refusal));
     assert_eq!(acknowledge_datagram(d, out), Err(refusal));
     assert_eq!(out, [0; 512]);
 }
@@ -129,7 +133,8 @@ fn writers_keep_to_their_result() {
     let mut form = [0; LARGEST_FORM];
     let size = form_of_packet(&packet, &mut form).unwrap();
     let form = &form[..size];
-    let writers: [Writer; 8] = [
+    let (first, second) = LINES.split_at(LINES.iter().position(|byte| *byte == b'\n').unwrap() + 1);
+    let writers: [Writer; 12] = [
         (&|out| answer_login(samples::LOGIN, true, out), &[1]),
         (&|out| answer_login(samples::LOGIN, false, out), &[0]),
         (&|out| acknowledge_packet(&packet, out), &[0, 0, 0, 2]),
@@ -138,6 +143,10 @@ fn writers_keep_to_their_result() {
         (&|out| form_of_packet(&packet, out), form),
         (&|out| form_of_datagram(&datagram, out), form),
         (&|out| packet_of_form(form, out), &packet),
+        (&|out| line_of_packet(&packet, 0, out), first),
+        (&|out| line_of_datagram(&datagram, 1, out), second),
+        (&|out| lines_of_packet(&packet, out), LINES),
+        (&|out| lines_of_datagram(&datagram, out), LINES),
     ];
     for (n, (write, result)) in writers.iter().enumerate() {
         let mut short = vec![0xEE; result.len() - 1];
@@ -172,6 +181,10 @@ fn empty_inputs_get_their_refusals() {
     assert_eq!(packet_of_form(&[], &mut []).map_err(number), Err(17));
     assert_eq!(acknowledge_packet(&[], &mut []).map_err(number), Err(18));
     assert_eq!(answer_login(&[], true, &mut []).map_err(number), Err(18));
+    assert_eq!(lines_of_packet(&[], &mut []).map_err(number), Err(1));
+    assert_eq!(Line::read(&[]).map_err(number), Err(20));
+    assert_eq!(element_in_line(&[], 0).map_err(number), Err(20));
+    assert_eq!(wrong_byte(&[]), Some(0));
 }
 
 #[test]
@@ -192,12 +205,12 @@ fn all_samples_are_accepted() {
 #[test]
 fn meanings_are_those_of_the_header() {
     let header = include_str!("../../include/brundilope.h");
-    for number in 1..=19 {
+    for number in 1..=20 {
         let meaning = Refusal { number, record: None }.meaning();
         let line = format!("\n *   {number:2}  {meaning}\n");
         assert!(header.contains(&line), "not in the header: {line}");
     }
-    assert_eq!(Refusal { number: 0, record: None }.meaning(), Refusal { number: 20, record: None }.meaning());
+    assert_eq!(Refusal { number: 0, record: None }.meaning(), Refusal { number: 21, record: None }.meaning());
 }
 
 #[test]
@@ -206,6 +219,8 @@ fn sizes_are_those_of_the_header_and_the_library() {
     assert!(header.contains(&format!("\n#define BRUNDILOPE_LARGEST {LARGEST}\n")));
     assert!(header.contains("\n#define BRUNDILOPE_LARGEST_FORM (4 * BRUNDILOPE_LARGEST)\n"));
     assert_eq!(LARGEST_FORM, 4 * LARGEST);
+    assert!(header.contains("\n#define BRUNDILOPE_LARGEST_LINES (4 * BRUNDILOPE_LARGEST)\n"));
+    assert_eq!(LARGEST_LINES, 4 * LARGEST);
     assert!(header.contains("\n#define BRUNDILOPE_LARGEST_CONTENTS (BRUNDILOPE_LARGEST / 2)\n"));
     assert_eq!(LARGEST_CONTENTS, LARGEST / 2);
     let text = [0; LARGEST - 19]; // one byte too many: 20 bytes of a packet are not text

@@ -2,6 +2,7 @@
 use brundilope::*;
 use inputs::{datagram, long_form, packet, with, DATA, RECORD, VALUES};
 
+#[allow(dead_code)] // the rest is for other tests
 mod inputs;
 
 /// The look-ups in packets or in datagrams, whose first record begins at `start`; `behind` bytes follow the last one.

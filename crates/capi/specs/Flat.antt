@@ -14,6 +14,8 @@ use Rattle.connection.specs.declared.Lent.{Lent}
 use Rattle.connection.specs.declared.Item.{Item}
 use Rattle.connection.specs.declared.Item.the-variants.{More, Login, Packet, Refused}
 use Rattle.connection.specs.Feeding.{itemRefusal}
+use Rattle.scan.specs.declared.LineFields.{LineFields}
+use Rattle.scan.specs.declared.LineElement.{LineElement}
 use Rattle.capi.specs.declared.FedC.{FedC}
 use Rattle.capi.specs.declared.LentC.{LentC}
 use Rattle.capi.specs.declared.RecordC.{RecordC}
@@ -24,6 +26,8 @@ use Rattle.capi.specs.declared.PacketC.{PacketC}
 use Rattle.capi.specs.declared.DatagramC.{DatagramC}
 use Rattle.capi.specs.declared.LoginC.{LoginC}
 use Rattle.capi.specs.declared.CommandC.{CommandC}
+use Rattle.capi.specs.declared.LineC.{LineC}
+use Rattle.capi.specs.declared.LineElementC.{LineElementC}
 
 unfoldable pub flatWritten : Answer ℕ → WrittenC
 flatWritten (accepted n) = record { number = 0; index = 0; written = n }
@@ -143,3 +147,22 @@ unfoldable pub flatKnown : Answer KnownResult → KnownC
 flatKnown (accepted k) =
     record { number = 0; index = 0; older = k .older; id = k .value .id; kind = k .value .kind; offset = k .value .offset; size = k .value .size }
 flatKnown (refused x) = record { number = x .number; index = x .index; older = false; id = 0; kind = 0; offset = 0; size = 0 }
+
+unfoldable pub flatLine : Answer LineFields → LineC
+flatLine (accepted f) =
+    record {
+      number = 0;
+      index = 0;
+      timestamp = f .timestamp;
+      longitude = f .longitude;
+      latitude = f .latitude;
+      speed = f .speed;
+      elements = f .elements;
+      start = f .start;
+    }
+flatLine (refused x) =
+    record { number = x .number; index = x .index; timestamp = 0; longitude = pos 0; latitude = pos 0; speed = 0; elements = 0; start = 0 }
+
+unfoldable pub flatElement : Answer LineElement → LineElementC
+flatElement (accepted e) = record { number = 0; index = 0; id = e .id; tag = e .tag; value = e .value; size = e .size; next = e .next }
+flatElement (refused x) = record { number = x .number; index = x .index; id = 0; tag = false; value = 0; size = 0; next = 0 }

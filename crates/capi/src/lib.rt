@@ -9,6 +9,8 @@ use lookup::KnownAnswer;
 use lookup::RecordAnswer;
 use lookup::ValueAnswer;
 use packet::PacketAnswer;
+use scan::LineAnswer;
+use scan::LineElementAnswer;
 use wire::LARGEST;
 use wire::Written;
 ghost use mathlib.Core.Path.{_≡_};
@@ -19,7 +21,7 @@ ghost use Rattle.datagram.specs.Datagrams.{answerDatagram, udpAcknowledgement};
 ghost use Rattle.login.specs.Login.{readLogin, loginAnswer};
 ghost use Rattle.command.specs.Commands.{answerCommand};
 ghost use Rattle.command.specs.Writing.{commandBytes};
-ghost use Rattle.capi.specs.Flat.{flatFed, flatLent, flatWritten, flatPacket, flatDatagram, flatLogin, flatCommand, flatRecord, flatValue, flatKnown};
+ghost use Rattle.capi.specs.Flat.{flatFed, flatLent, flatWritten, flatPacket, flatDatagram, flatLogin, flatCommand, flatRecord, flatValue, flatKnown, flatLine, flatElement};
 ghost use Rattle.tlv.specs.PacketOf.{formOfPacket, formOfDatagram, packetOfForm};
 ghost use Rattle.lookup.specs.Lookups.{tcpSource, udpSource, recordByNumber, valueByNumber, valueById, lastKnown};
 ghost use Rattle.contents.specs.Contents.{contentsOfPacket, contentsOfDatagram};
@@ -27,6 +29,10 @@ ghost use Rattle.connection.specs.State.{fresh, wanted};
 ghost use Rattle.connection.specs.Feeding.{fed, fedInto, packetIn, fedAs, lentAs};
 ghost use Rattle.wire.specs.Limits.{baseLimits};
 ghost use Rattle.lookup.specs.Answers.{recordAs, valueAs, answerValue, answerKnown};
+ghost use Rattle.line.specs.RecordLines.{lineOfPacket, lineOfDatagram, linesOfPacket, linesOfDatagram};
+ghost use Rattle.line.specs.LineReader.{wrongAt};
+ghost use Rattle.line.specs.LineElements.{elementOf, elementAt};
+ghost use Rattle.scan.specs.Answers.{answerLine, elementAs, answerElement, leavingElement};
 
 #[repr(C)]
 pub struct WrittenC {
@@ -556,4 +562,137 @@ pub extern "C" fn brundilope_wanted(phase: u8, fill: usize, held: &[u8]) -> usiz
     ensures { λ r. ⌜ r ≡ wanted baseLimits 1280 (record { held = now (held .entry); fill = fill; phase = phase }) ⌝ }
 {
     connection::wanted(phase, fill, held)
+}
+
+// ---- lines for the billing desk
+
+#[repr(C)]
+pub struct LineC {
+    pub number: usize,
+    pub index: usize,
+    pub timestamp: u64,
+    pub longitude: i32,
+    pub latitude: i32,
+    pub speed: u16,
+    pub elements: usize,
+    pub start: usize,
+}
+
+#[repr(C)]
+pub struct LineElementC {
+    pub number: usize,
+    pub index: usize,
+    pub id: u16,
+    pub tag: bool,
+    pub value: u64,
+    pub size: usize,
+    pub next: usize,
+}
+
+#[no_mangle]
+pub extern "C" fn brundilope_line_of_packet(p: &[u8], n: usize, out: &mut [u8]) -> WrittenC
+    ensures answer { λ r. ⌜ r ≡ flatWritten (writing (lineOfPacket baseLimits (now (p .entry)) n) (now (out .entry))) ⌝ }
+    ensures buffer { λ r. ⌜ now (out .exit) ≡ leaving (lineOfPacket baseLimits (now (p .entry)) n) (now (out .entry)) ⌝ }
+{
+    flat_written(print::line_of_packet(p, n, out))
+}
+
+#[no_mangle]
+pub extern "C" fn brundilope_line_of_datagram(p: &[u8], n: usize, out: &mut [u8]) -> WrittenC
+    ensures answer { λ r. ⌜ r ≡ flatWritten (writing (lineOfDatagram baseLimits (now (p .entry)) n) (now (out .entry))) ⌝ }
+    ensures buffer { λ r. ⌜ now (out .exit) ≡ leaving (lineOfDatagram baseLimits (now (p .entry)) n) (now (out .entry)) ⌝ }
+{
+    flat_written(print::line_of_datagram(p, n, out))
+}
+
+#[no_mangle]
+pub extern "C" fn brundilope_lines_of_packet(p: &[u8], out: &mut [u8]) -> WrittenC
+    ensures answer { λ r. ⌜ r ≡ flatWritten (writing (linesOfPacket baseLimits (now (p .entry))) (now (out .entry))) ⌝ }
+    ensures buffer { λ r. ⌜ now (out .exit) ≡ leaving (linesOfPacket baseLimits (now (p .entry))) (now (out .entry)) ⌝ }
+{
+    flat_written(print::lines_of_packet(p, out))
+}
+
+#[no_mangle]
+pub extern "C" fn brundilope_lines_of_datagram(p: &[u8], out: &mut [u8]) -> WrittenC
+    ensures answer { λ r. ⌜ r ≡ flatWritten (writing (linesOfDatagram baseLimits (now (p .entry))) (now (out .entry))) ⌝ }
+    ensures buffer { λ r. ⌜ now (out .exit) ≡ leaving (linesOfDatagram baseLimits (now (p .entry))) (now (out .entry)) ⌝ }
+{
+    flat_written(print::lines_of_datagram(p, out))
+}
+
+#[no_mangle]
+pub extern "C" fn brundilope_read_line(s: &[u8]) -> LineC
+    ensures { λ r. ⌜ r ≡ flatLine (answerLine (now (s .entry))) ⌝ }
+{
+    match scan::read_line(s) {
+        LineAnswer::Fields(f) => LineC {
+            number: 0,
+            index: 0,
+            timestamp: f.timestamp,
+            longitude: f.longitude,
+            latitude: f.latitude,
+            speed: f.speed,
+            elements: f.elements,
+            start: f.start,
+        },
+        LineAnswer::Refused(r) => LineC {
+            number: r.number,
+            index: r.index,
+            timestamp: 0,
+            longitude: 0,
+            latitude: 0,
+            speed: 0,
+            elements: 0,
+            start: 0,
+        },
+    }
+}
+
+fn flat_element(a: LineElementAnswer) -> LineElementC
+    ensures { λ r. ⌜ r ≡ flatElement (elementAs a) ⌝ }
+{
+    match a {
+        LineElementAnswer::Found(e) => LineElementC {
+            number: 0,
+            index: 0,
+            id: e.id,
+            tag: e.tag,
+            value: e.value,
+            size: e.size,
+            next: e.next,
+        },
+        LineElementAnswer::Refused(r) => LineElementC {
+            number: r.number,
+            index: r.index,
+            id: 0,
+            tag: false,
+            value: 0,
+            size: 0,
+            next: 0,
+        },
+    }
+}
+
+#[no_mangle]
+pub extern "C" fn brundilope_element_in_line(s: &[u8], k: usize, out: &mut [u8]) -> LineElementC
+    ensures answer { λ r. ⌜ r ≡ flatElement (answerElement (elementOf (now (s .entry)) k) (now (out .entry))) ⌝ }
+    ensures buffer { λ r. ⌜ now (out .exit) ≡ leavingElement (elementOf (now (s .entry)) k) (now (out .entry)) ⌝ }
+{
+    flat_element(scan::element_in_line(s, k, out))
+}
+
+#[no_mangle]
+pub extern "C" fn brundilope_element_at(s: &[u8], at: usize, out: &mut [u8]) -> LineElementC
+    ensures answer { λ r. ⌜ r ≡ flatElement (answerElement (elementAt (now (s .entry)) at) (now (out .entry))) ⌝ }
+    ensures buffer { λ r. ⌜ now (out .exit) ≡ leavingElement (elementAt (now (s .entry)) at) (now (out .entry)) ⌝ }
+{
+    flat_element(scan::element_at(s, at, out))
+}
+
+#[no_mangle]
+pub extern "C" fn brundilope_wrong_byte(s: &[u8]) -> usize
+    ensures { λ r. ⌜ r ≡ wrongAt (now (s .entry)) ⌝ }
+{
+    scan::wrong_byte(s)
 }

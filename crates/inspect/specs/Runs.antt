@@ -2,10 +2,10 @@
 use Prim.Native.Nat.{ℕ}
 use mathlib.Core.List.{List}
 use Rattle.wire.specs.Numbers.{pick}
-use Rattle.report.specs.Shown.{packetRefusal, datagramRefusal, loginRefusal, commandRefusal, connectionRefusal, packetOfFormRefusal, formOfPacketRefusal, formOfDatagramRefusal}
+use Rattle.report.specs.Shown.{packetRefusal, datagramRefusal, loginRefusal, commandRefusal, connectionRefusal, linesRefusal, packetOfFormRefusal, formOfPacketRefusal, formOfDatagramRefusal, linesOfPacketRefusal, linesOfDatagramRefusal}
 use Rattle.inspect.specs.FirstBytes.{isTcp}
 use Rattle.inspect.specs.declared.Task.{Task}
-use Rattle.inspect.specs.declared.Task.the-variants.{Auto, Packet, Datagram, Login, Command, Form, Connection, FormOf, PacketOf, Write, Help, Unknown}
+use Rattle.inspect.specs.declared.Task.the-variants.{Auto, Packet, Datagram, Login, Command, Form, Connection, Line, FormOf, PacketOf, Lines, Write, Help, Unknown}
 
 -- by a task on an input of the kind that it asks for
 unfoldable pub refusalBy : Task → List ℕ → ℕ
@@ -16,8 +16,10 @@ refusalBy Login p = loginRefusal p
 refusalBy Command p = commandRefusal p
 refusalBy Form p = packetOfFormRefusal p
 refusalBy Connection p = connectionRefusal p
+refusalBy Line p = linesRefusal p
 refusalBy FormOf p = pick (isTcp p) (formOfPacketRefusal p) (formOfDatagramRefusal p)
 refusalBy PacketOf p = packetOfFormRefusal p
+refusalBy Lines p = pick (isTcp p) (linesOfPacketRefusal p) (linesOfDatagramRefusal p)
 refusalBy Write p = 0
 refusalBy Help p = 0
 refusalBy Unknown p = 0

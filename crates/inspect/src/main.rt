@@ -1,5 +1,6 @@
 // Says what is in a packet, datagram, login, command or TLV form, or why it is refused; shows a captured
-// connection item by item; turns packets into TLV forms and back; writes commands. `usage` says with which words.
+// connection item by item; turns packets into TLV forms and back, and into billing lines, which it also reads;
+// writes commands. `usage` says with which words.
 mod input;
 
 ghost use mathlib.Core.Path.{_≡_};
@@ -19,8 +20,10 @@ pub enum Task {
     Command,
     Form,
     Connection,
+    Line,
     FormOf,
     PacketOf,
+    Lines,
     Write,
     Help,
     Unknown,
@@ -32,11 +35,13 @@ fn usage(fd: i32) {
         b"inspect [KIND] [FILE]            what is in the input, or its refusal\n\
 inspect form-of [FILE]           the TLV form of a TCP data packet or a datagram, as hex text\n\
 inspect packet-of [FILE]         the TCP data packet of a TLV form, as hex text\n\
+inspect lines [FILE]             the billing lines of a TCP data packet or a datagram, one for each record\n\
 inspect write MESSAGE TEXT       a command packet of codec 12, as hex text\n\
 inspect write MESSAGE IMEI TEXT  the same of codec 14\n\
 inspect help                     this text\n\
-KIND: packet, datagram, login, command, form, connection, or auto (found out, also if left out)\n\
+KIND: packet, datagram, login, command, form, connection, line, or auto (found out, also if left out)\n\
 connection: a login and packets one behind another, shown item by item; its bytes count from 0\n\
+line: billing lines, shown one by one; taken as they are, never as hex text; lines and bytes count from 0\n\
 FILE: at most 65536 bytes, hex text or as they are; standard input if left out or -\n\
 MESSAGE: 12 or 14 (a command), 12-response, 14-response, 14-mismatch (IMEI doesn't match)\n\
 A refusal is a line 'refused: NUMBER ..' on standard output. The exit status says nothing.\n",
@@ -47,13 +52,18 @@ fn fail(line: &[u8]) {
     io::write_all(STDERR_FILENO, line);
 }
 
+fn empty() {
+    fail(b"inspect: the input is empty\n");
+}
+
 fn wrong() {
     fail(b"inspect: wrong words\n");
     usage(STDERR_FILENO);
 }
 
 fn task_of(i: usize) -> Task {
-    let words = b"auto packet datagram login command form connection form-of packet-of write help ";
+    let words =
+        b"auto packet datagram login command form connection line form-of packet-of lines write help ";
     match input::place_of_word(i, words) {
         0 => Task::Auto,
         1 => Task::Packet,
@@ -62,10 +72,12 @@ fn task_of(i: usize) -> Task {
         4 => Task::Command,
         5 => Task::Form,
         6 => Task::Connection,
-        7 => Task::FormOf,
-        8 => Task::PacketOf,
-        9 => Task::Write,
-        10 => Task::Help,
+        7 => Task::Line,
+        8 => Task::FormOf,
+        9 => Task::PacketOf,
+        10 => Task::Lines,
+        11 => Task::Write,
+        12 => Task::Help,
         _ => Task::Unknown,
     }
 }
@@ -81,8 +93,10 @@ fn run(task: Task, p: &[u8]) -> usize
         Task::Command => report::show_command(p),
         Task::Form => report::show_form(p),
         Task::Connection => report::show_connection(p),
+        Task::Line => report::show_lines(p),
         Task::FormOf => run_form_of(p),
         Task::PacketOf => report::say_packet_of(p),
+        Task::Lines => run_lines(p),
         Task::Auto => 0,
         Task::Write => 0,
         Task::Help => 0,
@@ -99,13 +113,28 @@ fn run_form_of(p: &[u8]) -> usize
     report::say_form_of_datagram(p)
 }
 
+fn run_lines(p: &[u8]) -> usize
+    ensures { λ r. ⌜ r ≡ refusalBy Task.Lines (now (p .entry)) ⌝ }
+{
+    if input::is_tcp(p) {
+        return report::say_lines_of_packet(p);
+    }
+    report::say_lines_of_datagram(p)
+}
+
 fn run_on(task: Task, p: &[u8]) {
     match task {
         Task::Auto => {
             if p.len() == 0 {
-                return fail(b"inspect: the input is empty\n");
+                return empty();
             }
             run(input::found(p), p);
+        }
+        Task::Line => {
+            if p.len() == 0 {
+                return empty();
+            }
+            run(task, p);
         }
         _ => {
             run(task, p);
@@ -138,6 +167,14 @@ fn run_on_text(task: Task, s: &[u8]) {
     }
 }
 
+// Billing lines are taken as they are: one that is cut short may look like hex text.
+fn run_on_input(task: Task, s: &[u8]) {
+    match task {
+        Task::Line => run_on(task, s),
+        _ => run_on_text(task, s),
+    }
+}
+
 // Reads the file that word `i` names, and does the task on it.
 fn inspect(task: Task, i: usize) {
     let mut buf = [0u8; 65537];
@@ -146,7 +183,7 @@ fn inspect(task: Task, i: usize) {
         Input::Long => fail(b"inspect: the input is longer than 65536 bytes\n"),
         Input::Bytes(n) => {
             if n <= buf.len() {
-                run_on_text(task, &buf[0..n]);
+                run_on_input(task, &buf[0..n]);
             }
         }
     }

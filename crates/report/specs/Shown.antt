@@ -3,6 +3,7 @@ use Prim.Native.Nat.{ℕ, _*_}
 use mathlib.Core.Bool.{Bool}
 use mathlib.Core.List.{List, [], _∷_}
 use lib.ListN.{replicate}
+use lib.Dec.{eqb}
 use Rattle.wire.specs.Numbers.{pick}
 use Rattle.wire.specs.Limits.{baseLimits}
 use Rattle.wire.specs.Answers.{Answer, accepted, refused}
@@ -14,6 +15,9 @@ use Rattle.command.specs.Commands.{answerCommand}
 use Rattle.command.specs.Writing.{commandBytes}
 use Rattle.tlv.specs.PacketOf.{formOfPacket, formOfDatagram, packetOfForm}
 use Rattle.contents.specs.Contents.{contentsOfPacket, contentsOfDatagram}
+use Rattle.line.specs.Pieces.{onto}
+use Rattle.line.specs.LineReader.{readLine}
+use Rattle.line.specs.RecordLines.{linesOfPacket, linesOfDatagram}
 use Rattle.stream.specs.Stream.{forLogin, Item, login, packet, refusing, waiting, stream}
 
 unfoldable pub refusalNumber : {A : Type 0} → Answer A → ℕ
@@ -46,6 +50,28 @@ closingRefusal (refusing r ∷ items) = r .number
 unfoldable pub connectionRefusal : List ℕ → ℕ
 connectionRefusal p = closingRefusal (stream baseLimits p (waiting forLogin []) .items)
 
+-- ---- billing lines, read back
+
+-- the lines of a text, each with its LF (10), which the last may lack
+unfoldable pub linesOf : List ℕ → List (List ℕ)
+linesOf [] = []
+linesOf (c ∷ s) = pick (eqb c 10) ((c ∷ []) ∷ linesOf s) (onto c (linesOf s))
+
+unfoldable pub lineRefusal : List ℕ → ℕ
+lineRefusal s = refusalNumber (readLine s)
+
+-- the first of two refusals, where 0 is none
+unfoldable pub earlier : ℕ → ℕ → ℕ
+earlier a b = pick (eqb a 0) b a
+
+unfoldable pub firstRefusal : List (List ℕ) → ℕ
+firstRefusal [] = 0
+firstRefusal (line ∷ lines) = earlier (lineRefusal line) (firstRefusal lines)
+
+-- of the first line that is refused
+unfoldable pub linesRefusal : List ℕ → ℕ
+linesRefusal s = firstRefusal (linesOf s)
+
 -- ---- what is written, into a buffer of `size` bytes
 
 unfoldable pub writtenRefusal : ℕ → Answer (List ℕ) → ℕ
@@ -56,6 +82,12 @@ formOfPacketRefusal p = writtenRefusal (4 * baseLimits .largest) (formOfPacket b
 
 unfoldable pub formOfDatagramRefusal : List ℕ → ℕ
 formOfDatagramRefusal p = writtenRefusal (4 * baseLimits .largest) (formOfDatagram baseLimits p)
+
+unfoldable pub linesOfPacketRefusal : List ℕ → ℕ
+linesOfPacketRefusal p = writtenRefusal (4 * baseLimits .largest) (linesOfPacket baseLimits p)
+
+unfoldable pub linesOfDatagramRefusal : List ℕ → ℕ
+linesOfDatagramRefusal p = writtenRefusal (4 * baseLimits .largest) (linesOfDatagram baseLimits p)
 
 unfoldable pub packetOfFormRefusal : List ℕ → ℕ
 packetOfFormRefusal f = writtenRefusal (baseLimits .largest) (packetOfForm baseLimits f)

@@ -1,21 +1,24 @@
 // What is in an input, in words on standard output, one function for each kind; and what it turns into.
 // Each answers the number of the refusal that it says, 0 if none.
 mod items;
+mod lines;
 mod records;
 
 ghost use mathlib.Core.Path.{_≡_};
 ghost use Prim.Native.Nat.{_≤_};
 ghost use Rattle.wire.specs.Buffers.{writtenAs};
-ghost use Rattle.report.specs.Shown.{refusalNumber, packetRefusal, datagramRefusal, loginRefusal, commandRefusal, packetOfFormRefusal, formOfPacketRefusal, formOfDatagramRefusal, writeRefusal, connectionRefusal};
+ghost use Rattle.report.specs.Shown.{refusalNumber, packetRefusal, datagramRefusal, loginRefusal, commandRefusal, packetOfFormRefusal, formOfPacketRefusal, formOfDatagramRefusal, writeRefusal, connectionRefusal, linesOfPacketRefusal, linesOfDatagramRefusal, earlier, linesRefusal};
 use command::CommandAnswer;
 use command::CommandFields;
 use datagram::DatagramAnswer;
 use datagram::Header;
 use items::say_item;
+use lines::show_line;
 use login::LoginAnswer;
 use packet::PacketAnswer;
 use records::say_records;
 use say::say;
+use say::say_bytes;
 use say::say_hex;
 use say::say_line;
 use say::say_quoted;
@@ -44,7 +47,8 @@ IMEI length or digit wrong\n\
 no such record, element or ID\n\
 not the TLV form of any acceptable TCP data packet\n\
 lent buffer too short for the result\n\
-connection closed, or a state that no feeds from a fresh one give\n",
+connection closed, or a state that no feeds from a fresh one give\n\
+not a billing line\n",
         number,
     );
 }
@@ -256,6 +260,35 @@ pub fn show_connection(p: &[u8]) -> usize
     0
 }
 
+// The first of two refusals, where 0 is none.
+fn earlier(a: usize, b: usize) -> usize
+    ensures { λ r. ⌜ r ≡ earlier a b ⌝ }
+{
+    if a == 0 {
+        return b;
+    }
+    a
+}
+
+// Billing lines, one by one; the number of the first refusal that is said. No tag of an input that the
+// program reads is longer than the buffer.
+pub fn show_lines(s: &[u8]) -> usize
+    ensures { λ r. ⌜ r ≡ linesRefusal (now (s .entry)) ⌝ }
+{
+    let mut bytes = [0u8; 65536];
+    let mut first: usize = 0;
+    let mut at: usize = 0;
+    let mut k: usize = 0;
+    while at < s.len() {
+        let end = at + say::line_length(&s[at..]);
+        let number = show_line(k, at, &s[at..end], &mut bytes);
+        first = earlier(first, number);
+        at = end;
+        k += 1;
+    }
+    first
+}
+
 // The packet that a TLV form stands for.
 pub fn show_form(f: &[u8]) -> usize
     ensures { λ r. ⌜ r ≡ packetOfFormRefusal (now (f .entry)) ⌝ }
@@ -288,6 +321,21 @@ fn say_written(answer: Written, out: &[u8]) -> usize
     }
 }
 
+// The same of lines, which are said as they are.
+fn say_written_lines(answer: Written, out: &[u8]) -> usize
+    ensures { λ r. ⌜ r ≡ refusalNumber (writtenAs answer) ⌝ }
+{
+    match answer {
+        Written::Refused(r) => refuse_data(r),
+        Written::Bytes(n) => {
+            if n <= out.len() {
+                say_bytes(&out[0..n]);
+            }
+            0
+        }
+    }
+}
+
 // The TLV form of a TCP data packet, and of a datagram.
 pub fn say_form_of_packet(p: &[u8]) -> usize
     ensures { λ r. ⌜ r ≡ formOfPacketRefusal (now (p .entry)) ⌝ }
@@ -303,6 +351,23 @@ pub fn say_form_of_datagram(p: &[u8]) -> usize
     let mut out = [0u8; wire::LARGEST_FORM];
     let answer = form::form_of_datagram(p, &mut out);
     say_written(answer, &out)
+}
+
+// The billing lines of a TCP data packet, and of a datagram: they have at most as many bytes as a TLV form.
+pub fn say_lines_of_packet(p: &[u8]) -> usize
+    ensures { λ r. ⌜ r ≡ linesOfPacketRefusal (now (p .entry)) ⌝ }
+{
+    let mut out = [0u8; wire::LARGEST_FORM];
+    let answer = print::lines_of_packet(p, &mut out);
+    say_written_lines(answer, &out)
+}
+
+pub fn say_lines_of_datagram(p: &[u8]) -> usize
+    ensures { λ r. ⌜ r ≡ linesOfDatagramRefusal (now (p .entry)) ⌝ }
+{
+    let mut out = [0u8; wire::LARGEST_FORM];
+    let answer = print::lines_of_datagram(p, &mut out);
+    say_written_lines(answer, &out)
 }
 
 // The TCP data packet of a TLV form.

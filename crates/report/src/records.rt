@@ -58,7 +58,8 @@ fn say_record(codec: u8, n: usize, p: &[u8], t: &[u64], at: usize) -> usize
     let f = contents::record_at(t, at);
     let elements = f.elements;
     let first = at + 4;
-    say_time(n as u64, f.timestamp);
+    say(b"record %1", &[n as u64]);
+    say_time(f.timestamp);
     say_origin(codec, f);
     say_position(f);
     say_motion(f);
@@ -66,14 +67,14 @@ fn say_record(codec: u8, n: usize, p: &[u8], t: &[u64], at: usize) -> usize
     first + elements
 }
 
-// The record's number and its time: milliseconds since 1970, and their date before the year 10000.
-fn say_time(n: u64, ms: u64) {
+// A time: milliseconds since 1970, and their date before the year 10000.
+pub fn say_time(ms: u64) {
     if 253_402_300_799_999 < ms {
-        say(b"record %1  time %1", &[n, ms]);
+        say(b"  time %1", &[ms]);
         return;
     }
     let d = text::date_of(ms / 86_400_000);
-    say(b"record %1  %4-%2-%2", &[n, d.year, d.month, d.day]);
+    say(b"  %4-%2-%2", &[d.year, d.month, d.day]);
     let clock = [
         ms / 3_600_000 % 24,
         ms / 60_000 % 60,
@@ -110,10 +111,14 @@ fn say_degrees(s: &[u8], x: i32) {
     say(s, &[sign(x), n / 10_000_000, n % 10_000_000]);
 }
 
+pub fn say_coordinates(longitude: i32, latitude: i32) {
+    say_degrees(b"\n  position  longitude ^-%1.%7", longitude);
+    say_degrees(b"  latitude ^-%1.%7", latitude);
+}
+
 fn say_position(f: RecordFields) {
     let altitude = wide(f.altitude);
-    say_degrees(b"\n  position  longitude ^-%1.%7", f.longitude);
-    say_degrees(b"  latitude ^-%1.%7", f.latitude);
+    say_coordinates(f.longitude, f.latitude);
     say(
         b"  altitude ^-%1 m\n",
         &[sign(altitude), text::distance(altitude)],

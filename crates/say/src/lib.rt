@@ -1,4 +1,4 @@
-// Text on standard output: with numbers in it, as hex text, between quotes. What is said is put on a
+// Text on standard output: with numbers in it, as hex text, between quotes, as it is. What is said is put on a
 // page or found in a text by functions whose promises say it byte by byte. No contract can speak of
 // what goes to a descriptor: the functions that write answer how many of those bytes they hand over.
 ghost use mathlib.Core.Path.{_≡_};
@@ -169,7 +169,7 @@ pub fn quote(page: &mut [u8], s: &[u8]) -> usize
 // ---- lines
 
 // How long the first line is, with its end.
-fn line_length(s: &[u8]) -> usize
+pub fn line_length(s: &[u8]) -> usize
     ensures { λ r. ⌜ r ≡ lineLength (now (s .entry)) ⌝ }
 {
     let mut i: usize = 0;
@@ -226,11 +226,11 @@ pub fn say(s: &[u8], numbers: &[u64]) -> usize
     write(&page, n)
 }
 
-// Text between quotes: at most 8,192 bytes, more than any text of a packet takes.
+// Text between quotes: at most 16,386 bytes, as 4,096 bytes take that are all shown as \xNN.
 pub fn say_quoted(s: &[u8]) -> usize
-    ensures { λ r. ⌜ r ≡ min (length (quoted (now (s .entry)))) 8192 ⌝ }
+    ensures { λ r. ⌜ r ≡ min (length (quoted (now (s .entry)))) 16386 ⌝ }
 {
-    let mut page = [0u8; 8192];
+    let mut page = [0u8; 16386];
     let n = quote(&mut page, s);
     write(&page, n)
 }
@@ -242,6 +242,13 @@ pub fn say_hex(s: &[u8]) -> usize
     let mut digits = [0u8; 2 * wire::LARGEST_FORM];
     let n = text::encode(s, &mut digits);
     write(&digits, n)
+}
+
+// Bytes as they are.
+pub fn say_bytes(s: &[u8]) -> usize
+    ensures { λ r. ⌜ r ≡ length (now (s .entry)) ⌝ }
+{
+    write(s, s.len())
 }
 
 pub fn say_line(s: &[u8], n: usize) -> usize

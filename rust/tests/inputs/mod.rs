@@ -48,6 +48,11 @@ pub const VALUES: [Value; 6] = [
     Value { id: 0x0506, kind: 9, offset: 112, bytes: b"", number: None },
 ];
 
+/// The billing lines of both records.
+pub const LINES: &[u8] = b"1000,0.0000000,0.0000000,0\n\
+    72623859790382856,-0.0000001,54.7146368,90,\
+    21=3,258=4370,515=555885348,772=3544952156018063160,1029=\"tag\",1286=\"\"\n";
+
 fn crc(data: &[u8]) -> u16 {
     data.iter().fold(0, |crc, byte| {
         (0..8).fold(crc ^ u16::from(*byte), |c, _| if c & 1 == 1 { c >> 1 ^ 0xA001 } else { c >> 1 })

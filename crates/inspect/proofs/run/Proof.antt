@@ -43,26 +43,38 @@ show-connection-requires c κs = search needs
 enum-told-7 : tie.Need-enum-told-7
 enum-told-7 c = search needs
 
-run-form-of-requires : tie.Need-run-form-of-requires
-run-form-of-requires c κs = search needs
+show-lines-requires : tie.Need-show-lines-requires
+show-lines-requires c κs = search needs
 
 enum-told-8 : tie.Need-enum-told-8
 enum-told-8 c = search needs
 
-say-packet-of-requires : tie.Need-say-packet-of-requires
-say-packet-of-requires c κs = search needs
+run-form-of-requires : tie.Need-run-form-of-requires
+run-form-of-requires c κs = search needs
 
 enum-told-9 : tie.Need-enum-told-9
 enum-told-9 c = search needs
 
+say-packet-of-requires : tie.Need-say-packet-of-requires
+say-packet-of-requires c κs = search needs
+
 enum-told-10 : tie.Need-enum-told-10
 enum-told-10 c = search needs
+
+run-lines-requires : tie.Need-run-lines-requires
+run-lines-requires c κs = search needs
 
 enum-told-11 : tie.Need-enum-told-11
 enum-told-11 c = search needs
 
 enum-told-12 : tie.Need-enum-told-12
 enum-told-12 c = search needs
+
+enum-told-13 : tie.Need-enum-told-13
+enum-told-13 c = search needs
+
+enum-told-14 : tie.Need-enum-told-14
+enum-told-14 c = search needs
 
 returns : tie.Need-returns
 unfolding refusalBy
@@ -89,19 +101,18 @@ unfolding refusalBy
 returns-6 c = simp (c .before .enum-told6 .given .1) (c .show-connection .ensures)
 
 returns-7 : tie.Need-returns-7
-returns-7 c = simp (c .before .enum-told7 .given .1) (c .run-form-of .ensures)
+unfolding refusalBy
+returns-7 c = simp (c .before .enum-told7 .given .1) (c .show-lines .ensures)
 
 returns-8 : tie.Need-returns-8
-unfolding refusalBy
-returns-8 c = simp (c .before .enum-told8 .given .1) (c .say-packet-of .ensures)
+returns-8 c = simp (c .before .enum-told8 .given .1) (c .run-form-of .ensures)
 
 returns-9 : tie.Need-returns-9
 unfolding refusalBy
-returns-9 c = simp (c .enum-told9 .given .1)
+returns-9 c = simp (c .before .enum-told9 .given .1) (c .say-packet-of .ensures)
 
 returns-10 : tie.Need-returns-10
-unfolding refusalBy
-returns-10 c = simp (c .enum-told10 .given .1)
+returns-10 c = simp (c .before .enum-told10 .given .1) (c .run-lines .ensures)
 
 returns-11 : tie.Need-returns-11
 unfolding refusalBy
@@ -110,6 +121,14 @@ returns-11 c = simp (c .enum-told11 .given .1)
 returns-12 : tie.Need-returns-12
 unfolding refusalBy
 returns-12 c = simp (c .enum-told12 .given .1)
+
+returns-13 : tie.Need-returns-13
+unfolding refusalBy
+returns-13 c = simp (c .enum-told13 .given .1)
+
+returns-14 : tie.Need-returns-14
+unfolding refusalBy
+returns-14 c = simp (c .enum-told14 .given .1)
 
 pub run-spec : {M : Type 1} → statement M
 run-spec =
@@ -128,13 +147,17 @@ run-spec =
     enum-told-6
     show-connection-requires
     enum-told-7
-    run-form-of-requires
+    show-lines-requires
     enum-told-8
-    say-packet-of-requires
+    run-form-of-requires
     enum-told-9
+    say-packet-of-requires
     enum-told-10
+    run-lines-requires
     enum-told-11
     enum-told-12
+    enum-told-13
+    enum-told-14
     returns
     returns-2
     returns-3
@@ -146,4 +169,6 @@ run-spec =
     returns-9
     returns-10
     returns-11
-    returns-12)
+    returns-12
+    returns-13
+    returns-14)

@@ -11,6 +11,15 @@ record-at-requires c κs = omega (arith, c .before .before .pre .0)
 add-first : tie.Need-add-first
 add-first c = omega (arith, c .before .before .before .pre .0)
 
+slice-aggregate-say : tie.Need-slice-aggregate-say
+slice-aggregate-say c = search needs
+
+slice-aggregate-say-2 : tie.Need-slice-aggregate-say-2
+slice-aggregate-say-2 c = search needs
+
+say-requires : tie.Need-say-requires
+say-requires c κs = search needs
+
 say-time-requires : tie.Need-say-time-requires
 say-time-requires c κs = search needs
 
@@ -24,13 +33,13 @@ say-motion-requires : tie.Need-say-motion-requires
 say-motion-requires c κs = search needs
 
 say-values-requires : tie.Need-say-values-requires
-say-values-requires c κs = (omega (arith, c .before .before .before .before .before .before .before .pre .0, ap (λ (x : RecordFields). x .elements) (c .before .before .before .before .record-at .ensures)), λ k h. c .before .before .before .before .before .before .before .pre .1 k (omega (arith, h, ap (λ (x : RecordFields). x .elements) (c .before .before .before .before .record-at .ensures))))
+say-values-requires c κs = (omega (arith, c .before .before .before .before .before .before .before .before .before .before .pre .0, ap (λ (x : RecordFields). x .elements) (c .before .before .before .before .before .before .before .record-at .ensures)), λ k h. c .before .before .before .before .before .before .before .before .before .before .pre .1 k (omega (arith, h, ap (λ (x : RecordFields). x .elements) (c .before .before .before .before .before .before .before .record-at .ensures))))
 
 add-result : tie.Need-add-result
-add-result c = omega (arith, c .before .before .before .before .before .before .before .before .pre .0, ap (λ (x : RecordFields). x .elements) (c .before .before .before .before .before .record-at .ensures))
+add-result c = omega (arith, c .before .before .before .before .before .before .before .before .before .before .before .pre .0, ap (λ (x : RecordFields). x .elements) (c .before .before .before .before .before .before .before .before .record-at .ensures))
 
 returns : tie.Need-returns
-returns c = omega (arith, ap (λ (x : RecordFields). x .elements) (c .before .before .before .before .before .record-at .ensures))
+returns c = omega (arith, ap (λ (x : RecordFields). x .elements) (c .before .before .before .before .before .before .before .before .record-at .ensures))
 
 pub say-record-spec : {M : Type 1} → statement M
 say-record-spec =
@@ -38,6 +47,9 @@ say-record-spec =
     (tie.spec
     record-at-requires
     add-first
+    slice-aggregate-say
+    slice-aggregate-say-2
+    say-requires
     say-time-requires
     say-origin-requires
     say-position-requires
