@@ -1,8 +1,7 @@
 -- Fields that compute: what is printed, and what is not taken.
-use Prim.Native.Nat.{ℕ}
 use mathlib.Core.Path.{_≡_, refl}
 use mathlib.Core.Bool.{true, false}
-use mathlib.Core.List.{List, [], _∷_}
+use mathlib.Core.List.{[], _∷_}
 use lib.IntN.{negsuc}
 use Rattle.wire.specs.Answers.{accepted, refused, refusal, onAccepted, check}
 use Rattle.wire.specs.Numbers.{digits, valueFrom}

@@ -1,6 +1,6 @@
 -- A line for the billing desk: what one is, the rules it keeps, and its bytes.
 use Prim.Native.Nat.{ℕ, suc, _/_, _%_, _^_, _<_}
-use mathlib.Core.Bool.{Bool, true, false}
+use mathlib.Core.Bool.{Bool, false}
 use mathlib.Core.List.{List, [], _∷_, _++_}
 use lib.Dec.{eqb}
 use lib.IntN.{ℤ, pos, negsuc}

@@ -2,26 +2,24 @@
 use Prim.Native.Nat.{ℕ, zero, suc, _+_, _-_, _*_, _^_, _≤_, _<_}
 use native.Mathlib.Nat.{not-suc-le-zero, le-of-suc-le-suc}
 use native.Mathlib.Omega.{arith}
-use mathlib.Core.Path.{_≡_, refl, sym, ap, ap₂, _∙_, subst}
+use mathlib.Core.Path.{_≡_, refl, sym, ap, _∙_, subst}
 use mathlib.Core.Bool.{Bool, true, false, not}
 use mathlib.Core.List.{List, [], _∷_, _++_}
-use lib.ListN.{length, take, drop, getD, length-drop, length-append, length-take, drop-of-length-le}
+use lib.ListN.{length, drop, getD, length-drop, length-append, length-take, drop-of-length-le}
 use lib.Seq.{drop-drop, drop-append-add}
 use lib.Dec.{eqb, leb}
 use borrow.Author.Tests.{le-leb, lt-leb, ne-eqb}
-use Rattle.wire.specs.Numbers.{Bytes}
 use Rattle.wire.specs.Sequences.{joined}
 use Rattle.wire.specs.declared.Refusal.{Refusal}
 use Rattle.wire.specs.Answers.{Answer, accepted, refused, refusal, refusalOf, onAccepted, told, check}
 use Rattle.wire.specs.Reading.{Read, got, bad, andThen}
 use Rattle.wire.specs.Buffers.{leaving}
-use Rattle.wire.proofs.Accepting.{by-length, pick-either, onAccepted-passed, onAccepted-refused, check-passed, check-failed}
-use Rattle.wire.proofs.BufferLaws.{leaving-done}
+use Rattle.wire.proofs.Accepting.{by-length, pick-either, onAccepted-passed, onAccepted-refused}
 use Rattle.text.specs.Decimal.{decimal}
 use Rattle.text.specs.Hex.{among}
 use Rattle.element.specs.Elements.{nth}
 use Rattle.line.specs.Pieces.{before, behind, pieces, separated}
-use Rattle.line.specs.Lines.{Printed, number, tag, Line, isPlain, escaped, quoted, printedText, texts, lineFields, lineBytes}
+use Rattle.line.specs.Lines.{Printed, number, tag, Line, isPlain, escaped, quoted, printedText, lineFields, lineBytes}
 use Rattle.line.specs.LineReader.{allDigits, said, noSpareZero, readDecimal, readDegrees, readHex, Escape, none, slash, high, readTag, readValue, readPrinted, isTag, onField, nextField, readElements, readFields, body, judgeLine, readLine, placeIn, wrongAt}
 use Rattle.line.specs.LineElements.{startFrom, fieldStart, fieldAt, Standing, elementOf, elementAt}
 use Rattle.line.proofs.Cases.{by-test}
@@ -35,12 +33,10 @@ use Rattle.line.proofs.WalkLaws.{element-stands, element-cursor}
 use Rattle.scan.specs.declared.Item.{Item}
 use Rattle.scan.specs.declared.Judged.{Judged}
 use Rattle.scan.specs.declared.LineFields.{LineFields}
-use Rattle.scan.specs.declared.LineElement.{LineElement}
 use Rattle.scan.specs.declared.LineElementAnswer.{LineElementAnswer}
 use Rattle.scan.specs.Fields.{fieldFrom, fieldEnd, tagStart, itemAs}
-use Rattle.scan.specs.Tags.{TagStored}
 use Rattle.scan.specs.Walking.{piecesFrom, judgedAs, lineResult, standing}
-use Rattle.scan.specs.Answers.{answerLine, tagBytes, elementResult, answerElement, leavingElement, elementAs}
+use Rattle.scan.specs.Answers.{tagBytes, elementResult, answerElement, leavingElement, elementAs}
 use Rattle.scan.proofs.FieldLaws.{field-behind, field-comma, field-byte}
 use Rattle.scan.proofs.WalkLaws.{pieces-none, pieces-some, start-on}
 

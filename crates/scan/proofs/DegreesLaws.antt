@@ -1,17 +1,16 @@
 -- Degrees from a text's digits: whole degrees, the point, seven places, the sign.
-use Prim.Native.Nat.{ℕ, zero, suc, _+_, _-_, _*_, _^_, _≤_, _<_}
+use Prim.Native.Nat.{ℕ, suc, _+_, _-_, _*_, _^_, _≤_, _<_}
 use native.Mathlib.Omega.{arith}
 use mathlib.Core.Path.{_≡_, refl, sym, ap, _∙_, subst}
 use mathlib.Core.Bool.{Bool, true, false}
 use mathlib.Core.List.{List, [], _∷_}
-use lib.ListN.{length, drop, getD, length-drop, drop-of-length-le}
-use lib.Seq.{getD-drop, drop-drop, drop-cons}
+use lib.ListN.{length, drop, getD}
 use lib.IntN.{ℤ, pos, negsuc}
-use lib.Dec.{eqb, leb, ltb}
-use borrow.Author.Tests.{le-leb, lt-leb, lt-ltb, le-ltb, ne-eqb, eq-eqb, eqb-false}
-use Rattle.wire.specs.Numbers.{signed, pick}
+use lib.Dec.{eqb, ltb}
+use borrow.Author.Tests.{le-leb, lt-leb, lt-ltb, le-ltb, ne-eqb, eq-eqb}
+use Rattle.wire.specs.Numbers.{signed}
 use Rattle.wire.specs.Answers.{Answer, accepted, refused, refusal, onAccepted, check}
-use Rattle.wire.proofs.Accepting.{check-failed, check-passed, onAccepted-passed, onAccepted-refused, pick-true, pick-false}
+use Rattle.wire.proofs.Accepting.{check-failed, check-passed, pick-true, pick-false}
 use Rattle.line.specs.Pieces.{before, behind}
 use Rattle.line.specs.LineReader.{allDigits, said, noSpareZero, readDecimal, readUnsigned, readDegrees, positive, negative}
 use Rattle.scan.specs.declared.Number.{Number}

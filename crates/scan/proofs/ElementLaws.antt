@@ -1,5 +1,5 @@
 -- An element from its field: the ID, the sign, the value.
-use Prim.Native.Nat.{ℕ, suc, _+_, _-_, _^_, _≤_, _<_}
+use Prim.Native.Nat.{ℕ, _+_, _-_, _^_, _≤_, _<_}
 use native.Mathlib.Omega.{arith}
 use mathlib.Core.Path.{_≡_, refl, sym, ap, _∙_, subst}
 use mathlib.Core.Bool.{Bool, true, false}
@@ -7,16 +7,16 @@ use mathlib.Core.List.{List, [], _∷_}
 use lib.ListN.{length, drop, getD}
 use lib.Dec.{eqb}
 use Rattle.wire.specs.Answers.{Answer, accepted, refused, refusal, onAccepted, check}
-use Rattle.wire.proofs.Accepting.{onAccepted-passed, onAccepted-refused, check-failed, pick-false}
-use Rattle.line.specs.Pieces.{before, behind}
-use Rattle.line.specs.Lines.{Printed, number, tag}
+use Rattle.wire.proofs.Accepting.{pick-false}
+use Rattle.line.specs.Pieces.{behind}
+use Rattle.line.specs.Lines.{number, tag}
 use Rattle.line.specs.LineReader.{noSpareZero, readDecimal, readTag, none, readValue, readPrinted}
 use Rattle.scan.specs.declared.Number.{Number}
 use Rattle.scan.specs.declared.Tag.{Tag}
 use Rattle.scan.specs.declared.Item.{Item}
 use Rattle.scan.specs.Fields.{fieldFrom, fieldEnd, standsAt, run, numberAs, tagStart, itemAs}
 use Rattle.scan.specs.Tags.{tagAs}
-use Rattle.scan.proofs.FieldLaws.{stands-yes, stands-no, FirstNot, first-not, field-first, number-told, number-wrong, runDecimal, split-open, split-first, split-end, split-on, split-wrong}
+use Rattle.scan.proofs.FieldLaws.{stands-yes, stands-no, FirstNot, first-not, field-first, number-told, runDecimal, split-open, split-first, split-end, split-on, split-wrong}
 
 -- ---- the value
 

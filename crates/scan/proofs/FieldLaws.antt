@@ -1,17 +1,17 @@
 -- Fields that begin with digits: the digits up to the byte that stops them.
-use Prim.Native.Nat.{ℕ, zero, suc, _+_, _-_, _*_, _%_, _^_, _≤_, _<_}
+use Prim.Native.Nat.{ℕ, suc, _+_, _^_, _≤_, _<_}
 use native.Mathlib.Nat.{add-zero, not-suc-le-zero, le-of-suc-le-suc}
 use native.Mathlib.Omega.{arith}
 use mathlib.Core.Path.{_≡_, refl, sym, ap, _∙_}
 use mathlib.Core.Bool.{Bool, true, false}
-use mathlib.Core.List.{List, [], _∷_, _++_}
+use mathlib.Core.List.{List, [], _∷_}
 use lib.ListN.{length, drop, getD, length-drop, drop-of-length-le}
 use lib.Seq.{getD-drop, drop-drop, drop-cons}
 use lib.Dec.{eqb, leb, ltb}
-use borrow.Author.Tests.{ltb-true, lt-ltb, le-leb, lt-leb, leb-true, leb-false, ne-eqb, eq-eqb, eqb-true, eqb-false}
+use borrow.Author.Tests.{ltb-true, lt-ltb, leb-true, leb-false, ne-eqb, eq-eqb, eqb-true, eqb-false}
 use Rattle.wire.specs.Numbers.{pick}
 use Rattle.wire.specs.Answers.{Answer, accepted, refused, refusal, onAccepted, check}
-use Rattle.wire.proofs.Accepting.{onAccepted-passed, onAccepted-refused, check-accepted, both-true, pick-true, pick-false}
+use Rattle.wire.proofs.Accepting.{onAccepted-passed, onAccepted-refused, check-accepted, both-true, pick-true}
 use Rattle.text.specs.Hex.{among}
 use Rattle.line.specs.Pieces.{before, behind}
 use Rattle.line.specs.LineReader.{allDigits, said, noSpareZero, readDecimal}

@@ -1,21 +1,20 @@
 -- The digits that text begins with, one by one, and what a field that begins with them is.
-use Prim.Native.Nat.{ℕ, zero, suc, _+_, _-_, _*_, _%_, _^_, _≤_, _<_}
-use native.Mathlib.Nat.{le-refl, le-trans}
+use Prim.Native.Nat.{ℕ, suc, _+_, _-_, _*_, _%_, _^_, _≤_, _<_}
+use native.Mathlib.Nat.{le-refl}
 use native.Mathlib.Omega.{arith}
 use mathlib.Core.Path.{_≡_, refl, sym, ap, _∙_, subst}
 use mathlib.Core.Bool.{Bool, true, false}
-use mathlib.Core.List.{List, [], _∷_, _++_}
+use mathlib.Core.List.{List, [], _∷_}
 use lib.ListN.{length, drop, getD, drop-of-length-le}
 use lib.Seq.{drop-cons}
-use lib.Dec.{eqb, leb}
-use borrow.Author.Tests.{le-leb, lt-leb, leb-true, leb-false, ne-eqb, eq-eqb, eqb-true, eqb-false}
+use lib.Dec.{leb}
+use borrow.Author.Tests.{le-leb, lt-leb, leb-true, leb-false}
 use Rattle.wire.specs.Numbers.{valueFrom, pick}
 use Rattle.wire.specs.Sequences.{All}
 use Rattle.wire.proofs.Widths.{value-lt}
 use Rattle.wire.specs.Answers.{Answer, accepted, refused, refusal, check}
 use Rattle.wire.proofs.Accepting.{both-true, check-failed, check-passed}
 use Rattle.text.specs.Hex.{among}
-use Rattle.line.specs.Pieces.{before, behind}
 use Rattle.line.specs.LineReader.{allDigits, digitsOf, said, noSpareZero, readDecimal}
 use Rattle.scan.specs.declared.Number.{Number}
 use Rattle.scan.specs.Fields.{run, numberAs, runAs}

@@ -1,8 +1,8 @@
 -- The walk along a line's fields.
-use Prim.Native.Nat.{ℕ, zero, suc, _+_, _-_, _^_, _≤_, _<_}
+use Prim.Native.Nat.{ℕ, suc, _+_, _-_, _^_, _≤_, _<_}
 use native.Mathlib.Nat.{add-zero}
 use native.Mathlib.Omega.{arith}
-use mathlib.Core.Path.{_≡_, refl, sym, ap, ap₂, _∙_, subst}
+use mathlib.Core.Path.{_≡_, refl, sym, ap, ap₂, _∙_}
 use mathlib.Core.Bool.{Bool, true, false}
 use mathlib.Core.List.{List, [], _∷_}
 use lib.ListN.{length, take, drop, getD, length-drop, List·getD-eq-default}
@@ -13,14 +13,13 @@ use mir.Val.{toZ, ofZ, SFits}
 use mir.Facts.{toZ-ofZ}
 use lib.Dec.{eqb, leb}
 use borrow.Author.Tests.{le-leb, lt-leb, eq-eqb, ne-eqb}
-use Rattle.wire.specs.Answers.{Answer, accepted, refused, refusal, onAccepted, told}
+use Rattle.wire.specs.Answers.{Answer, accepted, refused}
 use Rattle.wire.specs.declared.Refusal.{Refusal}
-use Rattle.wire.specs.Numbers.{pick}
 use Rattle.wire.specs.Reading.{Read, got, bad, andThen}
 use Rattle.wire.proofs.Accepting.{pick-true, pick-false, by-length}
 use Rattle.line.specs.Pieces.{before, pieces}
 use Rattle.line.specs.Lines.{Printed, number, tag, Line, FitsI32}
-use Rattle.line.specs.LineReader.{readDecimal, readDegrees, readPrinted, isTag, onField, nextField, readElements, readFields, body, judgeLine, readLine, placeIn, wrongAt}
+use Rattle.line.specs.LineReader.{readDecimal, readDegrees, readPrinted, isTag, onField, nextField, readElements, readFields, body, judgeLine}
 use Rattle.line.specs.LineElements.{startFrom, fieldStart}
 use Rattle.line.proofs.DegreesLaws.{degrees-inverse}
 use Rattle.line.proofs.PieceLaws.{before-short, pieces-last, pieces-more}
@@ -31,7 +30,7 @@ use Rattle.scan.specs.declared.Passed.{Passed}
 use Rattle.scan.specs.declared.Rest.{Rest}
 use Rattle.scan.specs.declared.Judged.{Judged}
 use Rattle.scan.specs.Fields.{fieldFrom, fieldEnd, numberAs, degreesAs, itemAs}
-use Rattle.scan.specs.Walking.{piecesFrom, elementsOn, speedOn, latitudeOn, longitudeOn, passedAs, restAs, lineResult, judgedAs}
+use Rattle.scan.specs.Walking.{piecesFrom, elementsOn, speedOn, longitudeOn, passedAs, restAs, lineResult, judgedAs}
 
 -- ---- the fields from an offset on
 

@@ -6,7 +6,7 @@ use lib.ListN.{length}
 use lib.Dec.{leb}
 use Rattle.wire.specs.Answers.{Answer, accepted, refused, onAccepted, check}
 use Rattle.wire.specs.Buffers.{leaving}
-use Rattle.line.specs.Lines.{Printed, number, tag, Line}
+use Rattle.line.specs.Lines.{Printed, number, tag}
 use Rattle.line.specs.LineReader.{readLine}
 use Rattle.line.specs.LineElements.{fieldStart, Standing}
 use Rattle.scan.specs.declared.LineFields.{LineFields}

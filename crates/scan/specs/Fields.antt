@@ -1,6 +1,5 @@
 -- What the functions that read a field answer: of the text from `at` on, up to the next comma or to the end.
-use Prim.Native.Nat.{ℕ, suc, _+_, _-_, _*_, _^_}
-use mathlib.Core.Path.{_≡_}
+use Prim.Native.Nat.{ℕ, _+_, _-_, _*_, _^_}
 use mathlib.Core.Bool.{Bool, true, false}
 use mathlib.Core.List.{List, [], _∷_}
 use lib.ListN.{length, drop, getD}
@@ -50,11 +49,12 @@ runAs at ds = numberAs (at + length ds) (check (leb (said ds) (2 ^ 64 - 1)) 20 (
 unfoldable pub placesOf : ℕ → List ℕ → Answer ℕ
 placesOf whole s = check (eqb (length s) 7) 20 (check (allDigits s) 20 (accepted (whole * 10 ^ 7 + said s)))
 
--- degrees, of which the number is read and the sign not yet judged
+-- degrees whose text ends at `end`
 unfoldable pub degreesAs : ℕ → Answer ℤ → Degrees
 degreesAs end (accepted z) = Degrees.Of z end
 degreesAs end (refused r) = Degrees.Wrong
 
+-- a number that was read, with its sign
 unfoldable pub signedAs : (ℕ → Answer ℤ) → Number → Degrees
 signedAs sign (Number.Of m end) = degreesAs end (sign m)
 signedAs sign Number.Wrong = Degrees.Wrong

@@ -1,5 +1,5 @@
 -- The walk along a line's fields, field by field, and what its functions answer. `t` is the line without its LF.
-use Prim.Native.Nat.{ℕ, suc, _+_, _^_, _-_}
+use Prim.Native.Nat.{ℕ, _+_, _^_, _-_}
 use mathlib.Core.Bool.{false}
 use mathlib.Core.List.{List, []}
 use lib.ListN.{length, drop}

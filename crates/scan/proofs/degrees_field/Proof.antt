@@ -5,42 +5,28 @@ use Rattle.scan.proofs.DegreesLaws.{degrees-minus, degrees-plain}
 use borrow.Author.Needs.{needs}
 use Rattle.scan.proofs.degrees_field.Statement.{statement}
 use Rattle.scan.proofs.degrees_field.Tie as tie
-use Rattle.scan.proofs.degrees_field.Reads as reads
-use Rattle.scan.proofs.degrees_field.Lts as lts
-use Rattle.scan.proofs.negative_of.Reads as negative-of-reads
-use Rattle.scan.proofs.positive_of.Reads as positive-of-reads
-use Rattle.scan.proofs.stands.Reads as stands-reads
-use Rattle.scan.proofs.unsigned_field.Reads as unsigned-field-reads
 
--- src/lib.rt:231:8
 stands-requires : tie.Need-stands-requires
 stands-requires c κs = search needs
 
--- src/lib.rt:232:46
 add-unsigned-field : tie.Need-add-unsigned-field
 add-unsigned-field c = search needs
 
--- src/lib.rt:232:28
 unsigned-field-requires : tie.Need-unsigned-field-requires
 unsigned-field-requires c κs = let h = stands-yes _ _ _ (sym (c .before .stands .ensures) ∙ c .if1 .taken) in omega (arith, h .0)
 
--- src/lib.rt:232:9
 negative-of-requires : tie.Need-negative-of-requires
 negative-of-requires c κs = search needs
 
--- src/lib.rt:232:9
 returns : tie.Need-returns
 returns c = degrees-minus _ _ (c .before .before .before .before .before .pre) (sym (c .before .before .before .stands .ensures) ∙ c .before .before .if1 .taken) (c .before .unsigned-field .ensures) (c .negative-of .ensures)
 
--- src/lib.rt:234:17
 unsigned-field-requires-2 : tie.Need-unsigned-field-requires-2
 unsigned-field-requires-2 c κs = search needs
 
--- src/lib.rt:234:5
 positive-of-requires : tie.Need-positive-of-requires
 positive-of-requires c κs = search needs
 
--- src/lib.rt:227:1
 returns-2 : tie.Need-returns-2
 returns-2 c = degrees-plain _ _ (c .before .before .before .before .before .pre) (sym (c .before .before .before .stands .ensures) ∙ c .before .before .if1 .left) (c .before .unsigned-field2 .ensures) (c .positive-of .ensures)
 

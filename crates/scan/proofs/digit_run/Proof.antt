@@ -6,8 +6,6 @@ use native.Mathlib.Omega.{arith}
 use Rattle.scan.proofs.RunLaws.{RunLeft, run-start, run-turn, run-large, run-stop, run-end}
 use Rattle.scan.proofs.digit_run.Statement.{statement}
 use Rattle.scan.proofs.digit_run.Tie as tie
-use Rattle.scan.proofs.digit_run.Reads as reads
-use Rattle.scan.proofs.digit_run.Lts as lts
 
 abbrev Inv-loop : tie.InvT-loop
 Inv-loop t at n₀ i₀ n i = RunLeft t at n i × (n < 2 ^ 64)
@@ -15,59 +13,45 @@ Inv-loop t at n₀ i₀ n i = RunLeft t at n i × (n < 2 ^ 64)
 abbrev μ-loop : tie.MeasureT-loop
 μ-loop t at n₀ i₀ n i = length t - i
 
--- src/lib.rt:81:5
 loop-holds : tie.Need-loop-holds Inv-loop μ-loop
 loop-holds c = (run-start _ _ (c .pre), lit< tt)
 
--- src/lib.rt:82:19
 shared-slice-read-d : tie.Need-shared-slice-read-d Inv-loop μ-loop
 shared-slice-read-d c = search needs
 
--- src/lib.rt:82:19
 cast-d : tie.Need-cast-d Inv-loop μ-loop
 cast-d c = omega (arith, c .shared-slice-known .given (c .before .before .loop .i) .fits)
 
--- src/lib.rt:82:18
 add-d : tie.Need-add-d Inv-loop μ-loop
 add-d c = omega (arith, c .shared-slice-known .given (c .before .before .loop .i) .fits)
 
--- src/lib.rt:84:13
 returns : tie.Need-returns Inv-loop μ-loop
 returns c = run-stop _ _ (c .before .before .before .loop .inv .0) (c .before .before .loop-test .taken) (c .before .shared-slice-known .given (c .before .before .before .loop .i) .fits) (c .if1 .taken) (c .before .before .before .loop .inv .1)
 
--- src/lib.rt:87:13
 returns-2 : tie.Need-returns-2 Inv-loop μ-loop
 returns-2 c = run-large _ _ (c .before .before .before .before .loop .inv .0) (c .before .before .before .loop-test .taken) (c .before .before .shared-slice-known .given (c .before .before .before .before .loop .i) .fits) (c .before .if1 .left) (omega (arith, c .if2 .taken))
 
--- src/lib.rt:89:20
 mul-tens : tie.Need-mul-tens Inv-loop μ-loop
 mul-tens c = omega (arith, c .if2 .left)
 
--- src/lib.rt:90:12
 sub-if3 : tie.Need-sub-if3 Inv-loop μ-loop
 sub-if3 c = omega (arith, c .if2 .left)
 
--- src/lib.rt:91:13
 returns-3 : tie.Need-returns-3 Inv-loop μ-loop
 returns-3 c = run-large _ _ (c .before .before .before .before .before .loop .inv .0) (c .before .before .before .before .loop-test .taken) (c .before .before .before .shared-slice-known .given (c .before .before .before .before .before .loop .i) .fits) (c .before .before .if1 .left) (omega (arith, c .if3 .taken))
 
--- src/lib.rt:93:13
 add-n : tie.Need-add-n Inv-loop μ-loop
 add-n c = omega (arith, c .if3 .left, c .before .if2 .left)
 
--- src/lib.rt:94:9
 add-i : tie.Need-add-i Inv-loop μ-loop
 add-i c = search needs
 
--- src/lib.rt:81:5
 loop-less : tie.Need-loop-less Inv-loop μ-loop
 loop-less c = search needs
 
--- src/lib.rt:81:5
 loop-again : tie.Need-loop-again Inv-loop μ-loop
 loop-again c = (run-turn _ _ (c .before .before .before .before .before .loop .inv .0) (c .before .before .before .before .loop-test .taken) (c .before .before .before .shared-slice-known .given (c .before .before .before .before .before .loop .i) .fits) (c .before .before .if1 .left), omega (arith, c .if3 .left))
 
--- src/lib.rt:75:1
 returns-4 : tie.Need-returns-4 Inv-loop μ-loop
 returns-4 c = run-end _ _ (c .before .loop .inv .0) (c .loop-test .left) (c .before .loop .inv .1)
 

@@ -4,39 +4,28 @@ use Rattle.scan.proofs.AnswerLaws.{answers-refused, answers-as, at-behi
 use borrow.Author.Needs.{needs}
 use Rattle.scan.proofs.element_at.Statement.{statement}
 use Rattle.scan.proofs.element_at.Tie as tie
-use Rattle.scan.proofs.element_at.Reads as reads
-use Rattle.scan.proofs.element_at.Lts as lts
-use Rattle.scan.proofs.element_from.Reads as element-from-reads
 
--- src/lib.rt:640:9
 returns : tie.Need-returns
 returns c = answers-refused _ _ (at-behind (c .before .before .before .args .s .now) (c .before .before .before .args .at) (c .if1 .taken))
 
--- src/lib.rt:645:16
 sub-last : tie.Need-sub-last
 sub-last c = search needs
 
--- src/lib.rt:646:18
 sub-element-from : tie.Need-sub-element-from
 sub-element-from c = search needs
 
--- src/lib.rt:646:18
 part-element-from-start : tie.Need-part-element-from-start
 part-element-from-start c = search needs
 
--- src/lib.rt:646:18
 part-element-from-end : tie.Need-part-element-from-end
 part-element-from-end c = search needs
 
--- src/lib.rt:646:5
 element-from-requires : tie.Need-element-from-requires
 element-from-requires c κs = search needs
 
--- src/lib.rt:635:1
 same-length : tie.Need-same-length
 same-length c = search needs
 
--- src/lib.rt:635:1
 returns-2 : tie.Need-returns-2
 returns-2 c = answers-as _ _ (standing-at (c .before .before .before .before .before .before .before .before .args .s .now) (c .before .before .before .before .before .before .before .before .args .at) (cut-body (c .before .before .before .before .before .before .before .before .args .s .now) refl)) (c .before .before .element-from .ensures)
 

@@ -8,56 +8,40 @@ use Rattle.scan.proofs.AnswerLaws.{number-item, standing-is, standing-n
 use borrow.Author.Needs.{needs}
 use Rattle.scan.proofs.element_from.Statement.{statement}
 use Rattle.scan.proofs.element_from.Tie as tie
-use Rattle.scan.proofs.element_from.Reads as reads
-use Rattle.scan.proofs.element_from.Lts as lts
-use Rattle.scan.proofs.element_field.Reads as element-field-reads
-use Rattle.scan.proofs.store_tag.Reads as store-tag-reads
 
--- src/lib.rt:602:11
 element-field-requires : tie.Need-element-field-requires
 element-field-requires c κs = search needs
 
--- src/lib.rt:603:51
 enum-told : tie.Need-enum-told
 enum-told c = search needs
 
--- src/lib.rt:607:22
 enum-known-id : tie.Need-enum-known-id
 enum-known-id c = search needs
 
--- src/lib.rt:612:19
 add-t14 : tie.Need-add-t14
 add-t14 c = let k = number-item (tagStart (c .before .before .before .before .before .before .args .t .now) (c .before .before .before .before .before .before .args .at)) (fieldEnd (c .before .before .before .before .before .before .args .t .now) (c .before .before .before .before .before .before .args .at)) (readPrinted false (fieldFrom (c .before .before .before .before .before .before .args .t .now) (c .before .before .before .before .before .before .args .at))) (sym (c .before .id .given .1) ∙ c .before .before .before .element-field .ensures) in omega (arith, k .1, field-inside (c .before .before .before .before .before .before .args .t .now) (c .before .before .before .before .before .before .args .at) (c .before .before .before .before .before .before .pre))
 
--- src/lib.rt:614:19
 enum-known-id-2 : tie.Need-enum-known-id-2
 enum-known-id-2 c = search needs
 
--- src/lib.rt:616:17
 returns : tie.Need-returns
 returns c = let k = tagged (c .before .before .before .before .before .before .before .args .t .now) (c .before .before .before .before .before .before .before .args .at) (sym (c .before .before .id2 .given .1) ∙ c .before .before .before .before .element-field .ensures) in answers-short _ _ (k .bytes) (k .standing) (omega (arith, k .sized, c .if1 .taken))
 
--- src/lib.rt:621:13
 store-tag-requires : tie.Need-store-tag-requires
 store-tag-requires c κs = tagged (c .before .before .before .before .before .before .before .before .args .t .now) (c .before .before .before .before .before .before .before .before .args .at) (sym (c .before .before .before .id2 .given .1) ∙ c .before .before .before .before .before .element-field .ensures) .placed (c .before .before .before .before .before .before .before .before .pre)
 
--- src/lib.rt:627:23
 add-t16 : tie.Need-add-t16
 add-t16 c = let k = tagged (c .before .before .before .before .before .before .before .before .before .before .before .args .t .now) (c .before .before .before .before .before .before .before .before .before .before .before .args .at) (sym (c .before .before .before .before .before .before .id2 .given .1) ∙ c .before .before .before .before .before .before .before .before .element-field .ensures) in omega (arith, k .ends, field-inside (c .before .before .before .before .before .before .before .before .before .before .before .args .t .now) (c .before .before .before .before .before .before .before .before .before .before .before .args .at) (c .before .before .before .before .before .before .before .before .before .before .before .pre))
 
--- src/lib.rt:597:1
 returns-2 : tie.Need-returns-2
 returns-2 c = answers-refused _ _ (standing-none (c .before .before .before .before .before .args .t .now) (c .before .before .before .before .before .args .at) (sym (c .enum-told .given .1) ∙ c .before .before .element-field .ensures))
 
--- src/lib.rt:597:1
 returns-3 : tie.Need-returns-3
 returns-3 c = let k = number-item (tagStart (c .before .before .before .before .before .before .args .t .now) (c .before .before .before .before .before .before .args .at)) (fieldEnd (c .before .before .before .before .before .before .args .t .now) (c .before .before .before .before .before .before .args .at)) (readPrinted false (fieldFrom (c .before .before .before .before .before .before .args .t .now) (c .before .before .before .before .before .before .args .at))) (sym (c .before .id .given .1) ∙ c .before .before .before .element-field .ensures) in answers-number _ _ (standing-is (c .before .before .before .before .before .before .args .t .now) (c .before .before .before .before .before .before .args .at) (k .0) (k .1))
 
--- src/lib.rt:597:1
 same-length : tie.Need-same-length
 same-length c = search needs
 
--- src/lib.rt:597:1
 returns-4 : tie.Need-returns-4
 returns-4 c = let k = tagged (c .before .before .before .before .before .before .before .before .before .before .before .args .t .now) (c .before .before .before .before .before .before .before .before .before .before .before .args .at) (sym (c .before .before .before .before .before .before .id2 .given .1) ∙ c .before .before .before .before .before .before .before .before .element-field .ensures) in answers-tag _ _ (k .bytes) (k .standing) (k .sized) (omega (arith, k .sized, c .before .before .before .before .if1 .left)) (c .before .before .store-tag .ensures .stored (k .bytes) (k .reads) (omega (arith, k .sized, c .before .before .before .before .if1 .left)))
 

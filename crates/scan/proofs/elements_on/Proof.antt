@@ -6,9 +6,6 @@ use native.Mathlib.Omega.{arith}
 use Rattle.scan.proofs.WalkLaws.{ElementsLeft, left-start, left-done, left-wrong, left-turn, left-less}
 use Rattle.scan.proofs.elements_on.Statement.{statement}
 use Rattle.scan.proofs.elements_on.Tie as tie
-use Rattle.scan.proofs.elements_on.Reads as reads
-use Rattle.scan.proofs.elements_on.Lts as lts
-use Rattle.scan.proofs.pass_element.Reads as pass-element-reads
 
 abbrev Inv-loop : tie.InvT-loop
 Inv-loop t at next₀ tags₀ count₀ next tags count = ElementsLeft t at next tags count
@@ -16,39 +13,30 @@ Inv-loop t at next₀ tags₀ count₀ next tags count = ElementsLeft t at next 
 abbrev μ-loop : tie.MeasureT-loop
 μ-loop t at next₀ tags₀ count₀ next tags count = length t + 1 - next
 
--- src/lib.rt:454:5
 loop-holds : tie.Need-loop-holds Inv-loop μ-loop
 loop-holds c = left-start _ _ (c .before .pre)
 
--- src/lib.rt:455:15
 pass-element-requires : tie.Need-pass-element-requires Inv-loop μ-loop
 pass-element-requires c κs = c .loop-test .taken
 
--- src/lib.rt:456:30
 enum-told : tie.Need-enum-told Inv-loop μ-loop
 enum-told c = search needs
 
--- src/lib.rt:456:30
 returns : tie.Need-returns Inv-loop μ-loop
 returns c = left-wrong _ _ (c .before .before .before .before .loop .inv) (c .before .before .before .loop-test .taken) (sym (c .enum-told .given .1) ∙ c .before .before .pass-element .ensures)
 
--- src/lib.rt:457:24
 enum-known-end : tie.Need-enum-known-end Inv-loop μ-loop
 enum-known-end c = search needs
 
--- src/lib.rt:460:17
 add-count : tie.Need-add-count Inv-loop μ-loop
 add-count c = let h = left-turn _ _ (c .before .before .before .before .before .loop .inv) (c .before .before .before .before .loop-test .taken) (sym (c .before .end .given .1) ∙ c .before .before .before .pass-element .ensures) in omega (arith, h .few, h .inside)
 
--- src/lib.rt:454:5
 loop-less : tie.Need-loop-less Inv-loop μ-loop
 loop-less c = let h = left-less _ _ (c .before .before .before .before .before .loop .inv) (c .before .before .before .before .loop-test .taken) (sym (c .before .end .given .1) ∙ c .before .before .before .pass-element .ensures) in omega (arith, h, c .before .before .before .before .loop-test .taken)
 
--- src/lib.rt:454:5
 loop-again : tie.Need-loop-again Inv-loop μ-loop
 loop-again c = left-turn _ _ (c .before .before .before .before .before .loop .inv) (c .before .before .before .before .loop-test .taken) (sym (c .before .end .given .1) ∙ c .before .before .before .pass-element .ensures)
 
--- src/lib.rt:447:1
 returns-2 : tie.Need-returns-2 Inv-loop μ-loop
 returns-2 c = left-done _ _ (c .before .loop .inv) (omega (arith, c .loop-test .left))
 

@@ -4,19 +4,14 @@ use mathlib.Core.Path.{sym}
 use borrow.Author.Needs.{needs}
 use Rattle.scan.proofs.ends.Statement.{statement}
 use Rattle.scan.proofs.ends.Tie as tie
-use Rattle.scan.proofs.ends.Reads as reads
-use Rattle.scan.proofs.ends.Lts as lts
 
--- src/lib.rt:128:9
 returns : tie.Need-returns
 unfolding endsAt
 returns c = sym (simp (le-leb _ _ (c .if1 .taken)))
 
--- src/lib.rt:130:5
 shared-slice-read-result : tie.Need-shared-slice-read-result
 shared-slice-read-result c = search needs
 
--- src/lib.rt:124:1
 returns-2 : tie.Need-returns-2
 unfolding endsAt
 returns-2 c = sym (simp (lt-leb _ _ (c .before .if1 .left)))

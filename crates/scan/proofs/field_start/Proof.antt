@@ -5,9 +5,6 @@ use Rattle.scan.proofs.WalkLaws.{field-inside}
 use Rattle.scan.proofs.AnswerLaws.{StartLeft, start-end, start-turn, start-done}
 use Rattle.scan.proofs.field_start.Statement.{statement}
 use Rattle.scan.proofs.field_start.Tie as tie
-use Rattle.scan.proofs.field_start.Reads as reads
-use Rattle.scan.proofs.field_start.Lts as lts
-use Rattle.scan.proofs.field_end.Reads as field-end-reads
 
 abbrev Inv-loop : tie.InvT-loop
 Inv-loop t at n next₀ left₀ next left = StartLeft t at n next left
@@ -15,35 +12,27 @@ Inv-loop t at n next₀ left₀ next left = StartLeft t at n next left
 abbrev μ-loop : tie.MeasureT-loop
 μ-loop t at n next₀ left₀ next left = left
 
--- src/lib.rt:587:5
 loop-holds : tie.Need-loop-holds Inv-loop μ-loop
 loop-holds c = (c .before .pre, refl)
 
--- src/lib.rt:589:13
 returns : tie.Need-returns Inv-loop μ-loop
 returns c = start-end _ _ _ (c .before .before .loop .left) (c .before .before .loop .inv) (c .if1 .taken)
 
--- src/lib.rt:591:16
 field-end-requires : tie.Need-field-end-requires Inv-loop μ-loop
 field-end-requires c κs = c .if1 .left
 
--- src/lib.rt:591:16
 add-next : tie.Need-add-next Inv-loop μ-loop
 add-next c = omega (arith, c .field-end .ensures, field-inside (c .before .before .before .before .before .args .t .now) (c .before .before .before .loop .next) (c .before .if1 .left))
 
--- src/lib.rt:592:9
 sub-left : tie.Need-sub-left Inv-loop μ-loop
 sub-left c = search needs
 
--- src/lib.rt:587:5
 loop-less : tie.Need-loop-less Inv-loop μ-loop
 loop-less c = search needs
 
--- src/lib.rt:587:5
 loop-again : tie.Need-loop-again Inv-loop μ-loop
 loop-again c = start-turn _ _ _ (c .before .before .before .loop .inv) (c .before .if1 .left) (c .before .before .loop-test .taken) (c .field-end .ensures) (omega (arith, c .field-end .ensures, field-inside (c .before .before .before .before .before .args .t .now) (c .before .before .before .loop .next) (c .before .if1 .left)))
 
--- src/lib.rt:581:1
 returns-2 : tie.Need-returns-2 Inv-loop μ-loop
 returns-2 c = start-done _ _ _ (c .before .loop .inv) (omega (arith, c .loop-test .left))
 

@@ -9,64 +9,46 @@ use Rattle.scan.proofs.WalkLaws.{field-inside, cut-body, line-open, lin
 use borrow.Author.Needs.{needs}
 use Rattle.scan.proofs.judge_line.Statement.{statement}
 use Rattle.scan.proofs.judge_line.Tie as tie
-use Rattle.scan.proofs.judge_line.Reads as reads
-use Rattle.scan.proofs.judge_line.Lts as lts
-use Rattle.scan.proofs.longitude_on.Reads as longitude-on-reads
-use Rattle.scan.proofs.number_field.Reads as number-field-reads
 
--- src/lib.rt:527:9
 returns : tie.Need-returns
 returns c = line-empty (c .before .before .args .s .now) (c .if1 .taken)
 
--- src/lib.rt:529:16
 sub-last : tie.Need-sub-last
 sub-last c = search needs
 
--- src/lib.rt:530:8
 shared-slice-read-if2 : tie.Need-shared-slice-read-if2
 shared-slice-read-if2 c = search needs
 
--- src/lib.rt:531:9
 returns-2 : tie.Need-returns-2
 returns-2 c = line-open (c .before .before .before .before .args .s .now) (c .if2 .taken)
 
--- src/lib.rt:533:13
 sub-t : tie.Need-sub-t
 sub-t c = search needs
 
--- src/lib.rt:533:13
 part-t-start : tie.Need-part-t-start
 part-t-start c = search needs
 
--- src/lib.rt:533:13
 part-t-end : tie.Need-part-t-end
 part-t-end c = search needs
 
--- src/lib.rt:534:11
 number-field-requires : tie.Need-number-field-requires
 number-field-requires c κs = search needs
 
--- src/lib.rt:535:26
 enum-told : tie.Need-enum-told
 enum-told c = search needs
 
--- src/lib.rt:536:20
 enum-known-timestamp : tie.Need-enum-known-timestamp
 enum-known-timestamp c = search needs
 
--- src/lib.rt:536:55
 add-longitude-on : tie.Need-add-longitude-on
 add-longitude-on c = let e = number-told (fieldEnd (take (length (c .before .before .before .before .before .before .before .before .before .args .s .now) - 1 - 0) (drop 0 (c .before .before .before .before .before .before .before .before .before .args .s .now))) 0) (readDecimal (2 ^ 64 - 1) (fieldFrom (take (length (c .before .before .before .before .before .before .before .before .before .args .s .now) - 1 - 0) (drop 0 (c .before .before .before .before .before .before .before .before .before .args .s .now))) 0)) (sym (c .before .timestamp .given .1) ∙ c .before .before .before .number-field .ensures) in omega (arith, e .1, field-inside (take (length (c .before .before .before .before .before .before .before .before .before .args .s .now) - 1 - 0) (drop 0 (c .before .before .before .before .before .before .before .before .before .args .s .now))) 0 (omega arith))
 
--- src/lib.rt:536:39
 longitude-on-requires : tie.Need-longitude-on-requires
 longitude-on-requires c κs = let e = number-told (fieldEnd (take (length (c .before .before .before .before .before .before .before .before .before .args .s .now) - 1 - 0) (drop 0 (c .before .before .before .before .before .before .before .before .before .args .s .now))) 0) (readDecimal (2 ^ 64 - 1) (fieldFrom (take (length (c .before .before .before .before .before .before .before .before .before .args .s .now) - 1 - 0) (drop 0 (c .before .before .before .before .before .before .before .before .before .args .s .now))) 0)) (sym (c .before .timestamp .given .1) ∙ c .before .before .before .number-field .ensures) in omega (arith, e .1, field-inside (take (length (c .before .before .before .before .before .before .before .before .before .args .s .now) - 1 - 0) (drop 0 (c .before .before .before .before .before .before .before .before .before .args .s .now))) 0 (omega arith))
 
--- src/lib.rt:523:1
 returns-3 : tie.Need-returns-3
 returns-3 c = line-bad (c .before .before .before .before .before .before .before .before .args .s .now) (c .before .before .before .before .if2 .left) (cut-body (c .before .before .before .before .before .before .before .before .args .s .now) refl) (sym (c .enum-told .given .1) ∙ c .before .before .number-field .ensures)
 
--- src/lib.rt:523:1
 returns-4 : tie.Need-returns-4
 returns-4 c = line-on (c .before .before .before .before .before .before .before .before .before .before .args .s .now) (c .before .before .before .before .before .before .if2 .left) (cut-body (c .before .before .before .before .before .before .before .before .before .before .args .s .now) refl) (number-told _ _ (sym (c .before .before .timestamp .given .1) ∙ c .before .before .before .before .number-field .ensures)) (c .longitude-on .ensures)
 

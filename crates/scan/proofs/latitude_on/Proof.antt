@@ -8,44 +8,31 @@ use Rattle.scan.proofs.WalkLaws.{field-inside, field-none, field-bad, f
 use borrow.Author.Needs.{needs}
 use Rattle.scan.proofs.latitude_on.Statement.{statement}
 use Rattle.scan.proofs.latitude_on.Tie as tie
-use Rattle.scan.proofs.latitude_on.Reads as reads
-use Rattle.scan.proofs.latitude_on.Lts as lts
-use Rattle.scan.proofs.degrees_field.Reads as degrees-field-reads
-use Rattle.scan.proofs.speed_on.Reads as speed-on-reads
 
--- src/lib.rt:500:30
 sub-t9 : tie.Need-sub-t9
 sub-t9 c = search needs
 
--- src/lib.rt:500:9
 returns : tie.Need-returns
 returns c = field-none readDegrees _ _ _ _ (c .if1 .taken)
 
--- src/lib.rt:502:11
 degrees-field-requires : tie.Need-degrees-field-requires
 degrees-field-requires c κs = search needs
 
--- src/lib.rt:503:27
 enum-told : tie.Need-enum-told
 enum-told c = search needs
 
--- src/lib.rt:504:21
 enum-known-latitude : tie.Need-enum-known-latitude
 enum-known-latitude c = search needs
 
--- src/lib.rt:504:51
 add-speed-on : tie.Need-add-speed-on
 add-speed-on c = let e = degrees-told (fieldEnd (c .before .before .before .before .before .before .args .t .now) (c .before .before .before .before .before .before .args .at)) (readDegrees (fieldFrom (c .before .before .before .before .before .before .args .t .now) (c .before .before .before .before .before .before .args .at))) (sym (c .before .latitude .given .1) ∙ c .before .before .before .degrees-field .ensures) in omega (arith, e .1, field-inside (c .before .before .before .before .before .before .args .t .now) (c .before .before .before .before .before .before .args .at) (c .before .before .before .before .if1 .left))
 
--- src/lib.rt:504:39
 speed-on-requires : tie.Need-speed-on-requires
 speed-on-requires c κs = let e = degrees-told (fieldEnd (c .before .before .before .before .before .before .args .t .now) (c .before .before .before .before .before .before .args .at)) (readDegrees (fieldFrom (c .before .before .before .before .before .before .args .t .now) (c .before .before .before .before .before .before .args .at))) (sym (c .before .latitude .given .1) ∙ c .before .before .before .degrees-field .ensures) in omega (arith, e .1, field-inside (c .before .before .before .before .before .before .args .t .now) (c .before .before .before .before .before .before .args .at) (c .before .before .before .before .if1 .left))
 
--- src/lib.rt:495:1
 returns-2 : tie.Need-returns-2
 returns-2 c = field-bad readDegrees _ _ _ _ (c .before .before .before .if1 .left) (degrees-bad _ _ (sym (c .enum-told .given .1) ∙ c .before .before .degrees-field .ensures) .1)
 
--- src/lib.rt:495:1
 returns-3 : tie.Need-returns-3
 returns-3 c = field-on readDegrees (c .before .before .before .before .before .before .before .args .t .now) (c .before .before .before .before .before .before .before .args .at) (speedOn (c .before .before .before .before .before .before .before .args .timestamp) (c .before .before .before .before .before .before .before .args .longitude)) 1 (c .before .before .before .before .before .if1 .left) (degrees-told _ _ (sym (c .before .before .latitude .given .1) ∙ c .before .before .before .before .degrees-field .ensures)) (rw (toZ-ofZ (c .before .before .before .before .before .before .before .fits .longitude), degrees-word (fieldFrom (c .before .before .before .before .before .before .before .args .t .now) (c .before .before .before .before .before .before .before .args .at)) (c .before .before .latitude .given .0 .0) (degrees-told (fieldEnd (c .before .before .before .before .before .before .before .args .t .now) (c .before .before .before .before .before .before .before .args .at)) (readDegrees (fieldFrom (c .before .before .before .before .before .before .before .args .t .now) (c .before .before .before .before .before .before .before .args .at))) (sym (c .before .before .latitude .given .1) ∙ c .before .before .before .before .degrees-field .ensures) .0)) at (c .speed-on .ensures))
 

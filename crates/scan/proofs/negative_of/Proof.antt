@@ -1,4 +1,4 @@
-use mathlib.Core.Path.{sym, ap, refl, _∙_}
+use mathlib.Core.Path.{sym, ap, _∙_}
 use native.Mathlib.Omega.{arith}
 use mir.ValLaws.{toZ-ofZ}
 use mir.Syntax.{w32}
@@ -8,44 +8,32 @@ use Rattle.scan.specs.Fields.{signedAs}
 use borrow.Author.Needs.{needs}
 use Rattle.scan.proofs.negative_of.Statement.{statement}
 use Rattle.scan.proofs.negative_of.Tie as tie
-use Rattle.scan.proofs.negative_of.Reads as reads
-use Rattle.scan.proofs.negative_of.Lts as lts
-use Rattle.wire.proofs.signed32.Reads as signed32-reads
 
--- src/lib.rt:214:26
 enum-told : tie.Need-enum-told
 enum-told c = search needs
 
--- src/lib.rt:215:20
 enum-known-m : tie.Need-enum-known-m
 enum-known-m c = search needs
 
--- src/lib.rt:218:56
 sub-signed32 : tie.Need-sub-signed32
 sub-signed32 c = search needs
 
--- src/lib.rt:218:55
 cast-signed32 : tie.Need-cast-signed32
 cast-signed32 c = search needs
 
--- src/lib.rt:218:40
 signed32-requires : tie.Need-signed32-requires
 signed32-requires c κs = search needs
 
--- src/lib.rt:218:21
 returns : tie.Need-returns
 returns c = negative-read (c .before .before .before .before .m .given .0 .0) _ _ (toZ-ofZ w32 (c .signed32 .result) (record { sfits = c .signed32 .ok }) ∙ c .signed32 .ensures) (c .before .before .if1 .taken) (c .before .if2 .taken) ∙ ap (signedAs negative) (sym (c .before .before .before .before .m .given .1))
 
--- src/lib.rt:210:1
 returns-2 : tie.Need-returns-2
 unfolding signedAs
 returns-2 c = ap (signedAs negative) (sym (c .enum-told .given .1))
 
--- src/lib.rt:210:1
 returns-3 : tie.Need-returns-3
 returns-3 c = negative-over (c .before .before .before .m .given .0 .0) _ (c .before .if1 .taken) (omega (arith, c .if2 .left)) ∙ ap (signedAs negative) (sym (c .before .before .before .m .given .1))
 
--- src/lib.rt:210:1
 returns-4 : tie.Need-returns-4
 returns-4 c = negative-none (c .before .before .m .given .0 .0) _ (omega (arith, c .if1 .left)) ∙ ap (signedAs negative) (sym (c .before .before .m .given .1))
 

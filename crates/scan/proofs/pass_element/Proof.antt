@@ -6,43 +6,31 @@ use Rattle.scan.proofs.WalkLaws.{pass-number, pass-tag, pass-wrong, num
 use borrow.Author.Needs.{needs}
 use Rattle.scan.proofs.pass_element.Statement.{statement}
 use Rattle.scan.proofs.pass_element.Tie as tie
-use Rattle.scan.proofs.pass_element.Reads as reads
-use Rattle.scan.proofs.pass_element.Lts as lts
-use Rattle.scan.proofs.element_field.Reads as element-field-reads
 
--- src/lib.rt:438:11
 element-field-requires : tie.Need-element-field-requires
 element-field-requires c κs = search needs
 
--- src/lib.rt:439:24
 enum-told : tie.Need-enum-told
 enum-told c = search needs
 
--- src/lib.rt:440:28
 enum-known-end : tie.Need-enum-known-end
 enum-known-end c = search needs
 
--- src/lib.rt:440:47
 add-t8 : tie.Need-add-t8
 add-t8 c = let h = field-inside (c .before .before .before .before .before .args .t .now) (c .before .before .before .before .before .args .at) (c .before .before .before .before .before .pre) in omega (arith, h, number-end (tagStart (c .before .before .before .before .before .args .t .now) (c .before .before .before .before .before .args .at)) (fieldEnd (c .before .before .before .before .before .args .t .now) (c .before .before .before .before .before .args .at)) (readPrinted (c .before .before .before .before .before .args .tags) (fieldFrom (c .before .before .before .before .before .args .t .now) (c .before .before .before .before .before .args .at))) (sym (c .before .end .given .1) ∙ c .before .before .before .element-field .ensures))
 
--- src/lib.rt:441:28
 enum-known-end-2 : tie.Need-enum-known-end-2
 enum-known-end-2 c = search needs
 
--- src/lib.rt:441:47
 add-t9 : tie.Need-add-t9
 add-t9 c = let h = field-inside (c .before .before .before .before .before .args .t .now) (c .before .before .before .before .before .args .at) (c .before .before .before .before .before .pre) in omega (arith, h, tag-end (tagStart (c .before .before .before .before .before .args .t .now) (c .before .before .before .before .before .args .at)) (fieldEnd (c .before .before .before .before .before .args .t .now) (c .before .before .before .before .before .args .at)) (readPrinted (c .before .before .before .before .before .args .tags) (fieldFrom (c .before .before .before .before .before .args .t .now) (c .before .before .before .before .before .args .at))) (sym (c .before .end2 .given .1) ∙ c .before .before .before .element-field .ensures))
 
--- src/lib.rt:434:1
 returns : tie.Need-returns
 returns c = pass-wrong _ _ _ (sym (c .enum-told .given .1) ∙ c .before .before .element-field .ensures)
 
--- src/lib.rt:434:1
 returns-2 : tie.Need-returns-2
 returns-2 c = pass-number _ _ _ (sym (c .before .end .given .1) ∙ c .before .before .before .element-field .ensures)
 
--- src/lib.rt:434:1
 returns-3 : tie.Need-returns-3
 returns-3 c = pass-tag _ _ _ (sym (c .before .end2 .given .1) ∙ c .before .before .before .element-field .ensures)
 

@@ -4,52 +4,37 @@ use Rattle.scan.proofs.DegreesLaws.{places-over, places-short, places-o
 use borrow.Author.Needs.{needs}
 use Rattle.scan.proofs.places_at.Statement.{statement}
 use Rattle.scan.proofs.places_at.Tie as tie
-use Rattle.scan.proofs.places_at.Reads as reads
-use Rattle.scan.proofs.places_at.Lts as lts
-use Rattle.scan.proofs.digit_run.Reads as digit-run-reads
-use Rattle.scan.proofs.ends.Reads as ends-reads
 
--- src/lib.rt:156:11
 digit-run-requires : tie.Need-digit-run-requires
 digit-run-requires c κs = search needs
 
--- src/lib.rt:157:26
 enum-told : tie.Need-enum-told
 enum-told c = search needs
 
--- src/lib.rt:158:20
 enum-known-n : tie.Need-enum-known-n
 enum-known-n c = search needs
 
--- src/lib.rt:159:23
 add-if1 : tie.Need-add-if1
 add-if1 c = search needs
 
--- src/lib.rt:160:20
 ends-requires : tie.Need-ends-requires
 ends-requires c κs = search needs
 
--- src/lib.rt:161:39
 mul-t11 : tie.Need-mul-t11
 mul-t11 c = search needs
 
--- src/lib.rt:161:39
 add-t12 : tie.Need-add-t12
 add-t12 c = let h = places-small (c .before .before .before .before .before .before .before .before .args .t .now) (c .before .before .before .before .before .before .before .before .args .at) (c .before .before .before .before .before .before .before .before .args .whole) (c .before .before .before .before .before .before .before .before .pre .0) (sym (c .before .before .before .before .n .given .1) ∙ c .before .before .before .before .before .before .digit-run .ensures) (c .before .before .if1 .taken) in omega (arith, h, c .before .before .before .before .before .before .before .before .pre .1)
 
--- src/lib.rt:161:21
 returns : tie.Need-returns
 returns c = places-read (c .before .before .before .before .before .before .before .before .args .t .now) (c .before .before .before .before .before .before .before .before .args .at) (c .before .before .before .before .before .before .before .before .args .whole) (c .before .before .before .before .before .before .before .before .pre .0) (sym (c .before .before .before .before .n .given .1) ∙ c .before .before .before .before .before .before .digit-run .ensures) (c .before .before .if1 .taken) (sym (c .before .ends .ensures) ∙ c .if2 .taken)
 
--- src/lib.rt:152:1
 returns-2 : tie.Need-returns-2
 returns-2 c = places-over (c .before .before .before .before .args .t .now) (c .before .before .before .before .args .at) (c .before .before .before .before .args .whole) (c .before .before .before .before .pre .0) (sym (c .enum-told .given .1) ∙ c .before .before .digit-run .ensures)
 
--- src/lib.rt:152:1
 returns-3 : tie.Need-returns-3
 returns-3 c = places-open (c .before .before .before .before .before .before .before .before .args .t .now) (c .before .before .before .before .before .before .before .before .args .at) (c .before .before .before .before .before .before .before .before .args .whole) (c .before .before .before .before .before .before .before .before .pre .0) (sym (c .before .before .before .before .n .given .1) ∙ c .before .before .before .before .before .before .digit-run .ensures) (sym (c .before .ends .ensures) ∙ c .if2 .left)
 
--- src/lib.rt:152:1
 returns-4 : tie.Need-returns-4
 returns-4 c = places-short (c .before .before .before .before .before .before .args .t .now) (c .before .before .before .before .before .before .args .at) (c .before .before .before .before .before .before .args .whole) (c .before .before .before .before .before .before .pre .0) (sym (c .before .before .n .given .1) ∙ c .before .before .before .before .digit-run .ensures) (c .if1 .left)
 

@@ -1,4 +1,4 @@
-use mathlib.Core.Path.{sym, ap, refl, _∙_}
+use mathlib.Core.Path.{sym, ap, _∙_}
 use native.Mathlib.Omega.{arith}
 use mir.ValLaws.{toZ-ofZ}
 use mir.Syntax.{w32}
@@ -8,36 +8,26 @@ use Rattle.scan.specs.Fields.{signedAs}
 use borrow.Author.Needs.{needs}
 use Rattle.scan.proofs.positive_of.Statement.{statement}
 use Rattle.scan.proofs.positive_of.Tie as tie
-use Rattle.scan.proofs.positive_of.Reads as reads
-use Rattle.scan.proofs.positive_of.Lts as lts
-use Rattle.wire.proofs.signed32.Reads as signed32-reads
 
--- src/lib.rt:199:26
 enum-told : tie.Need-enum-told
 enum-told c = search needs
 
--- src/lib.rt:200:20
 enum-known-m : tie.Need-enum-known-m
 enum-known-m c = search needs
 
--- src/lib.rt:202:51
 cast-signed32 : tie.Need-cast-signed32
 cast-signed32 c = search needs
 
--- src/lib.rt:202:36
 signed32-requires : tie.Need-signed32-requires
 signed32-requires c κs = search needs
 
--- src/lib.rt:202:17
 returns : tie.Need-returns
 returns c = positive-read (c .before .before .before .m .given .0 .0) _ _ (toZ-ofZ w32 (c .signed32 .result) (record { sfits = c .signed32 .ok }) ∙ c .signed32 .ensures) (c .before .if1 .taken) ∙ ap (signedAs positive) (sym (c .before .before .before .m .given .1))
 
--- src/lib.rt:195:1
 returns-2 : tie.Need-returns-2
 unfolding signedAs
 returns-2 c = ap (signedAs positive) (sym (c .enum-told .given .1))
 
--- src/lib.rt:195:1
 returns-3 : tie.Need-returns-3
 returns-3 c = positive-over (c .before .before .m .given .0 .0) _ (omega (arith, c .if1 .left)) ∙ ap (signedAs positive) (sym (c .before .before .m .given .1))
 

@@ -6,28 +6,20 @@ use Rattle.scan.proofs.AnswerLaws.{line-taken, line-wrong}
 use borrow.Author.Needs.{needs}
 use Rattle.scan.proofs.read_line.Statement.{statement}
 use Rattle.scan.proofs.read_line.Tie as tie
-use Rattle.scan.proofs.read_line.Reads as reads
-use Rattle.scan.proofs.read_line.Lts as lts
-use Rattle.scan.proofs.judge_line.Reads as judge-line-reads
 
--- src/lib.rt:544:11
 judge-line-requires : tie.Need-judge-line-requires
 judge-line-requires c κs = search needs
 
--- src/lib.rt:545:23
 enum-known-f : tie.Need-enum-known-f
 enum-known-f c = search needs
 
--- src/lib.rt:546:49
 enum-told : tie.Need-enum-told
 enum-told c = search needs
 
--- src/lib.rt:541:1
 returns : tie.Need-returns
 unfolding lineAs answerLine
 returns c = let k = line-taken (c .before .before .before .before .before .args .s .now) _ (sym (c .before .f .given .1) ∙ c .before .before .before .judge-line .ensures) in ap accepted (k .2) ∙ sym (onAccepted-passed _ _ (k .1))
 
--- src/lib.rt:541:1
 returns-2 : tie.Need-returns-2
 unfolding lineAs answerLine
 returns-2 c = sym (onAccepted-refused _ _ (line-wrong (c .before .before .before .before .args .s .now) _ (sym (c .enum-told .given .1) ∙ c .before .before .judge-line .ensures) .0))

@@ -9,60 +9,43 @@ use Rattle.scan.proofs.WalkLaws.{field-inside, field-none, field-bad, n
 use borrow.Author.Needs.{needs}
 use Rattle.scan.proofs.speed_on.Statement.{statement}
 use Rattle.scan.proofs.speed_on.Tie as tie
-use Rattle.scan.proofs.speed_on.Reads as reads
-use Rattle.scan.proofs.speed_on.Lts as lts
-use Rattle.scan.proofs.elements_on.Reads as elements-on-reads
-use Rattle.scan.proofs.number_field.Reads as number-field-reads
 
--- src/lib.rt:473:30
 sub-t13 : tie.Need-sub-t13
 sub-t13 c = search needs
 
--- src/lib.rt:473:9
 returns : tie.Need-returns
 returns c = field-none (readDecimal (2 ^ 16 - 1)) _ _ _ _ (c .if1 .taken)
 
--- src/lib.rt:475:11
 number-field-requires : tie.Need-number-field-requires
 number-field-requires c κs = search needs
 
--- src/lib.rt:476:26
 enum-told : tie.Need-enum-told
 enum-told c = search needs
 
--- src/lib.rt:477:20
 enum-known-speed : tie.Need-enum-known-speed
 enum-known-speed c = search needs
 
--- src/lib.rt:478:25
 add-start : tie.Need-add-start
 add-start c = let e = number-told (fieldEnd (c .before .before .before .before .before .before .args .t .now) (c .before .before .before .before .before .before .args .at)) (readDecimal (2 ^ 16 - 1) (fieldFrom (c .before .before .before .before .before .before .args .t .now) (c .before .before .before .before .before .before .args .at))) (sym (c .before .speed .given .1) ∙ c .before .before .before .number-field .ensures) in omega (arith, e .1, field-inside (c .before .before .before .before .before .before .args .t .now) (c .before .before .before .before .before .before .args .at) (c .before .before .before .before .if1 .left))
 
--- src/lib.rt:479:19
 elements-on-requires : tie.Need-elements-on-requires
 elements-on-requires c κs = let e = number-told (fieldEnd (c .before .before .before .before .before .before .args .t .now) (c .before .before .before .before .before .before .args .at)) (readDecimal (2 ^ 16 - 1) (fieldFrom (c .before .before .before .before .before .before .args .t .now) (c .before .before .before .before .before .before .args .at))) (sym (c .before .speed .given .1) ∙ c .before .before .before .number-field .ensures) in omega (arith, e .1, field-inside (c .before .before .before .before .before .before .args .t .now) (c .before .before .before .before .before .before .args .at) (c .before .before .before .before .if1 .left))
 
--- src/lib.rt:480:29
 enum-known-place : tie.Need-enum-known-place
 enum-known-place c = search needs
 
--- src/lib.rt:481:26
 enum-known-elements : tie.Need-enum-known-elements
 enum-known-elements c = search needs
 
--- src/lib.rt:485:28
 cast-t18 : tie.Need-cast-t18
 cast-t18 c = let e = number-told (fieldEnd (c .before .before .before .before .before .before .before .before .before .before .args .t .now) (c .before .before .before .before .before .before .before .before .before .before .args .at)) (readDecimal (2 ^ 16 - 1) (fieldFrom (c .before .before .before .before .before .before .before .before .before .before .args .t .now) (c .before .before .before .before .before .before .before .before .before .before .args .at))) (sym (c .before .before .before .before .before .speed .given .1) ∙ c .before .before .before .before .before .before .before .number-field .ensures) in omega (arith, decimal-most (2 ^ 16 - 1) (fieldFrom (c .before .before .before .before .before .before .before .before .before .before .args .t .now) (c .before .before .before .before .before .before .before .before .before .before .args .at)) (e .0))
 
--- src/lib.rt:468:1
 returns-2 : tie.Need-returns-2
 returns-2 c = field-bad (readDecimal (2 ^ 16 - 1)) _ _ _ _ (c .before .before .before .if1 .left) (number-read _ _ (sym (c .enum-told .given .1) ∙ c .before .before .number-field .ensures) .1)
 
--- src/lib.rt:468:1
 returns-3 : tie.Need-returns-3
 returns-3 c = speed-bad _ _ _ _ _ _ _ (c .before .before .before .before .before .before .before .before .if1 .left) (number-told _ _ (sym (c .before .before .before .before .before .speed .given .1) ∙ c .before .before .before .before .before .before .before .number-field .ensures)) (sym (c .before .place .given .1) ∙ c .before .before .before .elements-on .ensures)
 
--- src/lib.rt:468:1
 returns-4 : tie.Need-returns-4
 returns-4 c = speed-read _ _ _ _ _ _ _ (c .before .before .before .before .before .before .before .before .if1 .left) (number-told _ _ (sym (c .before .before .before .before .before .speed .given .1) ∙ c .before .before .before .before .before .before .before .number-field .ensures)) (toZ-ofZ (c .before .before .before .before .before .before .before .before .before .before .fits .longitude)) (toZ-ofZ (c .before .before .before .before .before .before .before .before .before .before .fits .latitude)) (sym (c .before .elements .given .1) ∙ c .before .before .before .elements-on .ensures)
 

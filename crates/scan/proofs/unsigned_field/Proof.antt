@@ -5,45 +5,31 @@ use Rattle.scan.proofs.DegreesLaws.{unsigned-wrong, unsigned-open, unsi
 use borrow.Author.Needs.{needs}
 use Rattle.scan.proofs.unsigned_field.Statement.{statement}
 use Rattle.scan.proofs.unsigned_field.Tie as tie
-use Rattle.scan.proofs.unsigned_field.Reads as reads
-use Rattle.scan.proofs.unsigned_field.Lts as lts
-use Rattle.scan.proofs.decimal_at.Reads as decimal-at-reads
-use Rattle.scan.proofs.places_at.Reads as places-at-reads
-use Rattle.scan.proofs.stands.Reads as stands-reads
 
--- src/lib.rt:184:11
 decimal-at-requires : tie.Need-decimal-at-requires
 decimal-at-requires c κs = search needs
 
--- src/lib.rt:185:26
 enum-told : tie.Need-enum-told
 enum-told c = search needs
 
--- src/lib.rt:186:20
 enum-known-whole : tie.Need-enum-known-whole
 enum-known-whole c = search needs
 
--- src/lib.rt:187:16
 stands-requires : tie.Need-stands-requires
 stands-requires c κs = search needs
 
--- src/lib.rt:188:37
 add-places-at : tie.Need-add-places-at
 add-places-at c = let h = stands-yes _ _ _ (sym (c .before .stands .ensures) ∙ c .if1 .taken) in omega (arith, h .0)
 
--- src/lib.rt:188:17
 places-at-requires : tie.Need-places-at-requires
 places-at-requires c κs = let h = stands-yes _ _ _ (sym (c .before .stands .ensures) ∙ c .if1 .taken) in (omega (arith, h .0), decimal-most _ _ (number-told _ _ (sym (c .before .before .before .whole .given .1) ∙ c .before .before .before .before .before .decimal-at .ensures) .0))
 
--- src/lib.rt:188:17
 returns : tie.Need-returns
 returns c = c .places-at .ensures ∙ unsigned-on _ _ (c .before .before .before .before .before .before .before .before .pre) (sym (c .before .before .before .before .whole .given .1) ∙ c .before .before .before .before .before .before .decimal-at .ensures) (number-told _ _ (sym (c .before .before .before .before .whole .given .1) ∙ c .before .before .before .before .before .before .decimal-at .ensures) .1) (sym (c .before .before .stands .ensures) ∙ c .before .if1 .taken)
 
--- src/lib.rt:180:1
 returns-2 : tie.Need-returns-2
 returns-2 c = unsigned-wrong _ _ (c .before .before .before .before .pre) (sym (c .enum-told .given .1) ∙ c .before .before .decimal-at .ensures)
 
--- src/lib.rt:180:1
 returns-3 : tie.Need-returns-3
 returns-3 c = unsigned-open _ _ (c .before .before .before .before .before .before .before .pre) (sym (c .before .before .before .whole .given .1) ∙ c .before .before .before .before .before .decimal-at .ensures) (number-told _ _ (sym (c .before .before .before .whole .given .1) ∙ c .before .before .before .before .before .decimal-at .ensures) .1) (sym (c .before .stands .ensures) ∙ c .if1 .left)
 

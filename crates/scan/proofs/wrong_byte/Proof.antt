@@ -3,27 +3,19 @@ use Rattle.scan.proofs.AnswerLaws.{line-right, line-wrong}
 use borrow.Author.Needs.{needs}
 use Rattle.scan.proofs.wrong_byte.Statement.{statement}
 use Rattle.scan.proofs.wrong_byte.Tie as tie
-use Rattle.scan.proofs.wrong_byte.Reads as reads
-use Rattle.scan.proofs.wrong_byte.Lts as lts
-use Rattle.scan.proofs.judge_line.Reads as judge-line-reads
 
--- src/lib.rt:557:11
 judge-line-requires : tie.Need-judge-line-requires
 judge-line-requires c κs = search needs
 
--- src/lib.rt:558:29
 enum-told : tie.Need-enum-told
 enum-told c = search needs
 
--- src/lib.rt:559:23
 enum-known-place : tie.Need-enum-known-place
 enum-known-place c = search needs
 
--- src/lib.rt:554:1
 returns : tie.Need-returns
 returns c = line-right (c .before .before .before .before .args .s .now) _ (sym (c .enum-told .given .1) ∙ c .before .before .judge-line .ensures)
 
--- src/lib.rt:554:1
 returns-2 : tie.Need-returns-2
 returns-2 c = line-wrong (c .before .before .before .before .before .args .s .now) _ (sym (c .before .place .given .1) ∙ c .before .before .before .judge-line .ensures) .1
 
