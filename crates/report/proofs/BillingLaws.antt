@@ -22,7 +22,7 @@ use Rattle.scan.specs.Answers.{answerLine, lineAs}
 use Rattle.say.specs.Lines.{lineLength}
 use Rattle.say.proofs.LineLaws.{line-fits}
 use Rattle.connection.proofs.PaddedLaws.{rest-part}
-use Rattle.report.specs.Shown.{refusalNumber, linesOf, lineRefusal, earlier, firstRefusal, linesRefusal}
+use Rattle.report.specs.Shown.{refusalNumber, textLines, lineRefusal, earlier, firstRefusal, linesRefusal}
 
 -- ---- a line is wrong at one of its bytes or at its end
 
@@ -100,8 +100,8 @@ unfolding lineLength
 line-some [] h = absurd (omega arith)
 line-some (c ∷ s) h = by-test (eqb c 10) (λ e. simp e (omega arith)) (λ e. simp e (omega arith))
 
-line-first : (s : List ℕ) → 1 ≤ length s → linesOf s ≡ take (lineLength s) s ∷ linesOf (drop (lineLength s) s)
-unfolding lineLength linesOf onto
+line-first : (s : List ℕ) → 1 ≤ length s → textLines s ≡ take (lineLength s) s ∷ textLines (drop (lineLength s) s)
+unfolding lineLength textLines onto
 line-first [] h = absurd (omega arith)
 line-first (c ∷ []) h = by-test (eqb c 10) (λ e. simp e) (λ e. simp e)
 line-first (c ∷ d ∷ s) h = by-test (eqb c 10) (λ e. simp e) (λ e. simp e (ap (onto c) (line-first (d ∷ s) (omega arith))))
@@ -138,16 +138,16 @@ earlier-assoc a b c = by-test (eqb a 0) (λ e. simp e) (λ e. simp e)
 pub record LinesAhead (s : List ℕ) (first at k : ℕ) : Type 0 where
   pub inside : at ≤ length s
   pub few : k ≤ at
-  pub rest : earlier first (firstRefusal (linesOf (drop at s))) ≡ linesRefusal s
+  pub rest : earlier first (firstRefusal (textLines (drop at s))) ≡ linesRefusal s
 
 pub lines-begin : (s : List ℕ) → LinesAhead s 0 0 0
 unfolding earlier linesRefusal
 lines-begin s = record { inside = omega arith; few = omega arith; rest = refl }
 
 pub lines-end : {s : List ℕ} {first at k : ℕ} → LinesAhead s first at k → length s ≤ at → first ≡ linesRefusal s
-unfolding linesOf firstRefusal
+unfolding textLines firstRefusal
 lines-end {s} {first} {at} h done =
-    sym (earlier-none first) ∙ ap (λ (l : List ℕ). earlier first (firstRefusal (linesOf l))) (sym (drop-of-length-le s {i = at} done)) ∙ h .rest
+    sym (earlier-none first) ∙ ap (λ (l : List ℕ). earlier first (firstRefusal (textLines l))) (sym (drop-of-length-le s {i = at} done)) ∙ h .rest
 
 module _ {s : List ℕ} {first at k size : ℕ} (h : LinesAhead s first at k) (more : at < length s) (e : size ≡ lineLength (take (length s - at) (drop at s))) where
   is : size ≡ lineLength (drop at s)
@@ -162,13 +162,13 @@ module _ {s : List ℕ} {first at k size : ℕ} (h : LinesAhead s first at k) (m
   pub part-inside : at + length (take (at + size - at) (drop at s)) ≤ length s
   part-inside = omega (arith, length-take (at + size - at) (drop at s), line-inside .1)
 
-  ahead : linesOf (drop at s) ≡ take size (drop at s) ∷ linesOf (drop (at + size) s)
-  ahead = line-first (drop at s) some ∙ rw (← is) (ap (λ (l : List ℕ). take size (drop at s) ∷ linesOf l) (drop-drop size at s))
+  ahead : textLines (drop at s) ≡ take size (drop at s) ∷ textLines (drop (at + size) s)
+  ahead = line-first (drop at s) some ∙ rw (← is) (ap (λ (l : List ℕ). take size (drop at s) ∷ textLines l) (drop-drop size at s))
 
   pub lines-turn : {n next : ℕ} → n ≡ lineRefusal (take (at + size - at) (drop at s)) → next ≡ earlier first n → LinesAhead s next (at + size) (k + 1)
   unfolding firstRefusal
   lines-turn {n} {next} said kept =
-      let others = firstRefusal (linesOf (drop (at + size) s)) in
+      let others = firstRefusal (textLines (drop (at + size) s)) in
       let just : at + size - at ≡ size = omega arith in
       let this : n ≡ lineRefusal (take size (drop at s)) = said ∙ ap (λ (i : ℕ). lineRefusal (take i (drop at s))) just in
       record {

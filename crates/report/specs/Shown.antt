@@ -53,9 +53,9 @@ connectionRefusal p = closingRefusal (stream baseLimits p (waiting forLogin []) 
 -- ---- billing lines, read back
 
 -- the lines of a text, each with its LF (10), which the last may lack
-unfoldable pub linesOf : List ℕ → List (List ℕ)
-linesOf [] = []
-linesOf (c ∷ s) = pick (eqb c 10) ((c ∷ []) ∷ linesOf s) (onto c (linesOf s))
+unfoldable pub textLines : List ℕ → List (List ℕ)
+textLines [] = []
+textLines (c ∷ s) = pick (eqb c 10) ((c ∷ []) ∷ textLines s) (onto c (textLines s))
 
 unfoldable pub lineRefusal : List ℕ → ℕ
 lineRefusal s = refusalNumber (readLine s)
@@ -70,7 +70,7 @@ firstRefusal (line ∷ lines) = earlier (lineRefusal line) (firstRefusal lines)
 
 -- of the first line that is refused
 unfoldable pub linesRefusal : List ℕ → ℕ
-linesRefusal s = firstRefusal (linesOf s)
+linesRefusal s = firstRefusal (textLines s)
 
 -- ---- what is written, into a buffer of `size` bytes
 
