@@ -1,7 +1,6 @@
 // What is in an input, in words on standard output, one function for each kind; and what it turns into.
 // Each answers the number of the refusal that it says, 0 if none.
 mod items;
-mod lines;
 mod records;
 
 ghost use mathlib.Core.Path.{_≡_};
@@ -13,10 +12,10 @@ use command::CommandFields;
 use datagram::DatagramAnswer;
 use datagram::Header;
 use items::say_item;
-use lines::show_line;
 use login::LoginAnswer;
 use packet::PacketAnswer;
 use records::say_records;
+use records::show_line;
 use say::say;
 use say::say_bytes;
 use say::say_hex;

@@ -1,8 +1,8 @@
 -- The reader's refusal is the one said; an accepted line has none.
 use Rattle.report.proofs.BillingLaws.{line-refused, line-taken}
 use borrow.Author.Needs.{needs}
-use Rattle.report.proofs.lines.show_line.Statement.{statement}
-use Rattle.report.proofs.lines.show_line.Tie as tie
+use Rattle.report.proofs.records.show_line.Statement.{statement}
+use Rattle.report.proofs.records.show_line.Tie as tie
 
 read-line-requires : tie.Need-read-line-requires
 read-line-requires c κs = search needs

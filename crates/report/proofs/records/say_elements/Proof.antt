@@ -2,8 +2,8 @@
 use mathlib.Core.Path.{_≡_}
 use lib.ListN.{length}
 use borrow.Author.Needs.{needs}
-use Rattle.report.proofs.lines.say_elements.Statement.{statement}
-use Rattle.report.proofs.lines.say_elements.Tie as tie
+use Rattle.report.proofs.records.say_elements.Statement.{statement}
+use Rattle.report.proofs.records.say_elements.Tie as tie
 
 abbrev Inv-loop : tie.InvT-loop
 Inv-loop s start count bytes₀ at₀ left₀ bytes at left = length bytes ≡ length bytes₀

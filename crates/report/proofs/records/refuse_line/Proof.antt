@@ -2,8 +2,8 @@
 use native.Mathlib.Omega.{arith}
 use Rattle.report.proofs.BillingLaws.{wrong-within}
 use borrow.Author.Needs.{needs}
-use Rattle.report.proofs.lines.refuse_line.Statement.{statement}
-use Rattle.report.proofs.lines.refuse_line.Tie as tie
+use Rattle.report.proofs.records.refuse_line.Statement.{statement}
+use Rattle.report.proofs.records.refuse_line.Tie as tie
 
 wrong-byte-requires : tie.Need-wrong-byte-requires
 wrong-byte-requires c κs = search needs
