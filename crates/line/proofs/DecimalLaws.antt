@@ -8,7 +8,7 @@ use mathlib.Core.List.{List, [], _∷_, _++_, append-assoc, append-nil}
 use lib.ListN.{length, length-append}
 use lib.Dec.{eqb, leb, ltb}
 use lib.Arith.{digits-div, digits-mod}
-use borrow.Author.Tests.{ltb-true, ltb-false, lt-ltb, le-ltb, leb-true, le-leb, eqb-true, eqb-false, ne-eqb}
+use borrow.Author.Tests.{ltb-true, ltb-false, lt-ltb, leb-true, le-leb, eqb-true, eqb-false, ne-eqb}
 use Rattle.wire.specs.Numbers.{valueFrom}
 use Rattle.wire.specs.Sequences.{All}
 use Rattle.wire.specs.Answers.{accepted, check}
@@ -16,6 +16,7 @@ use Rattle.wire.proofs.Widths.{all-append}
 use Rattle.wire.proofs.Accepting.{both-true, check-accepted, by-length}
 use Rattle.text.specs.Hex.{among}
 use Rattle.text.specs.Decimal.{decimalIn, decimal}
+use Rattle.text.proofs.DecimalLaws.{decimal-one, decimal-more}
 use Rattle.line.specs.LineReader.{allDigits, digitsOf, said, noSpareZero, readDecimal}
 use Rattle.line.proofs.Cases.{by-test, all-weaken}
 use Rattle.line.proofs.PieceLaws.{Free, all-free, InField}
@@ -44,7 +45,7 @@ unfolding valueFrom digitsOf
 said-snoc v [] c = refl
 said-snoc v (b ∷ s) c = said-snoc (v * 10 + (b - 48)) s c
 
-value-grows : (v : ℕ) (s : List ℕ) → v ≤ valueFrom 10 v (digitsOf s)
+pub value-grows : (v : ℕ) (s : List ℕ) → v ≤ valueFrom 10 v (digitsOf s)
 unfolding valueFrom digitsOf
 value-grows v [] = omega arith
 value-grows v (c ∷ s) = omega (arith, value-grows (v * 10 + (c - 48)) s)
@@ -72,47 +73,15 @@ decimal-field n = all-weaken digit-field (decimal n) (decimal-digits n)
 pub decimal-free : (c n : ℕ) → (IsDigit c → ⊥) → Free c (decimal n)
 decimal-free c n other = all-free IsDigit c other (decimal n) (decimal-digits n)
 
--- room for more digits than it has changes nothing
-enough : (f g n : ℕ) → n < 10 ^ suc f → f ≤ g → decimalIn (suc g) n ≡ decimalIn (suc f) n
-unfolding decimalIn
-enough zero g n h k = let small : n < 10 = omega arith in simp (lt-ltb n 10 small)
-enough (suc f) zero n h k = absurd (omega arith)
-enough (suc f) (suc g) n h k =
-    by-test (ltb n 10) (λ e. simp e)
-    (λ e. simp e (ap (λ (l : List ℕ). l ++ ((48 + n % 10) ∷ [])) (enough f g (n / 10) (omega (arith, pow-suc 10 (suc f))) (omega arith))))
-
-length-in : (f n : ℕ) → length (decimalIn f n) ≤ f
-unfolding decimalIn
-length-in zero n = omega arith
-length-in (suc f) n =
-    by-test (ltb n 10) (λ e. simp e (omega arith))
-    (λ e. simp (e, length-append) (omega (arith, length-in f (n / 10))))
-
-pub decimal-size : (k n : ℕ) → n < 10 ^ k → 1 ≤ k → k ≤ 20 → length (decimal n) ≤ k
-unfolding decimal
-decimal-size zero n h low high = absurd (omega arith)
-decimal-size (suc k) n h low high = omega (arith, ap length (enough k 19 n h (omega arith)), length-in (suc k) n)
-
 pub decimal-some : (n : ℕ) → 1 ≤ length (decimal n)
 unfolding decimal decimalIn
 decimal-some n = by-test (ltb n 10) (λ e. simp e (omega arith)) (λ e. simp (e, length-append) (omega arith))
 
 -- ---- one digit more
 
-decimal-one : (d : ℕ) → d < 10 → decimal d ≡ (48 + d) ∷ []
-unfolding decimal decimalIn
-decimal-one d h = simp (lt-ltb d 10 h)
-
-decimal-tens : (f n : ℕ) → 10 ≤ n → decimalIn (suc f) n ≡ decimalIn f (n / 10) ++ ((48 + n % 10) ∷ [])
-unfolding decimalIn
-decimal-tens f n h = simp (le-ltb n 10 h)
-
-decimal-more : (v d : ℕ) → 1 ≤ v → d < 10 → v * 10 + d < 10 ^ 20 → decimal (v * 10 + d) ≡ decimal v ++ ((48 + d) ∷ [])
-unfolding decimal
-decimal-more v d h k fits =
-    decimal-tens 19 (v * 10 + d) (omega arith)
-    ∙ ap₂ (λ (a b : ℕ). decimalIn 19 a ++ ((48 + b) ∷ [])) (digits-div v k) (digits-mod v k)
-    ∙ ap (λ (l : List ℕ). l ++ ((48 + d) ∷ [])) (sym (enough 18 19 v (omega arith) (omega arith)))
+decimal-next : (v d : ℕ) → 1 ≤ v → d < 10 → v * 10 + d < 10 ^ 20 → decimal (v * 10 + d) ≡ decimal v ++ ((48 + d) ∷ [])
+decimal-next v d h k fits =
+    decimal-more (v * 10 + d) fits (omega arith) ∙ ap₂ (λ (a b : ℕ). decimal a ++ ((48 + b) ∷ [])) (digits-div v k) (digits-mod v k)
 
 -- digits behind a number that is not 0
 decimal-on : (v : ℕ) (s : List ℕ) → 1 ≤ v → All IsDigit s → valueFrom 10 v (digitsOf s) < 10 ^ 20 → decimal (valueFrom 10 v (digitsOf s)) ≡ decimal v ++ s
@@ -123,7 +92,7 @@ decimal-on v (c ∷ s) h k fits =
     let small : d < 10 = omega (arith, k .0 .1) in
     let same : 48 + d ≡ c = omega (arith, k .0 .0) in
     decimal-on (v * 10 + d) s (omega arith) (k .1) fits
-    ∙ ap (λ (l : List ℕ). l ++ s) (decimal-more v d h small (omega (arith, value-grows (v * 10 + d) s)))
+    ∙ ap (λ (l : List ℕ). l ++ s) (decimal-next v d h small (omega (arith, value-grows (v * 10 + d) s)))
     ∙ append-assoc (decimal v) ((48 + d) ∷ []) s
     ∙ ap (λ (x : ℕ). decimal v ++ (x ∷ s)) same
 

@@ -5,7 +5,7 @@ use native.Mathlib.Omega.{arith}
 use mathlib.Core.Path.{_≡_, refl, sym, ap, ap₂, _∙_, subst}
 use mathlib.Core.Bool.{false}
 use mathlib.Core.List.{List, [], _∷_, _++_}
-use lib.ListN.{length, length-append}
+use lib.ListN.{length}
 use lib.IntN.{ℤ, pos, negsuc}
 use lib.Dec.{eqb, leb, lit<}
 use lib.Arith.{digits-div, digits-mod}
@@ -24,7 +24,7 @@ use Rattle.line.specs.LineReader.{allDigits, digitsOf, said, readDecimal
 use Rattle.line.proofs.Cases.{by-test, all-weaken}
 use Rattle.line.proofs.PieceLaws.{Free, InField, before-free, behind-free, split-some}
 use Rattle.line.proofs.Inverses.{Inverse}
-use Rattle.line.proofs.DecimalLaws.{IsDigit, digits-true, true-digits, decimal-digits, decimal-free, decimal-some, decimal-size, decimal-inverse}
+use Rattle.line.proofs.DecimalLaws.{IsDigit, digits-true, true-digits, decimal-digits, decimal-free, decimal-some, decimal-inverse}
 
 -- ---- places: digits of which none is left out
 
@@ -196,13 +196,3 @@ degree-field c h = (omega (arith, h .0), omega (arith, h .1), ne-eqb c 44 (λ e.
 
 pub degrees-field : (z : ℤ) → All InField (degrees z)
 degrees-field z = all-weaken degree-field (degrees z) (degrees-bytes z)
-
-unsigned-size : (m : ℕ) → m < 215 * 10 ^ 7 → length (unsignedDegrees m) ≤ 11
-unfolding unsignedDegrees
-unsigned-size m h =
-    omega (arith, length-append (decimal (m / 10 ^ 7)) (46 ∷ places m), decimal-size 3 (m / 10 ^ 7) (omega arith) (omega arith) (omega arith), places-length m)
-
-pub degrees-size : (z : ℤ) → FitsI32 z → length (degrees z) ≤ 12
-unfolding degrees
-degrees-size (pos m) h = omega (arith, unsigned-size m (omega arith))
-degrees-size (negsuc m) h = omega (arith, unsigned-size (suc m) (omega arith))

@@ -12,6 +12,7 @@ use Rattle.wire.specs.Sequences.{All}
 use Rattle.wire.specs.Reading.{Read, got, bad, andThen}
 use Rattle.wire.specs.Answers.{Answer, accepted, refused}
 use Rattle.wire.proofs.Accepting.{told-accepted, told-got, pick-true}
+use Rattle.wire.proofs.Exactness.{andThen-got}
 use Rattle.text.specs.Decimal.{decimal}
 use Rattle.line.specs.Pieces.{pieces, separated}
 use Rattle.line.specs.Lines.{Printed, number, tag, Line, PrintedRules, NoNumbers, TagsLast, LineRules, degrees, texts, lineFields, lineBytes}
@@ -24,12 +25,6 @@ use Rattle.line.proofs.DegreesLaws.{degrees-field, degrees-inverse}
 use Rattle.line.proofs.PrintedLaws.{tagged-undo, printed-cases, printed-inverse, printed-field}
 
 -- ---- one field and the next
-
-andThen-got : {A B : Type 0} (r : Read A) (f : A → ℕ → Read B) (b : B) (n : ℕ) → andThen r f ≡ got b n
-    → (a : A) × (mid : ℕ) × (r ≡ got a mid) × (f a mid ≡ got b n)
-unfolding andThen
-andThen-got (got a mid) f b n e = (a, mid, refl, e)
-andThen-got (bad x) f b n e = absurd (let z : _≡_ {A = ℕ} 0 1 = cc in omega arith)
 
 andThen-passed : {A B : Type 0} (r : Read A) (f : A → ℕ → Read B) {a : A} {n : ℕ} → r ≡ got a n → andThen r f ≡ f a n
 unfolding andThen

@@ -4,7 +4,7 @@ use native.Mathlib.Omega.{arith}
 use mathlib.Core.Path.{_≡_, refl, sym, ap, _∙_, subst}
 use mathlib.Core.Bool.{false}
 use mathlib.Core.List.{List, [], _∷_, _++_}
-use lib.ListN.{length, take, drop, getD}
+use lib.ListN.{length, drop}
 use lib.Dec.{eqb}
 use borrow.Author.Tests.{eqb-true, eq-eqb, ne-eqb}
 use Rattle.wire.specs.Sequences.{All}
@@ -18,16 +18,6 @@ pub before-short : (c : ℕ) (s : List ℕ) → length (before c s) ≤ length s
 unfolding before
 before-short c [] = omega arith
 before-short c (b ∷ s) = by-test (eqb b c) (λ e. simp e (omega arith)) (λ e. simp e (omega (arith, before-short c s)))
-
-pub before-take : (c : ℕ) (s : List ℕ) → before c s ≡ take (length (before c s)) s
-unfolding before
-before-take c [] = refl
-before-take c (b ∷ s) = by-test (eqb b c) (λ e. simp e) (λ e. simp e (ap (λ (l : List ℕ). b ∷ l) (before-take c s)))
-
-pub before-stop : (c : ℕ) (s : List ℕ) → length (before c s) < length s → getD s (length (before c s)) 0 ≡ c
-unfolding before
-before-stop c [] h = absurd (omega arith)
-before-stop c (b ∷ s) h = by-test (eqb b c) (λ e. simp e (eqb-true b c e)) (λ e. simp e (before-stop c s (omega (arith, simp e at h))))
 
 pub behind-is : (c : ℕ) (s : List ℕ) → length (before c s) < length s → behind c s ≡ drop (suc (length (before c s))) s
 unfolding before behind

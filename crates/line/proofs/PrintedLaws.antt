@@ -2,7 +2,7 @@
 use Prim.Native.Nat.{ℕ, _-_, _^_, _≤_, _<_}
 use native.Mathlib.Omega.{arith}
 use mathlib.Core.Path.{_≡_, refl, ap, ap₂, _∙_, subst}
-use mathlib.Core.Bool.{Bool, true, false, not}
+use mathlib.Core.Bool.{Bool, false, not}
 use mathlib.Core.List.{List, [], _∷_, _++_}
 use lib.ListN.{length}
 use lib.Dec.{eqb, lit<}
@@ -15,7 +15,7 @@ use Rattle.wire.proofs.Accepting.{check-accepted, onAccepted-accepted, onAccept
 use Rattle.text.specs.Decimal.{decimal}
 use Rattle.line.specs.Pieces.{before, behind}
 use Rattle.line.specs.Lines.{Printed, number, tag, PrintedRules, quoted, printedText}
-use Rattle.line.specs.LineReader.{readDecimal, none, readTag, readValue, readPrinted, isTag}
+use Rattle.line.specs.LineReader.{readDecimal, none, readTag, readValue, readPrinted}
 use Rattle.line.proofs.Cases.{by-test}
 use Rattle.line.proofs.PieceLaws.{Free, InField, before-free, behind-free, split-some}
 use Rattle.line.proofs.Inverses.{Inverse}
@@ -99,24 +99,6 @@ printed-exact tags s e h =
 
 pub printed-inverse : Inverse (readPrinted false) printedText PrintedRules
 printed-inverse = record { undo = printed-undo; exact = printed-exact false }
-
-tags-undo : (e : Printed) → PrintedRules e → isTag e ≡ true → readPrinted true (printedText e) ≡ accepted e
-unfolding isTag
-tags-undo (number id n) h k = absurd (let z : _≡_ {A = ℕ} 0 1 = cc in omega arith)
-tags-undo (tag id b) h k = tagged-undo true id b h
-
-tags-exact : (s : List ℕ) (e : Printed) → readPrinted true s ≡ accepted e → (PrintedRules e × (isTag e ≡ true)) × (s ≡ printedText e)
-unfolding isTag
-tags-exact s e h =
-    printed-cases (λ e. (PrintedRules e × (isTag e ≡ true)) × (s ≡ printedText e)) true s e h
-    (λ id n t k is. absurd (let z : _≡_ {A = ℕ} 0 1 = cc in omega arith)) (λ id b k is. ((k, refl), is))
-
--- behind a tag
-pub tags-inverse : Inverse (readPrinted true) printedText (λ e. PrintedRules e × (isTag e ≡ true))
-tags-inverse = record { undo = λ e h. tags-undo e (h .0) (h .1); exact = tags-exact }
-
-pub printed-any : (tags : Bool) (s : List ℕ) (e : Printed) → readPrinted tags s ≡ accepted e → readPrinted false s ≡ accepted e
-printed-any tags s e h = let k = printed-exact tags s e h in ap (readPrinted false) (k .1) ∙ printed-undo e (k .0)
 
 -- ---- their bytes
 

@@ -6,64 +6,11 @@ use mathlib.Core.Path.{_≡_, sym, ap, _∙_}
 use mathlib.Core.List.{List, [], _∷_, _++_}
 use lib.ListN.{length, length-append, set}
 use lib.Seq.{sets}
-use lib.Dec.{ltb}
-use borrow.Author.Tests.{lt-ltb, le-ltb}
-use Rattle.wire.proofs.Accepting.{pick-true, pick-false, by-length}
 use Rattle.wire.proofs.Storing.{sets-snoc}
-use Rattle.text.specs.Decimal.{decimalIn, decimal}
-
--- ---- the last digit, and the digits before it
-
-in-one : (k n : ℕ) → n < 10 → decimalIn (suc k) n ≡ (48 + n) ∷ []
-unfolding decimalIn
-in-one k n h = pick-true (ltb n 10) ((48 + n) ∷ []) (decimalIn k (n / 10) ++ ((48 + n % 10) ∷ [])) (lt-ltb n 10 h)
-
-in-more : (k n : ℕ) → 10 ≤ n → decimalIn (suc k) n ≡ decimalIn k (n / 10) ++ ((48 + n % 10) ∷ [])
-unfolding decimalIn
-in-more k n h = pick-false (ltb n 10) ((48 + n) ∷ []) (decimalIn k (n / 10) ++ ((48 + n % 10) ∷ [])) (le-ltb n 10 h)
-
--- more digits than a number has are never asked for
-in-enough : (k n : ℕ) → n < 10 ^ suc k → decimalIn (suc k) n ≡ decimalIn (suc (suc k)) n
-in-enough zero n h = in-one 0 n (omega (arith, h)) ∙ sym (in-one 1 n (omega (arith, h)))
-in-enough (suc k) n h =
-    by-length 10 n
-    (λ i. in-more (suc k) n i ∙ ap (λ (l : List ℕ). l ++ ((48 + n % 10) ∷ [])) (in-enough k (n / 10) (omega (arith, h))) ∙ sym (in-more (suc (suc k)) n i))
-    (λ i. in-one (suc k) n i ∙ sym (in-one (suc (suc k)) n i))
-
-pub decimal-one : (n : ℕ) → n < 10 → decimal n ≡ (48 + n) ∷ []
-unfolding decimal
-decimal-one n h = in-one 19 n h
-
-pub decimal-more : (n : ℕ) → n < 2 ^ 64 → 10 ≤ n → decimal n ≡ decimal (n / 10) ++ ((48 + n % 10) ∷ [])
-unfolding decimal
-decimal-more n small h = in-more 19 n h ∙ ap (λ (l : List ℕ). l ++ ((48 + n % 10) ∷ [])) (in-enough 18 (n / 10) (omega (arith, small)))
+use Rattle.text.specs.Decimal.{decimal}
+use Rattle.text.proofs.DecimalLaws.{decimal-one, decimal-more, decimal-few}
 
 -- ---- how many
-
-in-most : (k n : ℕ) → length (decimalIn k n) ≤ k
-unfolding decimalIn
-in-most zero n = omega arith
-in-most (suc k) n =
-    by-length 10 n
-    (λ i. omega (arith, ap length (in-more k n i), length-append (decimalIn k (n / 10)) ((48 + n % 10) ∷ []), in-most k (n / 10)))
-    (λ i. omega (arith, ap length (in-one k n i)))
-
-pub decimal-most : (n : ℕ) → length (decimal n) ≤ 20
-unfolding decimal
-decimal-most n = in-most 20 n
-
-in-few : (k d n : ℕ) → n < 10 ^ suc d → length (decimalIn k n) ≤ suc d
-unfolding decimalIn
-in-few zero d n h = omega arith
-in-few (suc k) zero n h = omega (arith, ap length (in-one k n (omega (arith, h))))
-in-few (suc k) (suc d) n h =
-    by-length 10 n
-    (λ i. omega (arith, ap length (in-more k n i), length-append (decimalIn k (n / 10)) ((48 + n % 10) ∷ []), in-few k d (n / 10) (omega (arith, h))))
-    (λ i. omega (arith, ap length (in-one k n i)))
-
-pub decimal-few : (d n : ℕ) → n < 10 ^ suc d → length (decimal n) ≤ suc d
-unfolding decimal
-decimal-few d n h = in-few 20 d n h
 
 bytes-digits : (w : ℕ) → 256 ^ w ≤ 10 ^ (3 * w)
 bytes-digits zero = omega arith
@@ -87,7 +34,7 @@ decimal-two n small h =
     let high : n / 10 / 10 ≡ n / 100 = omega arith in
     let tens : n / 10 % 10 ≡ n % 100 / 10 = omega arith in
     let ones : n % 10 ≡ n % 100 % 10 = omega arith in
-    decimal-more n small (omega arith)
+    decimal-more n (omega (arith, small)) (omega arith)
     ∙ ap (λ (l : List ℕ). l ++ ((48 + n % 10) ∷ [])) (decimal-more (n / 10) (omega (arith, small)) (omega arith))
     ∙ (λ i. (decimal (high i) ++ ((48 + tens i) ∷ [])) ++ ((48 + ones i) ∷ []))
 
@@ -104,7 +51,7 @@ pub long-one : (n : ℕ) → n < 10 → length (decimal n) ≡ 1
 long-one n h = ap length (decimal-one n h)
 
 pub long-last : (n : ℕ) → n < 2 ^ 64 → 10 ≤ n → length (decimal n) ≡ length (decimal (n / 10)) + 1
-long-last n small h = omega (arith, ap length (decimal-more n small h), length-append (decimal (n / 10)) ((48 + n % 10) ∷ []))
+long-last n small h = omega (arith, ap length (decimal-more n (omega (arith, small)) h), length-append (decimal (n / 10)) ((48 + n % 10) ∷ []))
 
 pub long-pair : (n : ℕ) → n < 100 → 10 ≤ n → length (decimal n) ≡ 2
 long-pair n h i = omega (arith, long-last n (omega (arith, h)) i, long-one (n / 10) (omega (arith, h)))

@@ -22,7 +22,7 @@ use Rattle.text.specs.Decimal.{decimal}
 use Rattle.store.specs.Stores.{Stored}
 use Rattle.store.proofs.StoredLaws.{stored-on, stored-as}
 use Rattle.line.specs.Lines.{unsignedDegrees, degrees}
-use Rattle.print.proofs.DecimalLaws.{decimal-most, decimal-few}
+use Rattle.text.proofs.DecimalLaws.{decimal-most, decimal-few}
 
 -- what is stored into a buffer of its own, and taken out of it
 pub stored-apart : (z b : List ℕ) {n : ℕ} {l m : List ℕ} {to next : ℕ} → n ≡ length b → length b ≤ length z → Stored (take (n - 0) (sets z 0 b)) l m to next → Stored b l m to next

@@ -33,7 +33,8 @@ use Rattle.traverse.proofs.SizeLaws.{Within}
 use Rattle.line.specs.Lines.{number, tag, quoted, printedText}
 use Rattle.line.specs.RecordLines.{printedOf}
 use Rattle.print.specs.Printing.{printed}
-use Rattle.print.proofs.DecimalLaws.{decimal-most, decimal-bytes}
+use Rattle.text.proofs.DecimalLaws.{decimal-most}
+use Rattle.print.proofs.DecimalLaws.{decimal-bytes}
 use Rattle.print.proofs.TagLaws.{quoted-most}
 
 -- a place to store at is a small number

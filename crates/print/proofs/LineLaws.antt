@@ -28,7 +28,7 @@ use Rattle.line.specs.Pieces.{separated}
 use Rattle.line.specs.Lines.{degrees, printedText, texts, lineFields, lineBytes}
 use Rattle.line.specs.RecordLines.{printedOf, printedAll, recordLine}
 use Rattle.print.specs.Printing.{printed, coordinate, leading, headText, lineText}
-use Rattle.print.proofs.DecimalLaws.{decimal-most}
+use Rattle.text.proofs.DecimalLaws.{decimal-most}
 use Rattle.print.proofs.DegreeLaws.{coordinate-few, stored-mark}
 use Rattle.print.proofs.ElementLaws.{paced-element}
 

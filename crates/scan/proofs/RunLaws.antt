@@ -15,6 +15,7 @@ use Rattle.wire.proofs.Widths.{value-lt}
 use Rattle.wire.specs.Answers.{Answer, accepted, refused, refusal, check}
 use Rattle.wire.proofs.Accepting.{both-true, check-failed, check-passed}
 use Rattle.text.specs.Hex.{among}
+use Rattle.line.proofs.DecimalLaws.{value-grows}
 use Rattle.line.specs.LineReader.{allDigits, digitsOf, said, noSpareZero, readDecimal}
 use Rattle.scan.specs.declared.Number.{Number}
 use Rattle.scan.specs.Fields.{run, numberAs, runAs}
@@ -45,12 +46,6 @@ run-digit c s e = simp e
 run-other : (c : ℕ) (s : List ℕ) → among 48 57 c ≡ false → run (c ∷ s) ≡ []
 unfolding run
 run-other c s e = simp e
-
--- a number only grows
-value-more : (n : ℕ) (ds : List ℕ) → n ≤ valueFrom 10 n ds
-unfolding valueFrom
-value-more n [] = le-refl n
-value-more n (d ∷ ds) = let h = value-more (n * 10 + d) ds in omega (arith, h)
 
 -- ---- the loop: what was read, and what is left
 
@@ -93,7 +88,7 @@ module _ (t : List ℕ) (at : ℕ) where
         unfolding runAs numberAs check
         run-large big =
             let m = run-turn in
-            let grows = value-more (n * 10 + (getD t i 0 + 208) % 256) (digitsOf (run (drop (i + 1) t))) in
+            let grows = value-grows (n * 10 + (getD t i 0 + 208) % 256) (run (drop (i + 1) t)) in
             let over : 2 ^ 64 - 1 < said (run (drop at t)) = omega (arith, big, grows, m .value) in
             sym (simp (lt-leb (said (run (drop at t))) (2 ^ 64 - 1) over))
 

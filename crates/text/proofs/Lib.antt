@@ -2,3 +2,4 @@ pub mod HexLaws
 pub mod HexAgain
 pub mod CalendarLaws
 pub mod SignedLaws
+pub mod DecimalLaws

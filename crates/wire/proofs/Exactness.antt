@@ -21,7 +21,7 @@ use Rattle.wire.proofs.Placed.{Between, between-nil, between-join, betw
 pub record Meets {A : Type 0} (r : Read A) (Q : A → ℕ → Type 0) : Type 0 where
   pub if-got : (a : A) (n : ℕ) → r ≡ got a n → Q a n
 
-andThen-got : {A B : Type 0} (r : Read A) (f : A → ℕ → Read B) (b : B) (n : ℕ) → andThen r f ≡ got b n
+pub andThen-got : {A B : Type 0} (r : Read A) (f : A → ℕ → Read B) (b : B) (n : ℕ) → andThen r f ≡ got b n
     → (a : A) × (mid : ℕ) × (r ≡ got a mid) × (f a mid ≡ got b n)
 unfolding andThen
 andThen-got (got a mid) f b n e = (a, mid, refl, e)

@@ -2,7 +2,7 @@ use lib.ListN.{length-take, length-drop}
 use native.Mathlib.Omega.{arith}
 use Rattle.store.proofs.CutLaws.{sets-cut}
 use Rattle.text.specs.Decimal.{decimal}
-use Rattle.print.proofs.DecimalLaws.{decimal-most}
+use Rattle.text.proofs.DecimalLaws.{decimal-most}
 use Rattle.print.proofs.DegreeLaws.{stored-apart}
 use borrow.Author.Needs.{needs}
 use Rattle.print.proofs.cut_decimal.Statement.{statement}

@@ -2,7 +2,8 @@ use Prim.Native.Nat.{_+_, _≤_}
 use native.Mathlib.Omega.{arith}
 use mathlib.Core.Path.{_≡_, refl}
 use lib.ListN.{length}
-use Rattle.print.proofs.DecimalLaws.{decimal-most, long-one, long-pair, long-three, long-whole, long-four}
+use Rattle.text.proofs.DecimalLaws.{decimal-most}
+use Rattle.print.proofs.DecimalLaws.{long-one, long-pair, long-three, long-whole, long-four}
 use Rattle.text.specs.Decimal.{decimal}
 use borrow.Author.Needs.{needs}
 use Rattle.print.proofs.digit_count.Statement.{statement}

@@ -4,7 +4,7 @@ use native.Mathlib.Omega.{arith}
 use mathlib.Core.Path.{_≡_, ap, _∙_}
 use Rattle.wire.specs.Numbers.{numberAt, signed}
 use Rattle.print.proofs.DegreeLaws.{degrees-most}
-use Rattle.print.proofs.DecimalLaws.{decimal-most}
+use Rattle.text.proofs.DecimalLaws.{decimal-most}
 use Rattle.print.proofs.LineLaws.{leading-stored}
 use borrow.Author.Needs.{needs}
 use Rattle.print.proofs.put_head.Statement.{statement}

@@ -1,5 +1,5 @@
 use native.Mathlib.Omega.{arith}
-use Rattle.print.proofs.DecimalLaws.{decimal-most}
+use Rattle.text.proofs.DecimalLaws.{decimal-most}
 use borrow.Author.Needs.{needs}
 use Rattle.print.proofs.store_decimal.Statement.{statement}
 use Rattle.print.proofs.store_decimal.Tie as tie

@@ -5,7 +5,7 @@ use lib.ListN.{length-set}
 use Rattle.text.specs.Decimal.{decimal}
 use Rattle.store.proofs.StoredLaws.{stored-on, stored-of}
 use Rattle.print.proofs.DegreeLaws.{stored-mark}
-use Rattle.print.proofs.DecimalLaws.{decimal-most}
+use Rattle.text.proofs.DecimalLaws.{decimal-most}
 use borrow.Author.Needs.{needs}
 use Rattle.print.proofs.store_marked.Statement.{statement}
 use Rattle.print.proofs.store_marked.Tie as tie

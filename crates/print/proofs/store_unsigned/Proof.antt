@@ -1,7 +1,7 @@
 use Prim.Native.Nat.{_/_}
 use native.Mathlib.Omega.{arith}
 use Rattle.print.proofs.DegreeLaws.{stored-unsigned}
-use Rattle.print.proofs.DecimalLaws.{decimal-most}
+use Rattle.text.proofs.DecimalLaws.{decimal-most}
 use borrow.Author.Needs.{needs}
 use Rattle.print.proofs.store_unsigned.Statement.{statement}
 use Rattle.print.proofs.store_unsigned.Tie as tie
