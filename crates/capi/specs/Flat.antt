@@ -9,6 +9,7 @@ use lib.IntN.{pos}
 use Rattle.element.specs.declared.RecordFields.{RecordFields}
 use Rattle.element.specs.declared.Value.{Value}
 use Rattle.lookup.specs.Answers.{KnownResult}
+use Rattle.connection.specs.declared.Started.{Started}
 use Rattle.connection.specs.declared.Fed.{Fed}
 use Rattle.connection.specs.declared.Lent.{Lent}
 use Rattle.connection.specs.declared.Item.{Item}
@@ -16,6 +17,7 @@ use Rattle.connection.specs.declared.Item.the-variants.{More, Login, Packet, Re
 use Rattle.connection.specs.Feeding.{itemRefusal}
 use Rattle.scan.specs.declared.LineFields.{LineFields}
 use Rattle.scan.specs.declared.LineElement.{LineElement}
+use Rattle.capi.specs.declared.StartedC.{StartedC}
 use Rattle.capi.specs.declared.FedC.{FedC}
 use Rattle.capi.specs.declared.LentC.{LentC}
 use Rattle.capi.specs.declared.RecordC.{RecordC}
@@ -91,6 +93,10 @@ flatLent l =
       fill = l .fill;
       phase = l .phase;
     }
+
+-- of a start
+unfoldable pub flatStarted : Started → StartedC
+flatStarted s = record { number = s .refusal .number; index = s .refusal .index; state = s .state }
 
 unfoldable pub flatFed : Fed → FedC
 flatFed f =

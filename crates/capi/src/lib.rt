@@ -21,13 +21,13 @@ ghost use Rattle.datagram.specs.Datagrams.{answerDatagram, udpAcknowledgement};
 ghost use Rattle.login.specs.Login.{readLogin, loginAnswer};
 ghost use Rattle.command.specs.Commands.{answerCommand};
 ghost use Rattle.command.specs.Writing.{commandBytes};
-ghost use Rattle.capi.specs.Flat.{flatFed, flatLent, flatWritten, flatPacket, flatDatagram, flatLogin, flatCommand, flatRecord, flatValue, flatKnown, flatLine, flatElement};
+ghost use Rattle.capi.specs.Flat.{flatStarted, flatFed, flatLent, flatWritten, flatPacket, flatDatagram, flatLogin, flatCommand, flatRecord, flatValue, flatKnown, flatLine, flatElement};
 ghost use Rattle.tlv.specs.PacketOf.{formOfPacket, formOfDatagram, packetOfForm};
 ghost use Rattle.lookup.specs.Lookups.{tcpSource, udpSource, recordByNumber, valueByNumber, valueById, lastKnown};
 ghost use Rattle.contents.specs.Contents.{contentsOfPacket, contentsOfDatagram};
-ghost use Rattle.connection.specs.State.{fresh, wanted};
+ghost use Rattle.connection.specs.State.{started, gathered, wanted};
 ghost use Rattle.connection.specs.Feeding.{fed, fedInto, packetIn, fedAs, lentAs};
-ghost use Rattle.wire.specs.Limits.{baseLimits};
+ghost use Rattle.wire.specs.Limits.{limitsOf};
 ghost use Rattle.lookup.specs.Answers.{recordAs, valueAs, answerValue, answerKnown};
 ghost use Rattle.line.specs.RecordLines.{lineOfPacket, lineOfDatagram, linesOfPacket, linesOfDatagram};
 ghost use Rattle.line.specs.LineReader.{wrongAt};
@@ -97,10 +97,10 @@ fn flat_written(w: Written) -> WrittenC
 }
 
 #[no_mangle]
-pub extern "C" fn brundilope_read_packet(p: &[u8]) -> PacketC
-    ensures { λ r. ⌜ r ≡ flatPacket (answerPacket baseLimits (now (p .entry))) ⌝ }
+pub extern "C" fn brundilope_read_packet(family: usize, p: &[u8]) -> PacketC
+    ensures { λ r. ⌜ r ≡ flatPacket (answerPacket (limitsOf family) (now (p .entry))) ⌝ }
 {
-    match packet::read_packet(p) {
+    match packet::read_packet(family, p) {
         PacketAnswer::Accepted { codec, count } => PacketC {
             number: 0,
             index: 0,
@@ -117,18 +117,18 @@ pub extern "C" fn brundilope_read_packet(p: &[u8]) -> PacketC
 }
 
 #[no_mangle]
-pub extern "C" fn brundilope_acknowledge_packet(p: &[u8], out: &mut [u8]) -> WrittenC
-    ensures answer { λ r. ⌜ r ≡ flatWritten (writing (accepted (tcpAcknowledgement baseLimits (now (p .entry)))) (now (out .entry))) ⌝ }
-    ensures buffer { λ r. ⌜ now (out .exit) ≡ leaving (accepted (tcpAcknowledgement baseLimits (now (p .entry)))) (now (out .entry)) ⌝ }
+pub extern "C" fn brundilope_acknowledge_packet(family: usize, p: &[u8], out: &mut [u8]) -> WrittenC
+    ensures answer { λ r. ⌜ r ≡ flatWritten (writing (tcpAcknowledgement (limitsOf family) (now (p .entry))) (now (out .entry))) ⌝ }
+    ensures buffer { λ r. ⌜ now (out .exit) ≡ leaving (tcpAcknowledgement (limitsOf family) (now (p .entry))) (now (out .entry)) ⌝ }
 {
-    flat_written(packet::acknowledge_packet(p, out))
+    flat_written(packet::acknowledge_packet(family, p, out))
 }
 
 #[no_mangle]
-pub extern "C" fn brundilope_read_datagram(p: &[u8]) -> DatagramC
-    ensures { λ r. ⌜ r ≡ flatDatagram (answerDatagram baseLimits (now (p .entry))) ⌝ }
+pub extern "C" fn brundilope_read_datagram(family: usize, p: &[u8]) -> DatagramC
+    ensures { λ r. ⌜ r ≡ flatDatagram (answerDatagram (limitsOf family) (now (p .entry))) ⌝ }
 {
-    match datagram::read_datagram(p) {
+    match datagram::read_datagram(family, p) {
         DatagramAnswer::Accepted {
             codec,
             count,
@@ -157,11 +157,15 @@ pub extern "C" fn brundilope_read_datagram(p: &[u8]) -> DatagramC
 }
 
 #[no_mangle]
-pub extern "C" fn brundilope_acknowledge_datagram(p: &[u8], out: &mut [u8]) -> WrittenC
-    ensures answer { λ r. ⌜ r ≡ flatWritten (writing (udpAcknowledgement baseLimits (now (p .entry))) (now (out .entry))) ⌝ }
-    ensures buffer { λ r. ⌜ now (out .exit) ≡ leaving (udpAcknowledgement baseLimits (now (p .entry))) (now (out .entry)) ⌝ }
+pub extern "C" fn brundilope_acknowledge_datagram(
+    family: usize,
+    p: &[u8],
+    out: &mut [u8],
+) -> WrittenC
+    ensures answer { λ r. ⌜ r ≡ flatWritten (writing (udpAcknowledgement (limitsOf family) (now (p .entry))) (now (out .entry))) ⌝ }
+    ensures buffer { λ r. ⌜ now (out .exit) ≡ leaving (udpAcknowledgement (limitsOf family) (now (p .entry))) (now (out .entry)) ⌝ }
 {
-    flat_written(datagram::acknowledge_datagram(p, out))
+    flat_written(datagram::acknowledge_datagram(family, p, out))
 }
 
 #[no_mangle]
@@ -191,10 +195,10 @@ pub extern "C" fn brundilope_answer_login(p: &[u8], known: bool, out: &mut [u8])
 }
 
 #[no_mangle]
-pub extern "C" fn brundilope_read_command(p: &[u8]) -> CommandC
-    ensures { λ r. ⌜ r ≡ flatCommand (answerCommand baseLimits (now (p .entry))) ⌝ }
+pub extern "C" fn brundilope_read_command(family: usize, p: &[u8]) -> CommandC
+    ensures { λ r. ⌜ r ≡ flatCommand (answerCommand (limitsOf family) (now (p .entry))) ⌝ }
 {
-    match command::read_command(p) {
+    match command::read_command(family, p) {
         CommandAnswer::Accepted(f) => CommandC {
             number: 0,
             index: 0,
@@ -218,16 +222,17 @@ pub extern "C" fn brundilope_read_command(p: &[u8]) -> CommandC
 
 #[no_mangle]
 pub extern "C" fn brundilope_write_command(
+    family: usize,
     codec: u8,
     kind: u8,
     imei: &[u8],
     text: &[u8],
     out: &mut [u8],
 ) -> WrittenC
-    ensures answer { λ r. ⌜ r ≡ flatWritten (writing (commandBytes baseLimits codec kind (now (imei .entry)) (now (text .entry))) (now (out .entry))) ⌝ }
-    ensures buffer { λ r. ⌜ now (out .exit) ≡ leaving (commandBytes baseLimits codec kind (now (imei .entry)) (now (text .entry))) (now (out .entry)) ⌝ }
+    ensures answer { λ r. ⌜ r ≡ flatWritten (writing (commandBytes (limitsOf family) codec kind (now (imei .entry)) (now (text .entry))) (now (out .entry))) ⌝ }
+    ensures buffer { λ r. ⌜ now (out .exit) ≡ leaving (commandBytes (limitsOf family) codec kind (now (imei .entry)) (now (text .entry))) (now (out .entry)) ⌝ }
 {
-    flat_written(command::write_command(codec, kind, imei, text, out))
+    flat_written(command::write_command(family, codec, kind, imei, text, out))
 }
 
 // ---- looking up
@@ -331,52 +336,62 @@ fn flat_value(a: ValueAnswer) -> ValueC
 }
 
 #[no_mangle]
-pub extern "C" fn brundilope_record_in_packet(p: &[u8], n: usize) -> RecordC
-    ensures { λ r. ⌜ r ≡ flatRecord (recordByNumber (tcpSource baseLimits (now (p .entry))) n) ⌝ }
+pub extern "C" fn brundilope_record_in_packet(family: usize, p: &[u8], n: usize) -> RecordC
+    ensures { λ r. ⌜ r ≡ flatRecord (recordByNumber (tcpSource (limitsOf family) (now (p .entry))) n) ⌝ }
 {
-    flat_record(lookup::record_in_packet(p, n))
+    flat_record(lookup::record_in_packet(family, p, n))
 }
 
 #[no_mangle]
-pub extern "C" fn brundilope_record_in_datagram(p: &[u8], n: usize) -> RecordC
-    ensures { λ r. ⌜ r ≡ flatRecord (recordByNumber (udpSource baseLimits (now (p .entry))) n) ⌝ }
+pub extern "C" fn brundilope_record_in_datagram(family: usize, p: &[u8], n: usize) -> RecordC
+    ensures { λ r. ⌜ r ≡ flatRecord (recordByNumber (udpSource (limitsOf family) (now (p .entry))) n) ⌝ }
 {
-    flat_record(lookup::record_in_datagram(p, n))
+    flat_record(lookup::record_in_datagram(family, p, n))
 }
 
 #[no_mangle]
-pub extern "C" fn brundilope_value_in_packet(p: &[u8], n: usize, k: usize) -> ValueC
-    ensures { λ r. ⌜ r ≡ flatValue (answerValue (valueByNumber (tcpSource baseLimits (now (p .entry))) n k)) ⌝ }
+pub extern "C" fn brundilope_value_in_packet(family: usize, p: &[u8], n: usize, k: usize) -> ValueC
+    ensures { λ r. ⌜ r ≡ flatValue (answerValue (valueByNumber (tcpSource (limitsOf family) (now (p .entry))) n k)) ⌝ }
 {
-    flat_value(lookup::value_in_packet(p, n, k))
+    flat_value(lookup::value_in_packet(family, p, n, k))
 }
 
 #[no_mangle]
-pub extern "C" fn brundilope_value_in_datagram(p: &[u8], n: usize, k: usize) -> ValueC
-    ensures { λ r. ⌜ r ≡ flatValue (answerValue (valueByNumber (udpSource baseLimits (now (p .entry))) n k)) ⌝ }
+pub extern "C" fn brundilope_value_in_datagram(
+    family: usize,
+    p: &[u8],
+    n: usize,
+    k: usize,
+) -> ValueC
+    ensures { λ r. ⌜ r ≡ flatValue (answerValue (valueByNumber (udpSource (limitsOf family) (now (p .entry))) n k)) ⌝ }
 {
-    flat_value(lookup::value_in_datagram(p, n, k))
+    flat_value(lookup::value_in_datagram(family, p, n, k))
 }
 
 #[no_mangle]
-pub extern "C" fn brundilope_id_in_packet(p: &[u8], n: usize, id: u16) -> ValueC
-    ensures { λ r. ⌜ r ≡ flatValue (answerValue (valueById (tcpSource baseLimits (now (p .entry))) n id)) ⌝ }
+pub extern "C" fn brundilope_id_in_packet(family: usize, p: &[u8], n: usize, id: u16) -> ValueC
+    ensures { λ r. ⌜ r ≡ flatValue (answerValue (valueById (tcpSource (limitsOf family) (now (p .entry))) n id)) ⌝ }
 {
-    flat_value(lookup::id_in_packet(p, n, id))
+    flat_value(lookup::id_in_packet(family, p, n, id))
 }
 
 #[no_mangle]
-pub extern "C" fn brundilope_id_in_datagram(p: &[u8], n: usize, id: u16) -> ValueC
-    ensures { λ r. ⌜ r ≡ flatValue (answerValue (valueById (udpSource baseLimits (now (p .entry))) n id)) ⌝ }
+pub extern "C" fn brundilope_id_in_datagram(family: usize, p: &[u8], n: usize, id: u16) -> ValueC
+    ensures { λ r. ⌜ r ≡ flatValue (answerValue (valueById (udpSource (limitsOf family) (now (p .entry))) n id)) ⌝ }
 {
-    flat_value(lookup::id_in_datagram(p, n, id))
+    flat_value(lookup::id_in_datagram(family, p, n, id))
 }
 
 #[no_mangle]
-pub extern "C" fn brundilope_last_known(newer: &[u8], older: &[u8], id: u16) -> KnownC
-    ensures { λ r. ⌜ r ≡ flatKnown (answerKnown (lastKnown id (tcpSource baseLimits (now (newer .entry))) (tcpSource baseLimits (now (older .entry))))) ⌝ }
+pub extern "C" fn brundilope_last_known(
+    family: usize,
+    newer: &[u8],
+    older: &[u8],
+    id: u16,
+) -> KnownC
+    ensures { λ r. ⌜ r ≡ flatKnown (answerKnown (lastKnown id (tcpSource (limitsOf family) (now (newer .entry))) (tcpSource (limitsOf family) (now (older .entry))))) ⌝ }
 {
-    match lookup::last_known(newer, older, id) {
+    match lookup::last_known(family, newer, older, id) {
         KnownAnswer::Found { older: past, value } => KnownC {
             number: 0,
             index: 0,
@@ -401,45 +416,53 @@ pub extern "C" fn brundilope_last_known(newer: &[u8], older: &[u8], id: u16) -> 
 // ---- whole packets: the lent buffer is of words, and words are counted
 
 #[no_mangle]
-pub extern "C" fn brundilope_contents_of_packet(p: &[u8], out: &mut [u64]) -> WrittenC
-    ensures answer { λ r. ⌜ r ≡ flatWritten (writing (contentsOfPacket baseLimits (now (p .entry))) (now (out .entry))) ⌝ }
-    ensures buffer { λ r. ⌜ now (out .exit) ≡ leaving (contentsOfPacket baseLimits (now (p .entry))) (now (out .entry)) ⌝ }
+pub extern "C" fn brundilope_contents_of_packet(
+    family: usize,
+    p: &[u8],
+    out: &mut [u64],
+) -> WrittenC
+    ensures answer { λ r. ⌜ r ≡ flatWritten (writing (contentsOfPacket (limitsOf family) (now (p .entry))) (now (out .entry))) ⌝ }
+    ensures buffer { λ r. ⌜ now (out .exit) ≡ leaving (contentsOfPacket (limitsOf family) (now (p .entry))) (now (out .entry)) ⌝ }
 {
-    flat_written(contents::contents_of_packet(p, out))
+    flat_written(contents::contents_of_packet(family, p, out))
 }
 
 #[no_mangle]
-pub extern "C" fn brundilope_contents_of_datagram(p: &[u8], out: &mut [u64]) -> WrittenC
-    ensures answer { λ r. ⌜ r ≡ flatWritten (writing (contentsOfDatagram baseLimits (now (p .entry))) (now (out .entry))) ⌝ }
-    ensures buffer { λ r. ⌜ now (out .exit) ≡ leaving (contentsOfDatagram baseLimits (now (p .entry))) (now (out .entry)) ⌝ }
+pub extern "C" fn brundilope_contents_of_datagram(
+    family: usize,
+    p: &[u8],
+    out: &mut [u64],
+) -> WrittenC
+    ensures answer { λ r. ⌜ r ≡ flatWritten (writing (contentsOfDatagram (limitsOf family) (now (p .entry))) (now (out .entry))) ⌝ }
+    ensures buffer { λ r. ⌜ now (out .exit) ≡ leaving (contentsOfDatagram (limitsOf family) (now (p .entry))) (now (out .entry)) ⌝ }
 {
-    flat_written(contents::contents_of_datagram(p, out))
+    flat_written(contents::contents_of_datagram(family, p, out))
 }
 
 // ---- TLV forms
 
 #[no_mangle]
-pub extern "C" fn brundilope_form_of_packet(p: &[u8], out: &mut [u8]) -> WrittenC
-    ensures answer { λ r. ⌜ r ≡ flatWritten (writing (formOfPacket baseLimits (now (p .entry))) (now (out .entry))) ⌝ }
-    ensures buffer { λ r. ⌜ now (out .exit) ≡ leaving (formOfPacket baseLimits (now (p .entry))) (now (out .entry)) ⌝ }
+pub extern "C" fn brundilope_form_of_packet(family: usize, p: &[u8], out: &mut [u8]) -> WrittenC
+    ensures answer { λ r. ⌜ r ≡ flatWritten (writing (formOfPacket (limitsOf family) (now (p .entry))) (now (out .entry))) ⌝ }
+    ensures buffer { λ r. ⌜ now (out .exit) ≡ leaving (formOfPacket (limitsOf family) (now (p .entry))) (now (out .entry)) ⌝ }
 {
-    flat_written(form::form_of_packet(p, out))
+    flat_written(form::form_of_packet(family, p, out))
 }
 
 #[no_mangle]
-pub extern "C" fn brundilope_form_of_datagram(p: &[u8], out: &mut [u8]) -> WrittenC
-    ensures answer { λ r. ⌜ r ≡ flatWritten (writing (formOfDatagram baseLimits (now (p .entry))) (now (out .entry))) ⌝ }
-    ensures buffer { λ r. ⌜ now (out .exit) ≡ leaving (formOfDatagram baseLimits (now (p .entry))) (now (out .entry)) ⌝ }
+pub extern "C" fn brundilope_form_of_datagram(family: usize, p: &[u8], out: &mut [u8]) -> WrittenC
+    ensures answer { λ r. ⌜ r ≡ flatWritten (writing (formOfDatagram (limitsOf family) (now (p .entry))) (now (out .entry))) ⌝ }
+    ensures buffer { λ r. ⌜ now (out .exit) ≡ leaving (formOfDatagram (limitsOf family) (now (p .entry))) (now (out .entry)) ⌝ }
 {
-    flat_written(form::form_of_datagram(p, out))
+    flat_written(form::form_of_datagram(family, p, out))
 }
 
 #[no_mangle]
-pub extern "C" fn brundilope_packet_of_form(f: &[u8], out: &mut [u8]) -> WrittenC
-    ensures answer { λ r. ⌜ r ≡ flatWritten (writing (packetOfForm baseLimits (now (f .entry))) (now (out .entry))) ⌝ }
-    ensures buffer { λ r. ⌜ now (out .exit) ≡ leaving (packetOfForm baseLimits (now (f .entry))) (now (out .entry)) ⌝ }
+pub extern "C" fn brundilope_packet_of_form(family: usize, f: &[u8], out: &mut [u8]) -> WrittenC
+    ensures answer { λ r. ⌜ r ≡ flatWritten (writing (packetOfForm (limitsOf family) (now (f .entry))) (now (out .entry))) ⌝ }
+    ensures buffer { λ r. ⌜ now (out .exit) ≡ leaving (packetOfForm (limitsOf family) (now (f .entry))) (now (out .entry)) ⌝ }
 {
-    flat_written(rebuild::packet_of_form(f, out))
+    flat_written(rebuild::packet_of_form(family, f, out))
 }
 
 // ---- a connection
@@ -470,16 +493,31 @@ pub struct LentC {
     pub phase: u8,
 }
 
+// What a start gives, with the state by value.
+#[repr(C)]
+pub struct StartedC {
+    pub number: usize,
+    pub index: usize,
+    pub state: Connection,
+}
+
 #[no_mangle]
-pub extern "C" fn brundilope_fresh() -> Connection
-    ensures { λ r. ⌜ r ≡ fresh 1280 ⌝ }
+pub extern "C" fn brundilope_start(family: usize) -> StartedC
+    ensures { λ r. ⌜ r ≡ flatStarted (started 1280 family) ⌝ }
 {
-    Connection::fresh()
+    let started = Connection::start(family);
+    let refusal = started.refusal;
+    let state = started.state;
+    StartedC {
+        number: refusal.number,
+        index: refusal.index,
+        state,
+    }
 }
 
 #[no_mangle]
 pub extern "C" fn brundilope_reset(state: Connection) -> Connection
-    ensures { λ r. ⌜ r ≡ fresh 1280 ⌝ }
+    ensures { λ r. ⌜ r ≡ started 1280 (state .family) .state ⌝ }
 {
     state.reset()
 }
@@ -518,22 +556,23 @@ fn flat_lent(l: Lent) -> LentC
 
 #[no_mangle]
 pub extern "C" fn brundilope_feed_lent(
+    family: usize,
     phase: u8,
     fill: usize,
     held: &mut [u8],
     bytes: &[u8],
     packet: &mut [u8],
 ) -> LentC
-    ensures answer { λ r. ⌜ r ≡ flatLent (lentAs (fedInto baseLimits 1280 (record { held = now (held .entry); fill = fill; phase = phase }) (now (bytes .entry)) (now (packet .entry)))) ⌝ }
-    ensures state { λ r. ⌜ now (held .exit) ≡ fedInto baseLimits 1280 (record { held = now (held .entry); fill = fill; phase = phase }) (now (bytes .entry)) (now (packet .entry)) .state .held ⌝ }
-    ensures buffer { λ r. ⌜ now (packet .exit) ≡ leaving (accepted (packetIn (fedInto baseLimits 1280 (record { held = now (held .entry); fill = fill; phase = phase }) (now (bytes .entry)) (now (packet .entry)) .told))) (now (packet .entry)) ⌝ }
+    ensures answer { λ r. ⌜ r ≡ flatLent (lentAs (fedInto (limitsOf family) 1280 (record { held = now (held .entry); fill = fill; phase = phase }) (now (bytes .entry)) (now (packet .entry)))) ⌝ }
+    ensures state { λ r. ⌜ now (held .exit) ≡ fedInto (limitsOf family) 1280 (record { held = now (held .entry); fill = fill; phase = phase }) (now (bytes .entry)) (now (packet .entry)) .state .held ⌝ }
+    ensures buffer { λ r. ⌜ now (packet .exit) ≡ leaving (accepted (packetIn (fedInto (limitsOf family) 1280 (record { held = now (held .entry); fill = fill; phase = phase }) (now (bytes .entry)) (now (packet .entry)) .told))) (now (packet .entry)) ⌝ }
 {
-    flat_lent(connection::feed_lent(phase, fill, held, bytes, packet))
+    flat_lent(connection::feed_lent(family, phase, fill, held, bytes, packet))
 }
 
 #[no_mangle]
 pub extern "C" fn brundilope_feed(state: Connection, bytes: &[u8]) -> FedC
-    ensures { λ r. ⌜ r ≡ flatFed (fedAs 1280 (fed baseLimits 1280 state (now (bytes .entry)))) ⌝ }
+    ensures { λ r. ⌜ r ≡ flatFed (fedAs 1280 (state .family) (fed (limitsOf (state .family)) 1280 (gathered state) (now (bytes .entry)))) ⌝ }
 {
     let fed = state.feed(bytes);
     let item = fed.item;
@@ -558,10 +597,10 @@ pub extern "C" fn brundilope_feed(state: Connection, bytes: &[u8]) -> FedC
 }
 
 #[no_mangle]
-pub extern "C" fn brundilope_wanted(phase: u8, fill: usize, held: &[u8]) -> usize
-    ensures { λ r. ⌜ r ≡ wanted baseLimits 1280 (record { held = now (held .entry); fill = fill; phase = phase }) ⌝ }
+pub extern "C" fn brundilope_wanted(family: usize, phase: u8, fill: usize, held: &[u8]) -> usize
+    ensures { λ r. ⌜ r ≡ wanted (limitsOf family) 1280 (record { held = now (held .entry); fill = fill; phase = phase }) ⌝ }
 {
-    connection::wanted(phase, fill, held)
+    connection::wanted(family, phase, fill, held)
 }
 
 // ---- lines for the billing desk
@@ -590,35 +629,45 @@ pub struct LineElementC {
 }
 
 #[no_mangle]
-pub extern "C" fn brundilope_line_of_packet(p: &[u8], n: usize, out: &mut [u8]) -> WrittenC
-    ensures answer { λ r. ⌜ r ≡ flatWritten (writing (lineOfPacket baseLimits (now (p .entry)) n) (now (out .entry))) ⌝ }
-    ensures buffer { λ r. ⌜ now (out .exit) ≡ leaving (lineOfPacket baseLimits (now (p .entry)) n) (now (out .entry)) ⌝ }
+pub extern "C" fn brundilope_line_of_packet(
+    family: usize,
+    p: &[u8],
+    n: usize,
+    out: &mut [u8],
+) -> WrittenC
+    ensures answer { λ r. ⌜ r ≡ flatWritten (writing (lineOfPacket (limitsOf family) (now (p .entry)) n) (now (out .entry))) ⌝ }
+    ensures buffer { λ r. ⌜ now (out .exit) ≡ leaving (lineOfPacket (limitsOf family) (now (p .entry)) n) (now (out .entry)) ⌝ }
 {
-    flat_written(print::line_of_packet(p, n, out))
+    flat_written(print::line_of_packet(family, p, n, out))
 }
 
 #[no_mangle]
-pub extern "C" fn brundilope_line_of_datagram(p: &[u8], n: usize, out: &mut [u8]) -> WrittenC
-    ensures answer { λ r. ⌜ r ≡ flatWritten (writing (lineOfDatagram baseLimits (now (p .entry)) n) (now (out .entry))) ⌝ }
-    ensures buffer { λ r. ⌜ now (out .exit) ≡ leaving (lineOfDatagram baseLimits (now (p .entry)) n) (now (out .entry)) ⌝ }
+pub extern "C" fn brundilope_line_of_datagram(
+    family: usize,
+    p: &[u8],
+    n: usize,
+    out: &mut [u8],
+) -> WrittenC
+    ensures answer { λ r. ⌜ r ≡ flatWritten (writing (lineOfDatagram (limitsOf family) (now (p .entry)) n) (now (out .entry))) ⌝ }
+    ensures buffer { λ r. ⌜ now (out .exit) ≡ leaving (lineOfDatagram (limitsOf family) (now (p .entry)) n) (now (out .entry)) ⌝ }
 {
-    flat_written(print::line_of_datagram(p, n, out))
+    flat_written(print::line_of_datagram(family, p, n, out))
 }
 
 #[no_mangle]
-pub extern "C" fn brundilope_lines_of_packet(p: &[u8], out: &mut [u8]) -> WrittenC
-    ensures answer { λ r. ⌜ r ≡ flatWritten (writing (linesOfPacket baseLimits (now (p .entry))) (now (out .entry))) ⌝ }
-    ensures buffer { λ r. ⌜ now (out .exit) ≡ leaving (linesOfPacket baseLimits (now (p .entry))) (now (out .entry)) ⌝ }
+pub extern "C" fn brundilope_lines_of_packet(family: usize, p: &[u8], out: &mut [u8]) -> WrittenC
+    ensures answer { λ r. ⌜ r ≡ flatWritten (writing (linesOfPacket (limitsOf family) (now (p .entry))) (now (out .entry))) ⌝ }
+    ensures buffer { λ r. ⌜ now (out .exit) ≡ leaving (linesOfPacket (limitsOf family) (now (p .entry))) (now (out .entry)) ⌝ }
 {
-    flat_written(print::lines_of_packet(p, out))
+    flat_written(print::lines_of_packet(family, p, out))
 }
 
 #[no_mangle]
-pub extern "C" fn brundilope_lines_of_datagram(p: &[u8], out: &mut [u8]) -> WrittenC
-    ensures answer { λ r. ⌜ r ≡ flatWritten (writing (linesOfDatagram baseLimits (now (p .entry))) (now (out .entry))) ⌝ }
-    ensures buffer { λ r. ⌜ now (out .exit) ≡ leaving (linesOfDatagram baseLimits (now (p .entry))) (now (out .entry)) ⌝ }
+pub extern "C" fn brundilope_lines_of_datagram(family: usize, p: &[u8], out: &mut [u8]) -> WrittenC
+    ensures answer { λ r. ⌜ r ≡ flatWritten (writing (linesOfDatagram (limitsOf family) (now (p .entry))) (now (out .entry))) ⌝ }
+    ensures buffer { λ r. ⌜ now (out .exit) ≡ leaving (linesOfDatagram (limitsOf family) (now (p .entry))) (now (out .entry)) ⌝ }
 {
-    flat_written(print::lines_of_datagram(p, out))
+    flat_written(print::lines_of_datagram(family, p, out))
 }
 
 #[no_mangle]

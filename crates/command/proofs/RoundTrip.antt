@@ -23,7 +23,7 @@ use Rattle.frame.specs.Frame.{framed}
 use Rattle.command.specs.declared.Layout.{Layout}
 use Rattle.command.specs.Layouts.{types, layoutOf, member}
 use Rattle.command.specs.Commands.{Command, bodyBytes, mismatch, commandField, CommandPacket, readCommand}
-use Rattle.command.specs.Writing.{givenImei, packetOf, commandBytes}
+use Rattle.command.specs.Writing.{givenImei, packetOf, bytesWithin, commandBytes}
 use Rattle.command.proofs.CommandLaws.{mismatch-sound, mismatch-complete}
 use Rattle.command.proofs.PacketLaws.{command-complete}
 use Rattle.command.proofs.WriterLaws.{length-field}
@@ -98,9 +98,9 @@ bytes-field l c h =
 pub written-read : (limits : Limits) (codec type : ℕ) (imei text p : List ℕ) → limits .largest ≤ 256 ^ 4 → Bytes text → commandBytes limits codec type imei text ≡ accepted p
     → (l : Layout) × (n : ℕ) × (layoutOf codec ≡ accepted l) × (givenImei l imei ≡ accepted n)
     × (readCommand limits p ≡ accepted (record { codec = codec; type = type; imei = n; text = text }))
-unfolding commandBytes packetOf
+unfolding commandBytes bytesWithin packetOf
 written-read limits codec type imei text p limit h e =
-    let row = onAccepted-accepted (layoutOf codec) _ e in
+    let row = onAccepted-accepted (layoutOf codec) _ (check-accepted (leb 1 (limits .largest)) 21 _ e .1) in
     let l = row .0 in
     let kind = check-accepted (member type (types l)) 13 _ (row .2) in
     let given = onAccepted-accepted (givenImei l imei) _ (kind .1) in
@@ -130,10 +130,11 @@ written-read limits codec type imei text p limit h e =
 
 pub read-written : (limits : Limits) (c : Command) (p : List ℕ) (k : CommandPacket limits c p)
     → commandBytes limits (c .codec) (c .type) (joined asciiDigit (digits 10 (2 * k .row .imei - 1) (c .imei))) (c .text) ≡ accepted p
-unfolding commandBytes packetOf
+unfolding commandBytes bytesWithin packetOf
 read-written limits c p k =
     let l = k .row in
-    onAccepted-passed (layoutOf (c .codec)) _ (k .rules .layout)
+    check-passed (leb 1 (limits .largest)) 21 _ (le-leb 1 (limits .largest) (omega (arith, k .frame .most)))
+    ∙ onAccepted-passed (layoutOf (c .codec)) _ (k .rules .layout)
     ∙ check-passed (member (c .type) (types l)) 13 _ (k .rules .typeAllowed)
     ∙ onAccepted-passed (givenImei l (joined asciiDigit (digits 10 (2 * l .imei - 1) (c .imei)))) _ (given-digits l (c .imei) (k .rules .imeiRange))
     ∙ check-passed (mismatch (c .type) (c .text)) 14 _ (mismatch-complete (c .type) (c .text) (k .rules .mismatchEmpty))

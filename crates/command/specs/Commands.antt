@@ -77,7 +77,7 @@ readField d =
     onAccepted (layoutOf (codecOf d))
     (λ l. check (eqb (firstCount d) 1) 7 (check (eqb (lastCount d) 1) 7 (told (commandBody l (length (inner d)) (inner d) 0))))
 
--- 1 to 5, then 6, 7 and the walk
+-- 21, 1 to 5, then 6, 7 and the walk
 unfoldable pub readCommand : Limits → List ℕ → Answer Command
 readCommand limits p = onAccepted (unframe (limits .largest) p) readField
 

@@ -4,6 +4,7 @@ use mathlib.Core.List.{List}
 use lib.ListN.{length}
 use lib.Dec.{eqb, leb}
 use Rattle.wire.specs.declared.Limits.{Limits}
+use Rattle.wire.specs.Limits.{isKnown}
 use Rattle.wire.specs.Numbers.{valueFrom}
 use Rattle.wire.specs.Reading.{repeat}
 use Rattle.wire.specs.Answers.{Answer, accepted, check, told, onAccepted}
@@ -27,9 +28,13 @@ packetOf limits l c =
     (accepted (framed (commandField l c))))
 
 -- the packet's bytes, or 6, 13, 15, 14
-unfoldable pub commandBytes : Limits → ℕ → ℕ → List ℕ → List ℕ → Answer (List ℕ)
-commandBytes limits codec type imei text =
+unfoldable pub bytesWithin : Limits → ℕ → ℕ → List ℕ → List ℕ → Answer (List ℕ)
+bytesWithin limits codec type imei text =
     onAccepted (layoutOf codec)
     (λ l. check (member type (types l)) 13
     (onAccepted (givenImei l imei)
     (λ n. packetOf limits l (record { codec = codec; type = type; imei = n; text = text }))))
+
+-- 21 comes first
+unfoldable pub commandBytes : Limits → ℕ → ℕ → List ℕ → List ℕ → Answer (List ℕ)
+commandBytes limits codec type imei text = check (isKnown (limits .largest)) 21 (bytesWithin limits codec type imei text)

@@ -15,8 +15,8 @@ ghost use Rattle.wire.specs.Imei.{packed};
 ghost use Rattle.frame.specs.Frame.{framed};
 ghost use Rattle.command.specs.Layouts.{layoutOf, rowAs, types, member};
 ghost use Rattle.command.specs.Commands.{bodyBytes, commandField, mismatch, commandBody, readField, readCommand, answerCommand, textView, textOffset, commandAs, answered};
-ghost use Rattle.command.specs.Writing.{givenImei, commandBytes};
-ghost use Rattle.wire.specs.Limits.{baseLimits};
+ghost use Rattle.command.specs.Writing.{givenImei, bytesWithin, commandBytes};
+ghost use Rattle.wire.specs.Limits.{limitsOf};
 ghost use Rattle.wire.specs.Places.{behind};
 ghost use Rattle.command.specs.Walks.{bodyAs, givenAs, planned};
 
@@ -193,18 +193,18 @@ pub fn judge_command(limits: Limits, p: &[u8]) -> CommandAnswer
     }
 }
 
-pub fn read_command(p: &[u8]) -> CommandAnswer
-    ensures { λ r. ⌜ commandAs r ≡ answerCommand baseLimits (now (p .entry)) ⌝ }
+pub fn read_command(family: usize, p: &[u8]) -> CommandAnswer
+    ensures { λ r. ⌜ commandAs r ≡ answerCommand (limitsOf family) (now (p .entry)) ⌝ }
 {
-    judge_command(wire::BASE, p)
+    judge_command(wire::limits_of(family), p)
 }
 
 // The text where it stands in the input, empty for a refused packet.
-pub fn command_text(p: &[u8]) -> &[u8]
-    ensures bytes { λ r. ⌜ now r ≡ textView (readCommand baseLimits (now (p .entry))) ⌝ }
-    ensures place { λ r. ⌜ r .ptr ≡ behind (p .entry .ptr) (textOffset (answerCommand baseLimits (now (p .entry)))) ⌝ }
+pub fn command_text(family: usize, p: &[u8]) -> &[u8]
+    ensures bytes { λ r. ⌜ now r ≡ textView (readCommand (limitsOf family) (now (p .entry))) ⌝ }
+    ensures place { λ r. ⌜ r .ptr ≡ behind (p .entry .ptr) (textOffset (answerCommand (limitsOf family) (now (p .entry)))) ⌝ }
 {
-    match read_command(p) {
+    match read_command(family, p) {
         CommandAnswer::Accepted(f) => {
             let start = f.offset;
             let end = start + f.size;
@@ -263,7 +263,7 @@ fn field_size(l: Layout, text: &[u8]) -> usize
 // Decides everything before a byte is written.
 fn plan(limits: Limits, l: Layout, kind: u8, imei: &[u8], text: &[u8]) -> Given
     requires { ⌜ layoutOf (l .codec) ≡ accepted l ⌝ }
-    ensures { λ r. ⌜ planned l kind (now (text .entry)) r ≡ commandBytes limits (l .codec) kind (now (imei .entry)) (now (text .entry)) ⌝ }
+    ensures { λ r. ⌜ planned l kind (now (text .entry)) r ≡ bytesWithin limits (l .codec) kind (now (imei .entry)) (now (text .entry)) ⌝ }
 {
     if !allows(l, kind) {
         return not_given(13);
@@ -345,16 +345,42 @@ fn write_planned(l: Layout, kind: u8, imei: u64, text: &[u8], out: &mut [u8]) ->
     Written::Bytes(whole)
 }
 
-// Writes the packet to the start of `out`; a refusal changes no byte.
-pub fn write_command(codec: u8, kind: u8, imei: &[u8], text: &[u8], out: &mut [u8]) -> Written
-    ensures { λ r. ⌜ writtenAs r ≡ writing (commandBytes baseLimits codec kind (now (imei .entry)) (now (text .entry))) (now (out .entry)) ⌝ }
-    ensures { λ r. ⌜ now (out .exit) ≡ leaving (commandBytes baseLimits codec kind (now (imei .entry)) (now (text .entry))) (now (out .entry)) ⌝ }
+// Writes the packet to the start of `out`, within limits.
+fn write_within(
+    limits: Limits,
+    codec: u8,
+    kind: u8,
+    imei: &[u8],
+    text: &[u8],
+    out: &mut [u8],
+) -> Written
+    ensures { λ r. ⌜ writtenAs r ≡ writing (bytesWithin limits codec kind (now (imei .entry)) (now (text .entry))) (now (out .entry)) ⌝ }
+    ensures { λ r. ⌜ now (out .exit) ≡ leaving (bytesWithin limits codec kind (now (imei .entry)) (now (text .entry))) (now (out .entry)) ⌝ }
 {
     match layout_of(codec) {
         Row::Unknown => not_written(6),
-        Row::Of(l) => match plan(wire::BASE, l, kind, imei, text) {
+        Row::Of(l) => match plan(limits, l, kind, imei, text) {
             Given::Imei(n) => write_planned(l, kind, n, text, out),
             Given::Refused(r) => Written::Refused(r),
         },
     }
+}
+
+// Writes the packet to the start of `out`; a refusal changes no byte.
+pub fn write_command(
+    family: usize,
+    codec: u8,
+    kind: u8,
+    imei: &[u8],
+    text: &[u8],
+    out: &mut [u8],
+) -> Written
+    ensures { λ r. ⌜ writtenAs r ≡ writing (commandBytes (limitsOf family) codec kind (now (imei .entry)) (now (text .entry))) (now (out .entry)) ⌝ }
+    ensures { λ r. ⌜ now (out .exit) ≡ leaving (commandBytes (limitsOf family) codec kind (now (imei .entry)) (now (text .entry))) (now (out .entry)) ⌝ }
+{
+    let limits = wire::limits_of(family);
+    if limits.largest < 1 {
+        return not_written(21);
+    }
+    write_within(limits, codec, kind, imei, text, out)
 }

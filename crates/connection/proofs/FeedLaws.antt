@@ -15,10 +15,9 @@ use Rattle.wire.proofs.BufferLaws.{leaving-done}
 use Rattle.login.specs.Login.{readLogin}
 use Rattle.stream.specs.Stream.{Phase, forLogin, forPacket, login, packet, refusing, more, settled, itemOf, judgedPacket, judged, verdict, Taken, taken}
 use Rattle.stream.proofs.StreamLaws.{needed-most, by-feed}
-use Rattle.connection.specs.declared.Connection.{Connection}
 use Rattle.connection.specs.declared.Fed.{Fed}
 use Rattle.connection.specs.declared.Lent.{Lent}
-use Rattle.connection.specs.State.{zeros, padded, phaseOf, heldBy, opened}
+use Rattle.connection.specs.State.{Gathered, zeros, padded, phaseOf, heldBy, opened}
 use Rattle.connection.specs.Feeding.{Outcome, outcome, feeding, fed, fedInto, packetIn, fedAs, lentAs, Feedable, Gives}
 use Rattle.connection.proofs.PaddedLaws.{length-zeros, drop-zeros}
 use Rattle.connection.proofs.OpenLaws.{open-is, open-or}
@@ -29,7 +28,7 @@ pub by-outcome : {o u : Outcome} (before : List ℕ) {r : Lent} {held out : List
     → (r ≡ lentAs o) × ((held ≡ o .state .held) × (out ≡ leaving (accepted (packetIn (o .told))) before))
 by-outcome before {r} {held} {out} e g = let k = subst (λ (x : Outcome). Gives x before r held out) (sym e) g in (k .answer, (k .state, k .buffer))
 
-module _ (limits : Limits) (room : ℕ) (c : Connection) (s : List ℕ) where
+module _ (limits : Limits) (room : ℕ) (c : Gathered) (s : List ℕ) where
   pub unopened : {r : Refusal} → opened limits room c ≡ refused r → fed limits room c s ≡ record { state = c; used = 0; told = settled (refusing r) }
   unfolding fed feeding
   unopened e = ap (feeding limits room c s) e
@@ -58,7 +57,7 @@ module _ (limits : Limits) (room : ℕ) (c : Connection) (s : List ℕ) where
     fed-into h = open-or limits room c (λ e. open-into e h ∙ sym (open-fed e)) (λ e. shut-into e ∙ sym (unopened e))
 
 -- what is given, by what is taken
-pub by-taken : {limits : Limits} {room : ℕ} {c : Connection} {u : Taken} {before : List ℕ} {r : Lent} {held out : List ℕ} → Feedable limits room c before → (s : List ℕ)
+pub by-taken : {limits : Limits} {room : ℕ} {c : Gathered} {u : Taken} {before : List ℕ} {r : Lent} {held out : List ℕ} → Feedable limits room c before → (s : List ℕ)
     → taken limits (phaseOf (c .phase)) (heldBy c) s ≡ u → Gives (outcome room u) before r held out → Gives (fed limits room c s) before r held out
 by-taken {limits} {room} {c} {u} {before} {r} {held} {out} able s e g =
     subst (λ (x : Outcome). Gives x before r held out) (sym (open-fed limits room c s (able .opens) ∙ ap (outcome room) e)) g
@@ -95,7 +94,7 @@ leaving-zeros : (room : ℕ) (p : List ℕ) → length p ≤ room → leaving (a
 unfolding padded
 leaving-zeros room p h = leaving-done p (zeros room) (omega (arith, length-zeros room)) ∙ ap (λ (l : List ℕ). p ++ l) (drop-zeros (length p) room)
 
-fed-fits : (limits : Limits) (room : ℕ) (c : Connection) (s : List ℕ) → 17 ≤ room → limits .largest ≤ room → length (packetIn (fed limits room c s .told)) ≤ room
+fed-fits : (limits : Limits) (room : ℕ) (c : Gathered) (s : List ℕ) → 17 ≤ room → limits .largest ≤ room → length (packetIn (fed limits room c s .told)) ≤ room
 unfolding packetIn outcome
 fed-fits limits room c s small large =
     open-or limits room c
@@ -103,14 +102,14 @@ fed-fits limits room c s small large =
     (λ e. omega (arith, ap (λ (o : Outcome). length (packetIn (o .told))) (unopened limits room c s e)))
 
 -- the state by value, from what a lent one gives
-pub fed-value : (limits : Limits) (room : ℕ) (c : Connection) (s out held p : List ℕ) (r : Lent) → 17 ≤ room → limits .largest ≤ room → out ≡ zeros room
+pub fed-value : (family : ℕ) (limits : Limits) (room : ℕ) (c : Gathered) (s out held p : List ℕ) (r : Lent) → 17 ≤ room → limits .largest ≤ room → out ≡ zeros room
     → let o = fedInto limits room c s out in r ≡ lentAs o → held ≡ o .state .held → p ≡ leaving (accepted (packetIn (o .told))) out
-    → _≡_ {A = Fed} (record { state = record { held = held; fill = r .fill; phase = r .phase }; used = r .used; item = r .item; packet = p }) (fedAs room (fed limits room c s))
+    → _≡_ {A = Fed} (record { state = record { held = held; fill = r .fill; phase = r .phase; family = family }; used = r .used; item = r .item; packet = p }) (fedAs room family (fed limits room c s))
 unfolding fedAs lentAs
-fed-value limits room c s out held p r small large clean e k m =
+fed-value family limits room c s out held p r small large clean e k m =
     let o = fedInto limits room c s out in
     let same : o ≡ fed limits room c s = fed-into limits room c s out (omega (arith, ap length clean, length-zeros room)) in
     let fits : length (packetIn (o .told)) ≤ room = omega (arith, ap (λ (x : Outcome). length (packetIn (x .told))) same, fed-fits limits room c s small large) in
     let packet-is : p ≡ padded room (packetIn (o .told)) = m ∙ ap (leaving (accepted (packetIn (o .told)))) clean ∙ leaving-zeros room (packetIn (o .told)) fits in
-    (λ i. record { state = record { held = k i; fill = e i .fill; phase = e i .phase }; used = e i .used; item = e i .item; packet = packet-is i })
-    ∙ ap (fedAs room) same
+    (λ i. record { state = record { held = k i; fill = e i .fill; phase = e i .phase; family = family }; used = e i .used; item = e i .item; packet = packet-is i })
+    ∙ ap (fedAs room family) same

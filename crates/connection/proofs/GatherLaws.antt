@@ -14,8 +14,7 @@ use Rattle.frame.specs.Frame.{heading}
 use Rattle.frame.proofs.FramingLaws.{heading-accepted}
 use Rattle.stream.specs.Stream.{Item, login, packet, refusing, more, settled, waiting, closed, needed, judged, next, taken}
 use Rattle.stream.proofs.StreamLaws.{needed-least, item-long, needed-most, needed-front, header-length, held-less, feed-more, feed-judged, feed-refused, refused-early}
-use Rattle.connection.specs.declared.Connection.{Connection}
-use Rattle.connection.specs.State.{zeros, padded, phaseNumber, kept, phaseOf, heldBy}
+use Rattle.connection.specs.State.{Gathered, zeros, padded, phaseNumber, kept, phaseOf, heldBy}
 use Rattle.connection.specs.Feeding.{Feedable}
 use Rattle.connection.proofs.PaddedLaws.{front-part, take-padded, store-padded, clear-padded}
 use Rattle.connection.proofs.OpenLaws.{needed-unframed, held-length, held-padded, Open, open-is}
@@ -31,7 +30,7 @@ next-held room (login imei) = refl
 next-held room (packet p) = refl
 next-held room (refusing r) = refl
 
-module _ {limits : Limits} {room : ℕ} {c : Connection} {out : List ℕ} (able : Feedable limits room c out) (s : List ℕ) (small : 17 ≤ room)
+module _ {limits : Limits} {room : ℕ} {c : Gathered} {out : List ℕ} (able : Feedable limits room c out) (s : List ℕ) (small : 17 ≤ room)
     (front : ℕ) (rest : front ≡ length s - (length s - (8 - c .fill))) where
   is : Open limits room c
   is = open-is limits room c (able .opens) .0
@@ -153,15 +152,15 @@ module _ {limits : Limits} {room : ℕ} {c : Connection} {out : List ℕ} (able 
         pub enough-cleared : sets whole 0 (zeros n) ≡ padded room []
         enough-cleared = ap (λ (l : List ℕ). sets l 0 (zeros n)) whole-is ∙ clear-padded room (heldBy c ++ take (n - c .fill) s) n (omega (arith, length-item)) (judged-within .1)
 
-        pub part-long : (9 ≤ length (take (n - 0) (drop 0 whole))) × (length (take (n - 0) (drop 0 whole)) ≤ room)
+        pub part-long : (9 ≤ length (take (n - 0) (drop 0 whole))) × (length (take (n - 0) (drop 0 whole)) ≤ length out)
         part-long =
             let size : length (take (n - 0) (drop 0 whole)) ≡ n = ap length enough-part ∙ length-item in
             let long = item-long limits (phaseOf (c .phase)) (heldBy c ++ s) n good (omega (arith, enough, filled, length-append (heldBy c) s)) in
-            (omega (arith, size, long), omega (arith, size, judged-within))
+            (omega (arith, size, long), omega (arith, size, needed-most limits (limits .largest) (able .login) (omega arith) (phaseOf (c .phase)) (heldBy c ++ s) n good, able .fits))
 
 -- ---- nothing is held, and the item is whole in the bytes
 
-module _ {limits : Limits} {room : ℕ} {c : Connection} {out : List ℕ} (able : Feedable limits room c out) (s : List ℕ) (small : 17 ≤ room)
+module _ {limits : Limits} {room : ℕ} {c : Gathered} {out : List ℕ} (able : Feedable limits room c out) (s : List ℕ) (small : 17 ≤ room)
     (empty : c .fill ≡ 0) (n : ℕ) (e : heading (needed limits (phaseOf (c .phase)) s) ≡ Framed.Field n) (enough : n ≤ length s) where
   none-held : heldBy c ≡ []
   unfolding heldBy
@@ -173,10 +172,10 @@ module _ {limits : Limits} {room : ℕ} {c : Connection} {out : List ℕ} (able 
   long : 9 ≤ n
   long = item-long limits (phaseOf (c .phase)) s n tells-all enough
 
-  pub at-once-part : (9 ≤ length (take (n - 0) (drop 0 s))) × (length (take (n - 0) (drop 0 s)) ≤ room)
+  pub at-once-part : (9 ≤ length (take (n - 0) (drop 0 s))) × (length (take (n - 0) (drop 0 s)) ≤ length out)
   at-once-part =
       let size : length (take (n - 0) (drop 0 s)) ≡ n = ap length (front-part s n) ∙ length-take-le n s enough in
-      (omega (arith, size, long), omega (arith, size, needed-most limits room small (able .holds) (phaseOf (c .phase)) s n tells-all))
+      (omega (arith, size, long), omega (arith, size, needed-most limits (limits .largest) (able .login) (omega arith) (phaseOf (c .phase)) s n tells-all, able .fits))
 
   pub at-once-taken : let i = judged limits (phaseOf (c .phase)) (take (n - 0) (drop 0 s)) in
       taken limits (phaseOf (c .phase)) (heldBy c) s ≡ record { used = n; told = settled i; state = next i }

@@ -17,8 +17,7 @@ use Rattle.frame.specs.Frame.{header, heading, fieldLength}
 use Rattle.frame.proofs.FramingLaws.{header-unframed}
 use Rattle.stream.specs.Stream.{Phase, forLogin, forPacket, Verdict, more, settled, needed, verdict}
 use Rattle.stream.proofs.StreamLaws.{needed-long, needed-short, verdict-more, more-needed}
-use Rattle.connection.specs.declared.Connection.{Connection}
-use Rattle.connection.specs.State.{padded, isZero, isMore, phaseOf, heldBy, opened, countOf, judgedAt}
+use Rattle.connection.specs.State.{Gathered, padded, isZero, isMore, phaseOf, heldBy, opened, countOf, judgedAt}
 use Rattle.connection.proofs.PaddedLaws.{is-padded}
 
 -- ---- what the code tells of what is needed
@@ -47,9 +46,10 @@ unfolding isMore
 more-is more e = refl
 more-is (settled i) e = absurd (let z : _≡_ {A = ℕ} 0 1 = cc in omega arith)
 
-module _ (limits : Limits) (room : ℕ) (c : Connection) where
+module _ (limits : Limits) (room : ℕ) (c : Gathered) where
   -- what an open state keeps to
   pub record Open : Type 0 where
+    pub known : 1 ≤ limits .largest
     pub phase : c .phase ≤ 1
     pub size : length (c .held) ≡ room
     pub fill : c .fill ≤ room
@@ -67,12 +67,14 @@ module _ (limits : Limits) (room : ℕ) (c : Connection) where
   pub open-is : {h : List ℕ} → opened limits room c ≡ accepted h → Open × (h ≡ heldBy c)
   unfolding opened
   open-is {h} e =
-      let c₁ = check-accepted _ 19 _ e in
+      let c₀ = check-accepted _ 19 _ e in
+      let c₁ = check-accepted _ 19 _ (c₀ .1) in
       let c₂ = check-accepted _ 19 _ (c₁ .1) in
       let c₃ = check-accepted _ 19 _ (c₂ .1) in
       let c₄ = check-accepted _ 19 _ (c₃ .1) in
       let c₅ = check-accepted _ 19 _ (c₄ .1) in (
         record {
+          known = leb-true _ _ (c₀ .0);
           phase = leb-true _ _ (c₁ .0);
           size = eqb-true _ _ (c₂ .0);
           fill = leb-true _ _ (c₃ .0);
@@ -85,7 +87,8 @@ module _ (limits : Limits) (room : ℕ) (c : Connection) where
   pub is-open : Open → opened limits room c ≡ accepted (heldBy c)
   unfolding opened isMore
   is-open o =
-      check-passed _ 19 _ (le-leb _ _ (o .phase))
+      check-passed _ 19 _ (le-leb _ _ (o .known))
+      ∙ check-passed _ 19 _ (le-leb _ _ (o .phase))
       ∙ check-passed _ 19 _ (eq-eqb _ _ (o .size))
       ∙ check-passed _ 19 _ (le-leb _ _ (o .fill))
       ∙ check-passed _ 19 _ (o .spare)
@@ -95,26 +98,27 @@ module _ (limits : Limits) (room : ℕ) (c : Connection) where
   pub open-or : {P : Type 0} → (opened limits room c ≡ accepted (heldBy c) → P) → (opened limits room c ≡ refused (refusal 19) → P) → P
   unfolding opened check
   open-or {P} f g =
-      go (leb (c .phase) 1) (eqb (length (c .held)) room) (leb (c .fill) room) (isZero (drop (c .fill) (c .held)))
+      go (leb 1 (limits .largest)) (leb (c .phase) 1) (eqb (length (c .held)) room) (leb (c .fill) room) (isZero (drop (c .fill) (c .held)))
       (isMore (verdict limits (phaseOf (c .phase)) (heldBy c))) f g
     where
-      go : (t₁ t₂ t₃ t₄ t₅ : Bool) → let r = check t₁ 19 (check t₂ 19 (check t₃ 19 (check t₄ 19 (check t₅ 19 (accepted (heldBy c)))))) in
+      go : (t₀ t₁ t₂ t₃ t₄ t₅ : Bool) → let r = check t₀ 19 (check t₁ 19 (check t₂ 19 (check t₃ 19 (check t₄ 19 (check t₅ 19 (accepted (heldBy c))))))) in
           (r ≡ accepted (heldBy c) → P) → (r ≡ refused (refusal 19) → P) → P
-      go true true true true true f g = f refl
-      go true true true true false f g = g refl
-      go true true true false t₅ f g = g refl
-      go true true false t₄ t₅ f g = g refl
-      go true false t₃ t₄ t₅ f g = g refl
-      go false t₂ t₃ t₄ t₅ f g = g refl
+      go true true true true true true f g = f refl
+      go true true true true true false f g = g refl
+      go true true true true false t₅ f g = g refl
+      go true true true false t₄ t₅ f g = g refl
+      go true true false t₃ t₄ t₅ f g = g refl
+      go true false t₂ t₃ t₄ t₅ f g = g refl
+      go false t₁ t₂ t₃ t₄ t₅ f g = g refl
 
   -- ---- how many bytes are judged together next
 
-  module _ (p : c .phase ≤ 1) (s : length (c .held) ≡ room) (f : c .fill ≤ room) (z : isZero (drop (c .fill) (c .held)) ≡ true) where
+  module _ (k₀ : 1 ≤ limits .largest) (p : c .phase ≤ 1) (s : length (c .held) ≡ room) (f : c .fill ≤ room) (z : isZero (drop (c .fill) (c .held)) ≡ true) where
     pub at-more : (n : ℕ) → needed limits (phaseOf (c .phase)) (heldBy c) ≡ accepted n → c .fill < n → countOf (judgedAt limits room c) ≡ n
     unfolding countOf judgedAt
     at-more n e h =
         let waits = verdict-more limits (phaseOf (c .phase)) (heldBy c) n e (omega (arith, held-length s f)) in
-        let shown = is-open (record { phase = p; size = s; fill = f; spare = z; waits = waits }) in
+        let shown = is-open (record { known = k₀; phase = p; size = s; fill = f; spare = z; waits = waits }) in
         ap countOf (onAccepted-passed _ (needed limits (phaseOf (c .phase))) shown ∙ e)
 
     at-settled : (opened limits room c ≡ accepted (heldBy c) → ⊥) → countOf (judgedAt limits room c) ≡ 0

@@ -15,18 +15,28 @@ ghost use lib.Seq.{sets};
 ghost use lib.Dec.{eqb};
 ghost use Rattle.wire.specs.Answers.{accepted, refusal};
 ghost use Rattle.wire.specs.Buffers.{writing, leaving, writtenAs};
-ghost use Rattle.wire.specs.Limits.{baseLimits};
+ghost use Rattle.wire.specs.Limits.{limitsOf};
 ghost use Rattle.frame.specs.Frame.{heading};
 ghost use Rattle.stream.specs.Stream.{needed, judgedPacket, judged, settled, refusing, closed, next};
-ghost use Rattle.connection.specs.State.{zeros, fresh, isZero, phaseOf, judgedAt, countOf, wanted};
+ghost use Rattle.connection.specs.State.{zeros, started, gathered, isZero, phaseOf, judgedAt, countOf, wanted};
 ghost use Rattle.connection.specs.Feeding.{outcome, fed, fedInto, packetIn, fedAs, lentAs, Feedable, Gives};
 
-// The bytes gathered so far and zeros behind them, how many they are, and the phase: 0 expects the login, 1 packets, 2 is closed. A fresh one is all zero.
+// The bytes gathered so far and zeros behind them, how many they are, the phase (0 expects the login, 1 packets, 2 is closed) and the family.
 #[repr(C)]
 pub struct Connection {
     pub held: [u8; LARGEST],
     pub fill: usize,
     pub phase: u8,
+    pub family: u8,
+}
+
+// The phase of a closed connection.
+const CLOSED: u8 = 2;
+
+// What a start gives: number 0 and a fresh connection, or 21 and a closed one of family 1.
+pub struct Started {
+    pub refusal: Refusal,
+    pub state: Connection,
 }
 
 // What a feed tells: more bytes are needed, the login's IMEI, the packet's length, or the refusal.
@@ -98,6 +108,9 @@ fn needed(limits: Limits, phase: u8, s: &[u8]) -> Framed
 fn judged_at(limits: Limits, phase: u8, fill: usize, held: &[u8]) -> usize
     ensures { λ r. ⌜ r ≡ countOf (judgedAt limits 1280 (record { held = now (held .entry); fill = fill; phase = phase })) ⌝ }
 {
+    if limits.largest < 1 {
+        return 0;
+    }
     if 1 < phase {
         return 0;
     }
@@ -142,7 +155,7 @@ fn take_packet(limits: Limits, p: &[u8], out: &mut [u8]) -> Written
             CommandAnswer::Accepted(_) => put_packet(p, out),
             CommandAnswer::Refused(r) => Written::Refused(r),
         },
-        Row::Unknown => match packet::judge_packet(limits, p, 0) {
+        Row::Unknown => match packet::judge_within(limits, p, 0) {
             DataWalk::Taken {
                 codec: _,
                 count: _,
@@ -158,7 +171,7 @@ fn closing(used: usize, r: Refusal) -> Lent
     ensures { λ a. ⌜ a ≡ lentAs (outcome 1280 (record { used = used; told = settled (refusing r); state = closed })) ⌝ }
 {
     Lent {
-        phase: 2,
+        phase: CLOSED,
         fill: 0,
         used,
         item: Item::Refused(r),
@@ -290,26 +303,34 @@ fn feed_open(
     gather(limits, phase, fill, held, bytes, out)
 }
 
-// Feeds a lent state, of `LARGEST` bytes: 19, 18 unless the packet's buffer has room for every packet, then the bytes.
-pub fn feed_lent(phase: u8, fill: usize, held: &mut [u8], bytes: &[u8], packet: &mut [u8]) -> Lent
-    ensures answer { λ r. ⌜ r ≡ lentAs (fedInto baseLimits 1280 (record { held = now (held .entry); fill = fill; phase = phase }) (now (bytes .entry)) (now (packet .entry))) ⌝ }
-    ensures state { λ r. ⌜ now (held .exit) ≡ fedInto baseLimits 1280 (record { held = now (held .entry); fill = fill; phase = phase }) (now (bytes .entry)) (now (packet .entry)) .state .held ⌝ }
-    ensures buffer { λ r. ⌜ now (packet .exit) ≡ leaving (accepted (packetIn (fedInto baseLimits 1280 (record { held = now (held .entry); fill = fill; phase = phase }) (now (bytes .entry)) (now (packet .entry)) .told))) (now (packet .entry)) ⌝ }
+// Feeds a lent state, of `LARGEST` bytes: 19, 18 unless the packet's buffer has room for every packet of the family, then the bytes.
+pub fn feed_lent(
+    family: usize,
+    phase: u8,
+    fill: usize,
+    held: &mut [u8],
+    bytes: &[u8],
+    packet: &mut [u8],
+) -> Lent
+    ensures answer { λ r. ⌜ r ≡ lentAs (fedInto (limitsOf family) 1280 (record { held = now (held .entry); fill = fill; phase = phase }) (now (bytes .entry)) (now (packet .entry))) ⌝ }
+    ensures state { λ r. ⌜ now (held .exit) ≡ fedInto (limitsOf family) 1280 (record { held = now (held .entry); fill = fill; phase = phase }) (now (bytes .entry)) (now (packet .entry)) .state .held ⌝ }
+    ensures buffer { λ r. ⌜ now (packet .exit) ≡ leaving (accepted (packetIn (fedInto (limitsOf family) 1280 (record { held = now (held .entry); fill = fill; phase = phase }) (now (bytes .entry)) (now (packet .entry)) .told))) (now (packet .entry)) ⌝ }
 {
-    if judged_at(wire::BASE, phase, fill, held) == 0 {
+    let limits = wire::limits_of(family);
+    if judged_at(limits, phase, fill, held) == 0 {
         return unfed(phase, fill, 19);
     }
-    if packet.len() < LARGEST {
+    if packet.len() < limits.largest {
         return unfed(phase, fill, 18);
     }
-    feed_open(wire::BASE, phase, fill, held, bytes, packet)
+    feed_open(limits, phase, fill, held, bytes, packet)
 }
 
 // How many more bytes are wanted before anything is judged; 0 where a feed gives 19.
-pub fn wanted(phase: u8, fill: usize, held: &[u8]) -> usize
-    ensures { λ r. ⌜ r ≡ wanted baseLimits 1280 (record { held = now (held .entry); fill = fill; phase = phase }) ⌝ }
+pub fn wanted(family: usize, phase: u8, fill: usize, held: &[u8]) -> usize
+    ensures { λ r. ⌜ r ≡ wanted (limitsOf family) 1280 (record { held = now (held .entry); fill = fill; phase = phase }) ⌝ }
 {
-    let n = judged_at(wire::BASE, phase, fill, held);
+    let n = judged_at(wire::limits_of(family), phase, fill, held);
     if n < fill {
         return 0;
     }
@@ -323,35 +344,62 @@ fn none() -> [u8; LARGEST]
 }
 
 impl Connection {
-    // A fresh connection.
-    pub fn fresh() -> Self
-        ensures { λ r. ⌜ r ≡ fresh 1280 ⌝ }
+    // A fresh connection of a family, or 21 and a closed one of family 1.
+    pub fn start(family: usize) -> Started
+        ensures { λ r. ⌜ r ≡ started 1280 family ⌝ }
     {
-        Self {
-            held: none(),
-            fill: 0,
-            phase: 0,
+        let held = none();
+        if wire::limits_of(family).largest < 1 {
+            return Started {
+                refusal: Refusal {
+                    number: 21,
+                    index: 0,
+                },
+                state: Self {
+                    held,
+                    fill: 0,
+                    phase: CLOSED,
+                    family: 1,
+                },
+            };
+        }
+        Started {
+            refusal: Refusal {
+                number: 0,
+                index: 0,
+            },
+            state: Self {
+                held,
+                fill: 0,
+                phase: 0,
+                family: family as u8,
+            },
         }
     }
 
-    // A fresh one again, whatever the state.
+    // As its family starts again, whatever the state.
     pub fn reset(mut self) -> Self
-        ensures { λ r. ⌜ r ≡ fresh 1280 ⌝ }
+        ensures { λ r. ⌜ r ≡ started 1280 (self .family) .state ⌝ }
     {
-        let held = none();
-        self.held = held;
-        self.fill = 0;
-        self.phase = 0;
+        let started = Self::start(self.family as usize);
+        self = started.state;
         self
     }
 
     // Uses every byte up to the one that finishes or refuses an item, and none after it.
     pub fn feed(mut self, bytes: &[u8]) -> Fed
-        ensures { λ r. ⌜ r ≡ fedAs 1280 (fed baseLimits 1280 self (now (bytes .entry))) ⌝ }
+        ensures { λ r. ⌜ r ≡ fedAs 1280 (self .family) (fed (limitsOf (self .family)) 1280 (gathered self) (now (bytes .entry))) ⌝ }
     {
         let mut held = self.held;
         let mut packet = none();
-        let lent = feed_lent(self.phase, self.fill, &mut held, bytes, &mut packet);
+        let lent = feed_lent(
+            self.family as usize,
+            self.phase,
+            self.fill,
+            &mut held,
+            bytes,
+            &mut packet,
+        );
         self.held = held;
         self.fill = lent.fill;
         self.phase = lent.phase;

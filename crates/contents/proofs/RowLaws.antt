@@ -7,11 +7,13 @@ use mathlib.Core.List.{List, [], _∷_, _++_, append-assoc}
 use lib.ListN.{length, take, drop, getD, length-append, length-drop}
 use lib.Seq.{drop-at, take-at, drop-drop, getD-drop}
 use Rattle.wire.specs.declared.Limits.{Limits}
+use Rattle.wire.proofs.LimitLaws.{Most}
 use Rattle.wire.specs.Numbers.{Bytes, be}
 use Rattle.wire.specs.Sequences.{joined, All}
 use Rattle.wire.specs.Answers.{Answer, accepted, refused, onAccepted}
 use Rattle.wire.proofs.Widths.{byte-pos, all-append}
-use Rattle.wire.proofs.Accepting.{onAccepted-accepted, onAccepted-passed}
+use borrow.Author.Tests.{le-leb}
+use Rattle.wire.proofs.Accepting.{check-passed, onAccepted-accepted, onAccepted-passed}
 use Rattle.avl.specs.declared.Widths.{Widths}
 use Rattle.avl.specs.Codecs.{widthsOf, kinds}
 use Rattle.avl.specs.Records.{Element, AvlRecord, elementCount, recordBytes, ElementRules, GroupsRules, RecordRules, groupBytes}
@@ -21,6 +23,7 @@ use Rattle.walk.specs.Walks.{Narrow}
 use Rattle.walk.proofs.KindLaws.{KindRange, kinds-range}
 use Rattle.walk.proofs.WalkLaws.{narrow}
 use Rattle.packet.specs.DataPackets.{readPacket, answerPacket, acknowledged, tcpAcknowledgement}
+use Rattle.packet.proofs.PacketLaws.{packet-exact}
 use Rattle.packet.proofs.FieldLaws.{packet-most}
 use Rattle.datagram.specs.declared.Header.{Header}
 use Rattle.datagram.specs.Datagrams.{Datagram, HeaderRules, readDatagram, payloadOf, answerDatagram, acknowledgementBytes, udpAcknowledgement}
@@ -366,7 +369,7 @@ module _ {p : List ℕ} {source : Answer Source} {x : Source} {h : Header} {t : 
 no-header : HeaderRules noHeader
 no-header = omega arith
 
-module _ (limits : Limits) (small : limits .largest < 2 ^ 16) (p t : List ℕ) (b : Bytes p) where
+module _ (limits : Limits) (small : Most limits) (p t : List ℕ) (b : Bytes p) where
   packet-table : contentsOfPacket limits p ≡ accepted t
       → (a : AvlData) × (readPacket limits p ≡ accepted a) × TableOf p (tcpSource limits p) (record { content = a; base = 10 }) noHeader t
   unfolding contentsOfPacket tcpSource
@@ -378,7 +381,7 @@ module _ (limits : Limits) (small : limits .largest < 2 ^ 16) (p t : List ℕ) (
         j .1,
         record {
           longest = limits .longest;
-          short = omega (arith, small, packet-most limits p (j .1) b);
+          short = omega (arith, small .packets, packet-most limits p (j .1) b);
           stored = tcp-stored limits p _ b source;
           rules = no-header;
           accepts = source;
@@ -396,7 +399,7 @@ module _ (limits : Limits) (small : limits .largest < 2 ^ 16) (p t : List ℕ) (
         i .1,
         record {
           longest = limits .longest;
-          short = omega (arith, small, datagram-most limits p (i .1) b);
+          short = omega (arith, small .datagrams, datagram-most limits p (i .1) b);
           stored = udp-stored limits p _ b source;
           rules = datagram-exact limits p (i .0) b .0 (i .1) .header;
           accepts = source;
@@ -406,14 +409,16 @@ module _ (limits : Limits) (small : limits .largest < 2 ^ 16) (p t : List ℕ) (
 
   -- a TCP packet's table, its codec and count, and its acknowledgement
   pub packet-lists : contentsOfPacket limits p ≡ accepted t
-      → Lists (tcpSource limits p) t × (answerPacket limits p ≡ accepted (titleResult t)) × (tcpAcknowledgement limits p ≡ be 4 (titleResult t .count))
+      → Lists (tcpSource limits p) t × (answerPacket limits p ≡ accepted (titleResult t)) × (tcpAcknowledgement limits p ≡ accepted (be 4 (titleResult t .count)))
   unfolding answerPacket tcpAcknowledgement dataResult acknowledged
   packet-lists e =
       let k = packet-table e in
       let title = sym (table-title (k .2)) in (
         table-lists (k .2),
         onAccepted-passed (readPacket limits p) _ (k .1) ∙ ap accepted title,
-        ap (λ r. be 4 (acknowledged r)) (k .1) ∙ ap (λ (d : DataResult). be 4 (d .count)) title,
+        check-passed _ 21 _ (le-leb 1 (limits .largest) (omega (arith, packet-exact limits p (k .0) b .0 (k .1) .frame .most)))
+            ∙ ap (λ r. accepted (be 4 (acknowledged r))) (k .1)
+            ∙ ap (λ (d : DataResult). accepted (be 4 (d .count))) title,
       )
 
   -- a datagram's table, its codec, count and header, and its acknowledgement

@@ -11,7 +11,7 @@ ghost use mathlib.Core.Path.{_≡_};
 ghost use Prim.Native.Nat.{ℕ, _+_, _*_, _^_, _≤_, _<_};
 ghost use lib.ListN.{length, drop};
 ghost use lib.Seq.{sets};
-ghost use Rattle.wire.specs.Limits.{baseLimits};
+ghost use Rattle.wire.specs.Limits.{limitsOf};
 ghost use Rattle.wire.specs.Numbers.{numberAt};
 ghost use Rattle.wire.specs.Reading.{got, repeat};
 ghost use Rattle.wire.specs.Buffers.{writing, leaving, writtenAs};
@@ -287,11 +287,11 @@ fn write_field(
 }
 
 // The table of contents of a TCP data packet.
-pub fn contents_of_packet(p: &[u8], out: &mut [u64]) -> Written
-    ensures answer { λ r. ⌜ writtenAs r ≡ writing (contentsOfPacket baseLimits (now (p .entry))) (now (out .entry)) ⌝ }
-    ensures buffer { λ r. ⌜ now (out .exit) ≡ leaving (contentsOfPacket baseLimits (now (p .entry))) (now (out .entry)) ⌝ }
+pub fn contents_of_packet(family: usize, p: &[u8], out: &mut [u64]) -> Written
+    ensures answer { λ r. ⌜ writtenAs r ≡ writing (contentsOfPacket (limitsOf family) (now (p .entry))) (now (out .entry)) ⌝ }
+    ensures buffer { λ r. ⌜ now (out .exit) ≡ leaving (contentsOfPacket (limitsOf family) (now (p .entry))) (now (out .entry)) ⌝ }
 {
-    match packet::judge_packet(wire::BASE, p, 0) {
+    match packet::judge_packet(family, p, 0) {
         DataWalk::Refused(r) => Written::Refused(r),
         DataWalk::Taken {
             codec: _,
@@ -305,11 +305,11 @@ pub fn contents_of_packet(p: &[u8], out: &mut [u64]) -> Written
 }
 
 // The table of contents of a UDP datagram.
-pub fn contents_of_datagram(p: &[u8], out: &mut [u64]) -> Written
-    ensures answer { λ r. ⌜ writtenAs r ≡ writing (contentsOfDatagram baseLimits (now (p .entry))) (now (out .entry)) ⌝ }
-    ensures buffer { λ r. ⌜ now (out .exit) ≡ leaving (contentsOfDatagram baseLimits (now (p .entry))) (now (out .entry)) ⌝ }
+pub fn contents_of_datagram(family: usize, p: &[u8], out: &mut [u64]) -> Written
+    ensures answer { λ r. ⌜ writtenAs r ≡ writing (contentsOfDatagram (limitsOf family) (now (p .entry))) (now (out .entry)) ⌝ }
+    ensures buffer { λ r. ⌜ now (out .exit) ≡ leaving (contentsOfDatagram (limitsOf family) (now (p .entry))) (now (out .entry)) ⌝ }
 {
-    match datagram::read_datagram(p) {
+    match datagram::read_datagram(family, p) {
         DatagramAnswer::Refused(r) => Written::Refused(r),
         DatagramAnswer::Accepted {
             codec: _,

@@ -62,9 +62,10 @@ data-long a = simp length-enclosed (omega arith)
 datagram-sound : (limits : Limits) (p : List ℕ) (g : Datagram) → Bytes p → readDatagram limits p ≡ accepted g → UdpPacket limits g p
 unfolding readDatagram judgeHeader contentBytes datagramBytes
 datagram-sound limits p g h e =
-    let c₄ = onAccepted-accepted (judgeHeader (limits .largest) p) _ e in
-    let c₁ = check-accepted (leb 26 (length p)) 1 _ (c₄ .1) in
-    let c₂ = check-accepted (leb (length p) (limits .largest)) 3 _ (c₁ .1) in
+    let c₄ = onAccepted-accepted (judgeHeader (limits .datagram) p) _ e in
+    let c₀ = check-accepted (leb 1 (limits .datagram)) 21 _ (c₄ .1) in
+    let c₁ = check-accepted (leb 26 (length p)) 1 _ (c₀ .1) in
+    let c₂ = check-accepted (leb (length p) (limits .datagram)) 3 _ (c₁ .1) in
     let c₃ = check-accepted (eqb (length p) (numberAt p 0 2 + 2)) 4 _ (c₂ .1) in
     let c₅ = told-accepted _ (c₃ .1) in
     let c₆ = onAccepted-accepted _ _ (c₄ .2) in
@@ -82,7 +83,7 @@ datagram-sound limits p g h e =
     (record {
       header = k .1;
       payload = d .0;
-      most = subst (λ (l : List ℕ). length l ≤ (limits .largest)) whole (leb-true _ _ (c₂ .0));
+      most = subst (λ (l : List ℕ). length l ≤ (limits .datagram)) whole (leb-true _ _ (c₂ .0));
       counted = subst (λ (n : ℕ). n < 256 ^ 2) size (number-lt p 0 2 h);
       whole = whole;
     })
@@ -106,9 +107,10 @@ datagram-complete limits p g k =
     let size : length p ≡ length (contentBytes g) + 2 = ap length (k .whole) ∙ length-datagram g in
     let number : numberAt p 0 2 ≡ length (contentBytes g) = number-be 2 (length (contentBytes g)) p 0 (contentBytes g) (k .counted) (k .whole) in
     let long : 3 ≤ length (drop 23 p) = subst (λ (l : List ℕ). 3 ≤ length l) (sym (a .1)) (data-long (g .payload)) in
-    onAccepted-passed (judgeHeader (limits .largest) p) _
-    (check-passed _ 1 _ (le-leb 26 (length p) (omega (arith, length-drop 23 p)))
-    ∙ check-passed _ 3 _ (le-leb (length p) (limits .largest) (omega (arith, k .most, length-datagram g)))
+    onAccepted-passed (judgeHeader (limits .datagram) p) _
+    (check-passed _ 21 _ (le-leb 1 (limits .datagram) (omega (arith, k .most, length-datagram g)))
+    ∙ check-passed _ 1 _ (le-leb 26 (length p) (omega (arith, length-drop 23 p)))
+    ∙ check-passed _ 3 _ (le-leb (length p) (limits .datagram) (omega (arith, k .most, length-datagram g)))
     ∙ check-passed _ 4 _ (eq-eqb (length p) (numberAt p 0 2 + 2) (omega arith))
     ∙ told-got _ (a .0))
     ∙ onAccepted-passed _ _ (ap (readData (limits .longest)) (a .1) ∙ data-complete (limits .longest) (g .payload) (k .payload))

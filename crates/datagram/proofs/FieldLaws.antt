@@ -20,8 +20,9 @@ module _ (limits : Limits) (p : List ℕ) {g : Datagram} (e : readDatagram limit
   pub datagram-field : FieldOf (limits .longest) (take (length p - 23) (drop 23 p)) (g .payload)
   unfolding readDatagram judgeHeader
   datagram-field =
-      let c₄ = onAccepted-accepted (judgeHeader (limits .largest) p) _ e in
-      let c₁ = check-accepted (leb 26 (length p)) 1 _ (c₄ .1) in
+      let c₄ = onAccepted-accepted (judgeHeader (limits .datagram) p) _ e in
+      let c₀ = check-accepted (leb 1 (limits .datagram)) 21 _ (c₄ .1) in
+      let c₁ = check-accepted (leb 26 (length p)) 1 _ (c₀ .1) in
       let c₅ = onAccepted-accepted (readData (limits .longest) (drop 23 p)) _ (c₄ .2) in
       let whole : _≡_ {A = Datagram} (record { header = c₄ .0; payload = c₅ .0 }) g = cc in
       let least = leb-true 26 (length p) (c₁ .0) in
@@ -37,5 +38,5 @@ module _ (limits : Limits) (p : List ℕ) {g : Datagram} (e : readDatagram limit
   pub datagram-long : 23 ≤ length p
   datagram-long = omega (arith, datagram-field .long, length-take (length p - 23) (drop 23 p))
 
-  pub datagram-most : length p ≤ limits .largest
+  pub datagram-most : length p ≤ limits .datagram
   datagram-most = let rules = datagram-exact limits p g b .0 e in omega (arith, rules .most, ap length (rules .whole))

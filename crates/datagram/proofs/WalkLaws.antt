@@ -8,7 +8,6 @@ use lib.Seq.{take-all}
 use lib.Dec.{leb, eqb}
 use borrow.Author.Tests.{le-leb, lt-leb, leb-true, eq-eqb, ne-eqb}
 use Rattle.wire.specs.declared.Limits.{Limits}
-use Rattle.wire.specs.Limits.{baseLimits}
 use Rattle.wire.specs.declared.Fault.{Fault}
 use Rattle.wire.specs.declared.Refusal.{Refusal}
 use Rattle.wire.specs.Numbers.{Bytes, numberAt, digits}
@@ -28,20 +27,25 @@ use Rattle.datagram.specs.Datagrams.{Datagram, headerBytes, contentBytes
 use Rattle.datagram.proofs.DatagramLaws.{datagram-exact}
 
 module _ (largest : ℕ) (p : List ℕ) where
-  pub header-short : length p < 26 → judgeHeader largest p ≡ refused (refusal 1)
+  pub header-unknown : largest < 1 → judgeHeader largest p ≡ refused (refusal 21)
   unfolding judgeHeader
-  header-short h = check-failed (leb 26 (length p)) 1 _ (lt-leb _ _ h)
+  header-unknown h = check-failed (leb 1 largest) 21 _ (lt-leb _ _ h)
 
-  module _ (long : 26 ≤ length p) where
+  pub header-short : 1 ≤ largest → length p < 26 → judgeHeader largest p ≡ refused (refusal 1)
+  unfolding judgeHeader
+  header-short known h = check-passed (leb 1 largest) 21 _ (le-leb _ _ known) ∙ check-failed (leb 26 (length p)) 1 _ (lt-leb _ _ h)
+
+  module _ (known : 1 ≤ largest) (long : 26 ≤ length p) where
     pub header-large : largest < length p → judgeHeader largest p ≡ refused (refusal 3)
     unfolding judgeHeader
-    header-large h = check-passed (leb 26 (length p)) 1 _ (le-leb _ _ long) ∙ check-failed (leb (length p) largest) 3 _ (lt-leb _ _ h)
+    header-large h = check-passed (leb 1 largest) 21 _ (le-leb _ _ known) ∙ check-passed (leb 26 (length p)) 1 _ (le-leb _ _ long) ∙ check-failed (leb (length p) largest) 3 _ (lt-leb _ _ h)
 
     module _ (fits : length p ≤ largest) where
       pub header-length : (length p ≡ numberAt p 0 2 + 2 → ⊥) → judgeHeader largest p ≡ refused (refusal 4)
       unfolding judgeHeader
       header-length h =
-          check-passed (leb 26 (length p)) 1 _ (le-leb _ _ long)
+          check-passed (leb 1 largest) 21 _ (le-leb _ _ known)
+          ∙ check-passed (leb 26 (length p)) 1 _ (le-leb _ _ long)
           ∙ check-passed (leb (length p) largest) 3 _ (le-leb _ _ fits)
           ∙ check-failed (eqb (length p) (numberAt p 0 2 + 2)) 4 _ (ne-eqb _ _ h)
 
@@ -50,7 +54,8 @@ module _ (largest : ℕ) (p : List ℕ) where
         sized : judgeHeader largest p ≡ told (readHeader p 2)
         unfolding judgeHeader
         sized =
-            check-passed (leb 26 (length p)) 1 _ (le-leb _ _ long)
+            check-passed (leb 1 largest) 21 _ (le-leb _ _ known)
+            ∙ check-passed (leb 26 (length p)) 1 _ (le-leb _ _ long)
             ∙ check-passed (leb (length p) largest) 3 _ (le-leb _ _ fits)
             ∙ check-passed (eqb (length p) (numberAt p 0 2 + 2)) 4 _ (eq-eqb _ _ size)
 
@@ -75,16 +80,16 @@ payload-part p = take-all (length p - 23) (drop 23 p) (simp length-drop (omega a
 pub payload-long : (largest : ℕ) (p : List ℕ) {h : Header} → judgeHeader largest p ≡ accepted h → (26 ≤ length p) × (3 ≤ length (take (length p - 23) (drop 23 p)))
 unfolding judgeHeader
 payload-long largest p e =
-    let long : 26 ≤ length p = leb-true 26 (length p) (check-accepted (leb 26 (length p)) 1 _ e .0) in
+    let long : 26 ≤ length p = leb-true 26 (length p) (check-accepted (leb 26 (length p)) 1 _ (check-accepted (leb 1 largest) 21 _ e .1) .0) in
     (long, subst (λ (l : List ℕ). 3 ≤ length l) (sym (payload-part p)) (simp length-drop (omega arith)))
 
 -- ---- of a header that is accepted, and of one that is refused
 
 module _ (limits : Limits) (p : List ℕ) where
-  module _ {x : Refusal} (e : judgeHeader (limits .largest) p ≡ refused x) where
+  module _ {x : Refusal} (e : judgeHeader (limits .datagram) p ≡ refused x) where
     judged : readDatagram limits p ≡ refused x
     unfolding readDatagram
-    judged = onAccepted-refused (judgeHeader (limits .largest) p) _ e
+    judged = onAccepted-refused (judgeHeader (limits .datagram) p) _ e
 
     pub walk-refused : (want : ℕ) → dataWalk want (payloadOf (readDatagram limits p)) ≡ DataWalk.Refused x
     unfolding dataWalk payloadOf
@@ -94,10 +99,10 @@ module _ (limits : Limits) (p : List ℕ) where
     unfolding answerDatagram
     answer-refused = onAccepted-refused (readDatagram limits p) _ judged
 
-  module _ {h : Header} (e : judgeHeader (limits .largest) p ≡ accepted h) where
+  module _ {h : Header} (e : judgeHeader (limits .datagram) p ≡ accepted h) where
     behind : readDatagram limits p ≡ onAccepted (readData (limits .longest) (drop 23 p)) (λ a. accepted (record { header = h; payload = a }))
     unfolding readDatagram
-    behind = onAccepted-passed (judgeHeader (limits .largest) p) _ e
+    behind = onAccepted-passed (judgeHeader (limits .datagram) p) _ e
 
     pub walk-on : (want : ℕ) → dataWalk want (readData (limits .longest) (drop 23 p)) ≡ dataWalk want (payloadOf (readDatagram limits p))
     unfolding payloadOf onAccepted
@@ -141,36 +146,36 @@ carried-fits limits want p b walk =
     let same : _≡_ {A = AvlData} (c .0 .payload) (t .content) = cc (t .accepts) in
     taken-fits t (subst (DataRules (limits .longest)) same (datagram-exact limits p (c .0) b .0 (c .1) .payload))
 
-pub payload-fits : (limits : Limits) (p : List ℕ) {h : Header} {codec count : ℕ} {span : Span} → Bytes p → judgeHeader (limits .largest) p ≡ accepted h
+pub payload-fits : (limits : Limits) (p : List ℕ) {h : Header} {codec count : ℕ} {span : Span} → Bytes p → judgeHeader (limits .datagram) p ≡ accepted h
     → dataWalk 0 (readData (limits .longest) (drop 23 p)) ≡ DataWalk.Taken codec count span → (codec < 256) × (count < 256)
 payload-fits limits p b e walk = carried-fits limits 0 p b (sym (walk-on limits p e 0) ∙ walk)
 
 -- ---- the acknowledgement
 
-module _ (p : List ℕ) (h : Bytes p) where
+module _ (limits : Limits) (p : List ℕ) (h : Bytes p) where
   -- its bytes stand in the datagram, but for the count, which is the number of records
-  answer-bytes : (limits : Limits) (g : Datagram) {count : ℕ} → readDatagram limits p ≡ accepted g → length (g .payload .records) ≡ count → count < 256
+  answer-bytes : (g : Datagram) {count : ℕ} → readDatagram limits p ≡ accepted g → length (g .payload .records) ≡ count → count < 256
       → acknowledgementBytes (g .header) (length (g .payload .records)) ≡ answerBytes p count
   unfolding acknowledgementBytes datagramBytes contentBytes headerBytes digits
-  answer-bytes limits g {count} e is few =
+  answer-bytes g {count} e is few =
       let whole = sym (datagram-exact limits p g h .0 e .whole) in
       let number : count % 256 ≡ count = omega arith in
       let last = ap (λ (n : ℕ). n % 256) is ∙ number in
       λ i. 0 ∷ 5 ∷ getD (whole i) 2 0 ∷ getD (whole i) 3 0 ∷ getD (whole i) 4 0 ∷ getD (whole i) 5 0 ∷ last i ∷ []
 
-  pub acknowledged-taken : {codec count : ℕ} {span : Span} → dataWalk 0 (payloadOf (readDatagram baseLimits p)) ≡ DataWalk.Taken codec count span
-      → (26 ≤ length p) × (udpAcknowledgement baseLimits p ≡ accepted (answerBytes p count))
+  pub acknowledged-taken : {codec count : ℕ} {span : Span} → dataWalk 0 (payloadOf (readDatagram limits p)) ≡ DataWalk.Taken codec count span
+      → (26 ≤ length p) × (udpAcknowledgement limits p ≡ accepted (answerBytes p count))
   unfolding udpAcknowledgement readDatagram payloadOf onAccepted
   acknowledged-taken walk =
-      let c = carried 0 (readDatagram baseLimits p) walk in
+      let c = carried 0 (readDatagram limits p) walk in
       let g = c .0 in
       let e = c .1 in
       let t = taken 0 (accepted (g .payload)) (sym (ap (λ r. dataWalk 0 (payloadOf r)) e) ∙ walk) in
       let same : _≡_ {A = AvlData} (g .payload) (t .content) = cc (t .accepts) in
       let count = ap (λ (a : AvlData). length (a .records)) same ∙ t .countIs in
-      let header = onAccepted-accepted (judgeHeader 1280 p) _ e in
-      (payload-long 1280 p (header .1) .0, onAccepted-passed (readDatagram baseLimits p) _ e ∙ ap accepted (answer-bytes baseLimits g e count (carried-fits baseLimits 0 p h walk .1)))
+      let header = onAccepted-accepted (judgeHeader (limits .datagram) p) _ e in
+      (payload-long (limits .datagram) p (header .1) .0, onAccepted-passed (readDatagram limits p) _ e ∙ ap accepted (answer-bytes g e count (carried-fits limits 0 p h walk .1)))
 
-  pub acknowledged-refused : {x : Refusal} → dataWalk 0 (payloadOf (readDatagram baseLimits p)) ≡ DataWalk.Refused x → udpAcknowledgement baseLimits p ≡ refused x
+  pub acknowledged-refused : {x : Refusal} → dataWalk 0 (payloadOf (readDatagram limits p)) ≡ DataWalk.Refused x → udpAcknowledgement limits p ≡ refused x
   unfolding udpAcknowledgement
-  acknowledged-refused walk = onAccepted-refused (readDatagram baseLimits p) _ (not-carried 0 (readDatagram baseLimits p) walk)
+  acknowledged-refused walk = onAccepted-refused (readDatagram limits p) _ (not-carried 0 (readDatagram limits p) walk)

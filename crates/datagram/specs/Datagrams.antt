@@ -5,6 +5,7 @@ use mathlib.Core.List.{List, [], _∷_}
 use lib.ListN.{length, drop, getD}
 use lib.Dec.{eqb, leb}
 use Rattle.wire.specs.declared.Limits.{Limits}
+use Rattle.wire.specs.Limits.{isKnown}
 use Rattle.wire.specs.Numbers.{numberAt, be}
 use Rattle.wire.specs.Sequences.{fields}
 use Rattle.wire.specs.Reading.{Reader, _>>=_, pure, number}
@@ -42,11 +43,11 @@ pub record HeaderRules (h : Header) : Type 0 where
 pub record UdpPacket (limits : Limits) (g : Datagram) (p : List ℕ) : Type 0 where
   pub header : HeaderRules (g .header)
   pub payload : DataRules (limits .longest) (g .payload)
-  pub most : length (datagramBytes g) ≤ (limits .largest)
+  pub most : length (datagramBytes g) ≤ (limits .datagram)
   pub counted : length (contentBytes g) < 256 ^ 2
   pub whole : p ≡ datagramBytes g
 
--- ---- the judge: 1, 3, 4, 15, 6, 7, walk
+-- ---- the judge: 21, 1, 3, 4, 15, 6, 7, walk
 
 unfoldable pub readHeader : Reader Header
 readHeader = do
@@ -58,14 +59,15 @@ readHeader = do
 
 unfoldable pub judgeHeader : ℕ → List ℕ → Answer Header
 judgeHeader largest p =
-    check (leb 26 (length p)) 1
+    check (isKnown largest) 21
+    (check (leb 26 (length p)) 1
     (check (leb (length p) largest) 3
     (check (eqb (length p) (numberAt p 0 2 + 2)) 4
-    (told (readHeader p 2))))
+    (told (readHeader p 2)))))
 
 unfoldable pub readDatagram : Limits → List ℕ → Answer Datagram
 readDatagram limits p =
-    onAccepted (judgeHeader (limits .largest) p)
+    onAccepted (judgeHeader (limits .datagram) p)
     (λ h. onAccepted (readData (limits .longest) (drop 23 p))
     (λ a. accepted (record { header = h; payload = a })))
 

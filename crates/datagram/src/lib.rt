@@ -1,6 +1,5 @@
 // UDP datagrams: judged, and acknowledged.
 use walk::DataWalk;
-use wire::Limits;
 use wire::Refusal;
 use wire::Written;
 ghost use mathlib.Core.Path.{_≡_};
@@ -9,7 +8,7 @@ ghost use mathlib.Core.List.{_++_};
 ghost use lib.ListN.{length, drop};
 ghost use Rattle.wire.specs.Buffers.{writing, leaving, writtenAs};
 ghost use Rattle.datagram.specs.Datagrams.{judgeHeader, readDatagram, answerDatagram, payloadOf, headerAs, datagramAs, answerBytes, udpAcknowledgement};
-ghost use Rattle.wire.specs.Limits.{baseLimits};
+ghost use Rattle.wire.specs.Limits.{limitsOf};
 ghost use Rattle.walk.specs.Walks.{dataWalk};
 
 // What stands before the data field: packet ID, unused byte, AVL packet ID, IMEI.
@@ -45,6 +44,9 @@ fn refused(number: usize) -> HeaderAnswer
 fn read_header(largest: usize, p: &[u8]) -> HeaderAnswer
     ensures { λ r. ⌜ headerAs (now (p .entry)) r ≡ judgeHeader largest (now (p .entry)) ⌝ }
 {
+    if largest < 1 {
+        return refused(21);
+    }
     if p.len() < 26 {
         return refused(1);
     }
@@ -63,23 +65,25 @@ fn read_header(largest: usize, p: &[u8]) -> HeaderAnswer
 }
 
 // The datagram's codec and count, and where the record with number `want` lies behind its first 25 bytes.
-pub fn judge_datagram(limits: Limits, p: &[u8], want: usize) -> DataWalk
-    ensures { λ r. ⌜ r ≡ dataWalk want (payloadOf (readDatagram limits (now (p .entry)))) ⌝ }
+pub fn judge_datagram(family: usize, p: &[u8], want: usize) -> DataWalk
+    ensures { λ r. ⌜ r ≡ dataWalk want (payloadOf (readDatagram (limitsOf family) (now (p .entry)))) ⌝ }
 {
-    if let HeaderAnswer::Refused(r) = read_header(limits.largest, p) {
+    let limits = wire::limits_of(family);
+    if let HeaderAnswer::Refused(r) = read_header(limits.datagram, p) {
         return DataWalk::Refused(r);
     }
     walk::read_data(limits.longest, &p[23..], want)
 }
 
-pub fn read_datagram(p: &[u8]) -> DatagramAnswer
-    ensures { λ r. ⌜ datagramAs r ≡ answerDatagram baseLimits (now (p .entry)) ⌝ }
+pub fn read_datagram(family: usize, p: &[u8]) -> DatagramAnswer
+    ensures { λ r. ⌜ datagramAs r ≡ answerDatagram (limitsOf family) (now (p .entry)) ⌝ }
 {
-    let imei = match read_header(wire::BASE.largest, p) {
+    let limits = wire::limits_of(family);
+    let imei = match read_header(limits.datagram, p) {
         HeaderAnswer::Of(imei) => imei,
         HeaderAnswer::Refused(r) => return DatagramAnswer::Refused(r),
     };
-    match walk::read_data(wire::BASE.longest, &p[23..], 0) {
+    match walk::read_data(limits.longest, &p[23..], 0) {
         DataWalk::Taken {
             codec,
             count,
@@ -113,11 +117,11 @@ fn put_acknowledgement(p: &[u8], count: u8, out: &mut [u8])
 }
 
 // The acknowledgement (the paper's receipt): seven bytes; a refused datagram gets its refusal and no byte.
-pub fn acknowledge_datagram(p: &[u8], out: &mut [u8]) -> Written
-    ensures answer { λ r. ⌜ writtenAs r ≡ writing (udpAcknowledgement baseLimits (now (p .entry))) (now (out .entry)) ⌝ }
-    ensures buffer { λ r. ⌜ now (out .exit) ≡ leaving (udpAcknowledgement baseLimits (now (p .entry))) (now (out .entry)) ⌝ }
+pub fn acknowledge_datagram(family: usize, p: &[u8], out: &mut [u8]) -> Written
+    ensures answer { λ r. ⌜ writtenAs r ≡ writing (udpAcknowledgement (limitsOf family) (now (p .entry))) (now (out .entry)) ⌝ }
+    ensures buffer { λ r. ⌜ now (out .exit) ≡ leaving (udpAcknowledgement (limitsOf family) (now (p .entry))) (now (out .entry)) ⌝ }
 {
-    match judge_datagram(wire::BASE, p, 0) {
+    match judge_datagram(family, p, 0) {
         DataWalk::Refused(r) => Written::Refused(r),
         DataWalk::Taken {
             codec: _,

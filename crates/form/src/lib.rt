@@ -17,7 +17,7 @@ ghost use Rattle.avl.specs.Codecs.{widthsOf, kinds};
 ghost use Rattle.walk.specs.Walks.{Narrow};
 ghost use Rattle.tlv.specs.Form.{form};
 ghost use Rattle.tlv.specs.PacketOf.{formOfPacket, formOfDatagram};
-ghost use Rattle.wire.specs.Limits.{baseLimits};
+ghost use Rattle.wire.specs.Limits.{limitsOf};
 ghost use Rattle.traverse.specs.Texts.{elementText, groupText, groupsText, recordText, recordsText};
 ghost use Rattle.traverse.specs.Copying.{Ready, Copies};
 ghost use Rattle.traverse.specs.Fields.{fieldText, Field, Writes};
@@ -245,11 +245,11 @@ pub fn form_of_field(longest: usize, d: &[u8], out: &mut [u8]) -> Written
 }
 
 // The form of a TCP data packet.
-pub fn form_of_packet(p: &[u8], out: &mut [u8]) -> Written
-    ensures answer { λ r. ⌜ writtenAs r ≡ writing (formOfPacket baseLimits (now (p .entry))) (now (out .entry)) ⌝ }
-    ensures buffer { λ r. ⌜ now (out .exit) ≡ leaving (formOfPacket baseLimits (now (p .entry))) (now (out .entry)) ⌝ }
+pub fn form_of_packet(family: usize, p: &[u8], out: &mut [u8]) -> Written
+    ensures answer { λ r. ⌜ writtenAs r ≡ writing (formOfPacket (limitsOf family) (now (p .entry))) (now (out .entry)) ⌝ }
+    ensures buffer { λ r. ⌜ now (out .exit) ≡ leaving (formOfPacket (limitsOf family) (now (p .entry))) (now (out .entry)) ⌝ }
 {
-    match packet::judge_packet(wire::BASE, p, 0) {
+    match packet::judge_packet(family, p, 0) {
         DataWalk::Refused(r) => Written::Refused(r),
         DataWalk::Taken {
             codec: _,
@@ -263,11 +263,11 @@ pub fn form_of_packet(p: &[u8], out: &mut [u8]) -> Written
 }
 
 // The form of a UDP datagram.
-pub fn form_of_datagram(p: &[u8], out: &mut [u8]) -> Written
-    ensures answer { λ r. ⌜ writtenAs r ≡ writing (formOfDatagram baseLimits (now (p .entry))) (now (out .entry)) ⌝ }
-    ensures buffer { λ r. ⌜ now (out .exit) ≡ leaving (formOfDatagram baseLimits (now (p .entry))) (now (out .entry)) ⌝ }
+pub fn form_of_datagram(family: usize, p: &[u8], out: &mut [u8]) -> Written
+    ensures answer { λ r. ⌜ writtenAs r ≡ writing (formOfDatagram (limitsOf family) (now (p .entry))) (now (out .entry)) ⌝ }
+    ensures buffer { λ r. ⌜ now (out .exit) ≡ leaving (formOfDatagram (limitsOf family) (now (p .entry))) (now (out .entry)) ⌝ }
 {
-    match datagram::judge_datagram(wire::BASE, p, 0) {
+    match datagram::judge_datagram(family, p, 0) {
         DataWalk::Refused(r) => Written::Refused(r),
         DataWalk::Taken {
             codec: _,

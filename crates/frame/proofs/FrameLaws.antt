@@ -68,7 +68,8 @@ counted p h = number-lt p 4 4 h
 frame-sound : (largest : ℕ) (p d : List ℕ) → Bytes p → unframe largest p ≡ accepted d → FrameRules largest d × (p ≡ framed d)
 unfolding unframe
 frame-sound largest p d h e =
-    let c₁ = check-accepted _ 1 _ e in
+    let c₀ = check-accepted _ 21 _ e in
+    let c₁ = check-accepted _ 1 _ (c₀ .1) in
     let c₂ = check-accepted _ 2 _ (c₁ .1) in
     let c₃ = check-accepted _ 3 _ (c₂ .1) in
     let c₄ = check-accepted _ 3 _ (c₃ .1) in
@@ -116,7 +117,8 @@ frame-complete largest d h =
     let s = framed d in
     let k = parts d s (length s) (h .bytes) (h .counted) (between-whole s) in
     let long = length-framed d in
-    check-passed _ 1 _ (le-leb _ (length s) (omega arith))
+    check-passed _ 21 _ (le-leb 1 largest (omega (arith, h .most)))
+    ∙ check-passed _ 1 _ (le-leb _ (length s) (omega arith))
     ∙ check-passed _ 2 _ (eq-eqb _ _ (k .zeros))
     ∙ check-passed _ 3 _ (le-leb _ (fieldLength s) (omega (arith, k .size, h .least)))
     ∙ check-passed _ 3 _ (le-leb _ largest (omega (arith, k .size, h .most)))

@@ -71,17 +71,18 @@ module _ (largest : ℕ) (p : List ℕ) where
       go true true false e = let same : 3 ≡ n = cc e in ap (λ (k : ℕ). refused (refusal k)) same
       go true true true e = absurd (let z : _≡_ {A = ℕ} 0 1 = cc in omega arith)
 
-  pub refused-header : (n : ℕ) → heading (header largest p) ≡ Unframed n → 8 ≤ length p → unframe largest p ≡ refused (refusal n)
+  pub refused-header : (n : ℕ) → heading (header largest p) ≡ Unframed n → 1 ≤ largest → 8 ≤ length p → unframe largest p ≡ refused (refusal n)
   unfolding unframe
-  refused-header n e h = check-passed _ 1 _ (le-leb 8 (length p) h) ∙ header-unframed n e _
+  refused-header n e k h = check-passed _ 21 _ (le-leb 1 largest k) ∙ check-passed _ 1 _ (le-leb 8 (length p) h) ∙ header-unframed n e _
 
   -- what is left to judge behind a header that passes
-  pub behind-header : (n : ℕ) → heading (header largest p) ≡ Field n → 8 ≤ length p → let d = take n (drop 8 p) in
+  pub behind-header : (n : ℕ) → heading (header largest p) ≡ Field n → 1 ≤ largest → 8 ≤ length p → let d = take n (drop 8 p) in
       unframe largest p ≡ check (eqb (length p) (n + 12)) 4 (check (eqb (numberAt p (8 + n) 4) (crc d)) 5 (accepted d))
   unfolding unframe fieldOf
-  behind-header n e h =
+  behind-header n e k h =
       let f = header-field n e in
-      check-passed _ 1 _ (le-leb 8 (length p) h)
+      check-passed _ 21 _ (le-leb 1 largest k)
+      ∙ check-passed _ 1 _ (le-leb 8 (length p) h)
       ∙ f .3 (List ℕ) _
       ∙ ap
       (λ (k : ℕ). check (eqb (length p) (k + 12)) 4 (check (eqb (numberAt p (8 + k) 4) (crc (take k (drop 8 p)))) 5 (accepted (take k (drop 8 p)))))
@@ -105,7 +106,7 @@ whole-check false number rest h x e =
 
 whole-unframe : (largest : ℕ) (p : List ℕ) → Whole (unframe largest p)
 unfolding unframe
-whole-unframe largest p = whole-check _ 1 _ (whole-check _ 2 _ (whole-check _ 3 _ (whole-check _ 3 _ (whole-check _ 4 _ (whole-check _ 5 _ (whole-accepted _))))))
+whole-unframe largest p = whole-check _ 21 _ (whole-check _ 1 _ (whole-check _ 2 _ (whole-check _ 3 _ (whole-check _ 3 _ (whole-check _ 4 _ (whole-check _ 5 _ (whole-accepted _)))))))
 
 framing-refused : (r : Answer (List ℕ)) {n : ℕ} → Whole r → framing r ≡ Unframed n → r ≡ refused (refusal n)
 unfolding framing

@@ -4,6 +4,7 @@ use mathlib.Core.Path.{_≡_}
 use mathlib.Core.List.{List, [], _∷_}
 use lib.ListN.{length, take, drop}
 use lib.Dec.{eqb, leb}
+use Rattle.wire.specs.Limits.{isKnown}
 use Rattle.wire.specs.Numbers.{Bytes, numberAt, be}
 use Rattle.wire.specs.Sequences.{fields}
 use Rattle.wire.specs.Answers.{Answer, accepted, refused, check}
@@ -51,14 +52,15 @@ headed largest p rest =
 abbrev pub header : ℕ → List ℕ → Answer ℕ
 header largest p = headed largest p (accepted (fieldLength p))
 
--- the data field, or 1 to 5
+-- the data field, or 21, then 1 to 5
 unfoldable pub unframe : ℕ → List ℕ → Answer (List ℕ)
 unframe largest p =
-    check (leb 8 (length p)) 1
+    check (isKnown largest) 21
+    (check (leb 8 (length p)) 1
     (headed largest p
     (check (eqb (length p) (fieldLength p + 12)) 4
     (check (eqb (numberAt p (8 + fieldLength p) 4) (crc (fieldOf p))) 5
-    (accepted (fieldOf p)))))
+    (accepted (fieldOf p))))))
 
 -- ---- what two packets are compared by
 

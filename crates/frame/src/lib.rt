@@ -33,6 +33,9 @@ pub fn header(largest: usize, p: &[u8]) -> Framed
 pub fn unframed(largest: usize, p: &[u8]) -> Framed
     ensures { λ r. ⌜ r ≡ framing (unframe largest (now (p .entry))) ⌝ }
 {
+    if largest < 1 {
+        return Framed::Unframed(21);
+    }
     if p.len() < 8 {
         return Framed::Unframed(1);
     }

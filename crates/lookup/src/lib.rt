@@ -4,12 +4,11 @@ use element::ElementAnswer;
 use element::RecordFields;
 use element::Value;
 use walk::DataWalk;
-use wire::Limits;
 use wire::Refusal;
 ghost use mathlib.Core.Path.{_≡_};
 ghost use Rattle.lookup.specs.Lookups.{tcpSource, udpSource, recordByNumber, valueByNumber, valueById, view, viewOffset, lastKnown, knownPlace};
 ghost use Rattle.element.specs.Elements.{nth, firstWith};
-ghost use Rattle.wire.specs.Limits.{baseLimits};
+ghost use Rattle.wire.specs.Limits.{limitsOf};
 ghost use Rattle.wire.specs.Places.{behind};
 ghost use Rattle.lookup.specs.Answers.{recordAs, partAs, partOf, lastPart, PartIn, RecordIn, ValueIn, Reaches, shifted, Within, viewOf, startOf, answerValue, valueAs, answerKnown, knownAs, knownView};
 
@@ -42,10 +41,10 @@ pub enum Part {
 
 // ---- records as parts of the input
 
-pub fn packet_part(limits: Limits, p: &[u8], n: usize) -> Part
-    ensures { λ r. ⌜ partAs r ≡ partOf (tcpSource limits (now (p .entry))) n ⌝ }
+pub fn packet_part(family: usize, p: &[u8], n: usize) -> Part
+    ensures { λ r. ⌜ partAs r ≡ partOf (tcpSource (limitsOf family) (now (p .entry))) n ⌝ }
 {
-    match packet::judge_packet(limits, p, n) {
+    match packet::judge_packet(family, p, n) {
         DataWalk::Refused(r) => Part::Refused(r),
         DataWalk::Taken { codec, count, span } => {
             if n < count {
@@ -64,10 +63,10 @@ pub fn packet_part(limits: Limits, p: &[u8], n: usize) -> Part
     }
 }
 
-pub fn datagram_part(limits: Limits, p: &[u8], n: usize) -> Part
-    ensures { λ r. ⌜ partAs r ≡ partOf (udpSource limits (now (p .entry))) n ⌝ }
+pub fn datagram_part(family: usize, p: &[u8], n: usize) -> Part
+    ensures { λ r. ⌜ partAs r ≡ partOf (udpSource (limitsOf family) (now (p .entry))) n ⌝ }
 {
-    match datagram::judge_datagram(limits, p, n) {
+    match datagram::judge_datagram(family, p, n) {
         DataWalk::Refused(r) => Part::Refused(r),
         DataWalk::Taken { codec, count, span } => {
             if n < count {
@@ -87,17 +86,17 @@ pub fn datagram_part(limits: Limits, p: &[u8], n: usize) -> Part
 }
 
 // The last record of a TCP packet: its number is one below the first count.
-fn last_part(limits: Limits, p: &[u8]) -> Part
-    ensures { λ r. ⌜ partAs r ≡ lastPart (tcpSource limits (now (p .entry))) ⌝ }
+fn last_part(family: usize, p: &[u8]) -> Part
+    ensures { λ r. ⌜ partAs r ≡ lastPart (tcpSource (limitsOf family) (now (p .entry))) ⌝ }
 {
     if p.len() < 10 {
-        return packet_part(limits, p, 0);
+        return packet_part(family, p, 0);
     }
     let count = p[9] as usize;
     if count < 1 {
-        return packet_part(limits, p, 0);
+        return packet_part(family, p, 0);
     }
-    packet_part(limits, p, count - 1)
+    packet_part(family, p, count - 1)
 }
 
 // ---- records by number
@@ -121,16 +120,16 @@ fn record_in(p: &[u8], part: Part) -> RecordAnswer
     }
 }
 
-pub fn record_in_packet(p: &[u8], n: usize) -> RecordAnswer
-    ensures { λ r. ⌜ recordAs r ≡ recordByNumber (tcpSource baseLimits (now (p .entry))) n ⌝ }
+pub fn record_in_packet(family: usize, p: &[u8], n: usize) -> RecordAnswer
+    ensures { λ r. ⌜ recordAs r ≡ recordByNumber (tcpSource (limitsOf family) (now (p .entry))) n ⌝ }
 {
-    record_in(p, packet_part(wire::BASE, p, n))
+    record_in(p, packet_part(family, p, n))
 }
 
-pub fn record_in_datagram(p: &[u8], n: usize) -> RecordAnswer
-    ensures { λ r. ⌜ recordAs r ≡ recordByNumber (udpSource baseLimits (now (p .entry))) n ⌝ }
+pub fn record_in_datagram(family: usize, p: &[u8], n: usize) -> RecordAnswer
+    ensures { λ r. ⌜ recordAs r ≡ recordByNumber (udpSource (limitsOf family) (now (p .entry))) n ⌝ }
 {
-    record_in(p, datagram_part(wire::BASE, p, n))
+    record_in(p, datagram_part(family, p, n))
 }
 
 // ---- values by number and by ID
@@ -192,28 +191,28 @@ fn id_in(p: &[u8], part: Part, id: u16) -> ValueAnswer
     }
 }
 
-pub fn value_in_packet(p: &[u8], n: usize, k: usize) -> ValueAnswer
-    ensures { λ r. ⌜ valueAs r ≡ answerValue (valueByNumber (tcpSource baseLimits (now (p .entry))) n k) ⌝ }
+pub fn value_in_packet(family: usize, p: &[u8], n: usize, k: usize) -> ValueAnswer
+    ensures { λ r. ⌜ valueAs r ≡ answerValue (valueByNumber (tcpSource (limitsOf family) (now (p .entry))) n k) ⌝ }
 {
-    number_in(p, packet_part(wire::BASE, p, n), k)
+    number_in(p, packet_part(family, p, n), k)
 }
 
-pub fn value_in_datagram(p: &[u8], n: usize, k: usize) -> ValueAnswer
-    ensures { λ r. ⌜ valueAs r ≡ answerValue (valueByNumber (udpSource baseLimits (now (p .entry))) n k) ⌝ }
+pub fn value_in_datagram(family: usize, p: &[u8], n: usize, k: usize) -> ValueAnswer
+    ensures { λ r. ⌜ valueAs r ≡ answerValue (valueByNumber (udpSource (limitsOf family) (now (p .entry))) n k) ⌝ }
 {
-    number_in(p, datagram_part(wire::BASE, p, n), k)
+    number_in(p, datagram_part(family, p, n), k)
 }
 
-pub fn id_in_packet(p: &[u8], n: usize, id: u16) -> ValueAnswer
-    ensures { λ r. ⌜ valueAs r ≡ answerValue (valueById (tcpSource baseLimits (now (p .entry))) n id) ⌝ }
+pub fn id_in_packet(family: usize, p: &[u8], n: usize, id: u16) -> ValueAnswer
+    ensures { λ r. ⌜ valueAs r ≡ answerValue (valueById (tcpSource (limitsOf family) (now (p .entry))) n id) ⌝ }
 {
-    id_in(p, packet_part(wire::BASE, p, n), id)
+    id_in(p, packet_part(family, p, n), id)
 }
 
-pub fn id_in_datagram(p: &[u8], n: usize, id: u16) -> ValueAnswer
-    ensures { λ r. ⌜ valueAs r ≡ answerValue (valueById (udpSource baseLimits (now (p .entry))) n id) ⌝ }
+pub fn id_in_datagram(family: usize, p: &[u8], n: usize, id: u16) -> ValueAnswer
+    ensures { λ r. ⌜ valueAs r ≡ answerValue (valueById (udpSource (limitsOf family) (now (p .entry))) n id) ⌝ }
 {
-    id_in(p, datagram_part(wire::BASE, p, n), id)
+    id_in(p, datagram_part(family, p, n), id)
 }
 
 // ---- the same as views: parts of the input, empty on every refusal
@@ -233,40 +232,40 @@ fn view_of(p: &[u8], answer: ValueAnswer) -> &[u8]
     }
 }
 
-pub fn view_in_packet(p: &[u8], n: usize, k: usize) -> &[u8]
-    ensures bytes { λ r. ⌜ now r ≡ view (valueByNumber (tcpSource baseLimits (now (p .entry))) n k) ⌝ }
-    ensures place { λ r. ⌜ r .ptr ≡ behind (p .entry .ptr) (viewOffset (valueByNumber (tcpSource baseLimits (now (p .entry))) n k)) ⌝ }
+pub fn view_in_packet(family: usize, p: &[u8], n: usize, k: usize) -> &[u8]
+    ensures bytes { λ r. ⌜ now r ≡ view (valueByNumber (tcpSource (limitsOf family) (now (p .entry))) n k) ⌝ }
+    ensures place { λ r. ⌜ r .ptr ≡ behind (p .entry .ptr) (viewOffset (valueByNumber (tcpSource (limitsOf family) (now (p .entry))) n k)) ⌝ }
 {
-    view_of(p, value_in_packet(p, n, k))
+    view_of(p, value_in_packet(family, p, n, k))
 }
 
-pub fn view_in_datagram(p: &[u8], n: usize, k: usize) -> &[u8]
-    ensures bytes { λ r. ⌜ now r ≡ view (valueByNumber (udpSource baseLimits (now (p .entry))) n k) ⌝ }
-    ensures place { λ r. ⌜ r .ptr ≡ behind (p .entry .ptr) (viewOffset (valueByNumber (udpSource baseLimits (now (p .entry))) n k)) ⌝ }
+pub fn view_in_datagram(family: usize, p: &[u8], n: usize, k: usize) -> &[u8]
+    ensures bytes { λ r. ⌜ now r ≡ view (valueByNumber (udpSource (limitsOf family) (now (p .entry))) n k) ⌝ }
+    ensures place { λ r. ⌜ r .ptr ≡ behind (p .entry .ptr) (viewOffset (valueByNumber (udpSource (limitsOf family) (now (p .entry))) n k)) ⌝ }
 {
-    view_of(p, value_in_datagram(p, n, k))
+    view_of(p, value_in_datagram(family, p, n, k))
 }
 
-pub fn id_view_in_packet(p: &[u8], n: usize, id: u16) -> &[u8]
-    ensures bytes { λ r. ⌜ now r ≡ view (valueById (tcpSource baseLimits (now (p .entry))) n id) ⌝ }
-    ensures place { λ r. ⌜ r .ptr ≡ behind (p .entry .ptr) (viewOffset (valueById (tcpSource baseLimits (now (p .entry))) n id)) ⌝ }
+pub fn id_view_in_packet(family: usize, p: &[u8], n: usize, id: u16) -> &[u8]
+    ensures bytes { λ r. ⌜ now r ≡ view (valueById (tcpSource (limitsOf family) (now (p .entry))) n id) ⌝ }
+    ensures place { λ r. ⌜ r .ptr ≡ behind (p .entry .ptr) (viewOffset (valueById (tcpSource (limitsOf family) (now (p .entry))) n id)) ⌝ }
 {
-    view_of(p, id_in_packet(p, n, id))
+    view_of(p, id_in_packet(family, p, n, id))
 }
 
-pub fn id_view_in_datagram(p: &[u8], n: usize, id: u16) -> &[u8]
-    ensures bytes { λ r. ⌜ now r ≡ view (valueById (udpSource baseLimits (now (p .entry))) n id) ⌝ }
-    ensures place { λ r. ⌜ r .ptr ≡ behind (p .entry .ptr) (viewOffset (valueById (udpSource baseLimits (now (p .entry))) n id)) ⌝ }
+pub fn id_view_in_datagram(family: usize, p: &[u8], n: usize, id: u16) -> &[u8]
+    ensures bytes { λ r. ⌜ now r ≡ view (valueById (udpSource (limitsOf family) (now (p .entry))) n id) ⌝ }
+    ensures place { λ r. ⌜ r .ptr ≡ behind (p .entry .ptr) (viewOffset (valueById (udpSource (limitsOf family) (now (p .entry))) n id)) ⌝ }
 {
-    view_of(p, id_in_datagram(p, n, id))
+    view_of(p, id_in_datagram(family, p, n, id))
 }
 
 // ---- the last known value of an ID: in the newer packet's last record, else in the older's
 
-pub fn last_known(newer: &[u8], older: &[u8], id: u16) -> KnownAnswer
-    ensures { λ r. ⌜ knownAs r ≡ answerKnown (lastKnown id (tcpSource baseLimits (now (newer .entry))) (tcpSource baseLimits (now (older .entry)))) ⌝ }
+pub fn last_known(family: usize, newer: &[u8], older: &[u8], id: u16) -> KnownAnswer
+    ensures { λ r. ⌜ knownAs r ≡ answerKnown (lastKnown id (tcpSource (limitsOf family) (now (newer .entry))) (tcpSource (limitsOf family) (now (older .entry)))) ⌝ }
 {
-    let part = last_part(wire::BASE, newer);
+    let part = last_part(family, newer);
     if let Part::Refused(r) = part {
         return KnownAnswer::Refused(r);
     }
@@ -276,17 +275,17 @@ pub fn last_known(newer: &[u8], older: &[u8], id: u16) -> KnownAnswer
             value,
         };
     }
-    match id_in(older, last_part(wire::BASE, older), id) {
+    match id_in(older, last_part(family, older), id) {
         ValueAnswer::Found(value) => KnownAnswer::Found { older: true, value },
         ValueAnswer::Refused(r) => KnownAnswer::Refused(r),
     }
 }
 
-pub fn last_known_view<'a>(newer: &'a [u8], older: &'a [u8], id: u16) -> &'a [u8]
-    ensures bytes { λ r. ⌜ now r ≡ knownView (lastKnown id (tcpSource baseLimits (now (newer .entry))) (tcpSource baseLimits (now (older .entry)))) ⌝ }
-    ensures place { λ r. ⌜ r .ptr ≡ knownPlace (lastKnown id (tcpSource baseLimits (now (newer .entry))) (tcpSource baseLimits (now (older .entry)))) (newer .entry .ptr) (older .entry .ptr) ⌝ }
+pub fn last_known_view<'a>(family: usize, newer: &'a [u8], older: &'a [u8], id: u16) -> &'a [u8]
+    ensures bytes { λ r. ⌜ now r ≡ knownView (lastKnown id (tcpSource (limitsOf family) (now (newer .entry))) (tcpSource (limitsOf family) (now (older .entry)))) ⌝ }
+    ensures place { λ r. ⌜ r .ptr ≡ knownPlace (lastKnown id (tcpSource (limitsOf family) (now (newer .entry))) (tcpSource (limitsOf family) (now (older .entry)))) (newer .entry .ptr) (older .entry .ptr) ⌝ }
 {
-    match last_known(newer, older, id) {
+    match last_known(family, newer, older, id) {
         KnownAnswer::Refused(_) => &newer[0..0],
         KnownAnswer::Found { older: past, value } => {
             if past {

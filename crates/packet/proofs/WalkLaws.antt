@@ -5,11 +5,12 @@ use mathlib.Core.Path.{_≡_, sym, ap, ap₂, _∙_}
 use mathlib.Core.List.{List, [], _∷_, _++_}
 use lib.ListN.{length, take, drop, length-drop}
 use lib.Seq.{length-take-le}
+use borrow.Author.Tests.{le-leb, lt-leb}
 use Rattle.wire.specs.declared.Limits.{Limits}
 use Rattle.wire.specs.declared.Refusal.{Refusal}
 use Rattle.wire.specs.Numbers.{Bytes, digits, be}
 use Rattle.wire.specs.Answers.{accepted, refused, refusal, onAccepted}
-use Rattle.wire.proofs.Accepting.{onAccepted-passed}
+use Rattle.wire.proofs.Accepting.{check-passed, check-failed, onAccepted-passed}
 use Rattle.frame.specs.declared.Framed.{Framed}
 use Rattle.frame.specs.Frame.{unframe, framing}
 use Rattle.frame.proofs.FramingLaws.{framing-field, framing-unframed}
@@ -70,9 +71,13 @@ module _ (limits : Limits) (p : List ℕ) where
   unfolding acknowledged
   count-refused e = ap acknowledged e
 
-  pub acknowledgement-bytes : {n : ℕ} → n ≡ acknowledged (readPacket limits p) → n < 256 → 0 ∷ 0 ∷ 0 ∷ n ∷ [] ≡ tcpAcknowledgement limits p
+  pub acknowledgement-bytes : {n : ℕ} → n ≡ acknowledged (readPacket limits p) → n < 256 → 1 ≤ limits .largest → tcpAcknowledgement limits p ≡ accepted (0 ∷ 0 ∷ 0 ∷ n ∷ [])
   unfolding tcpAcknowledgement digits
-  acknowledgement-bytes {n} e h =
+  acknowledgement-bytes {n} e h k =
       let high : n / 256 ≡ 0 = omega arith in
       let low : n % 256 ≡ n = omega arith in
-      sym (ap₂ (λ (a b : ℕ). digits 256 3 a ++ (b ∷ [])) high low) ∙ ap (be 4) e
+      check-passed _ 21 _ (le-leb 1 (limits .largest) k) ∙ ap accepted (sym (sym (ap₂ (λ (a b : ℕ). digits 256 3 a ++ (b ∷ [])) high low) ∙ ap (be 4) e))
+
+  pub unknown-family : limits .largest < 1 → tcpAcknowledgement limits p ≡ refused (refusal 21)
+  unfolding tcpAcknowledgement
+  unknown-family h = check-failed _ 21 _ (lt-leb 1 (limits .largest) h)

@@ -4,8 +4,9 @@ use mathlib.Core.Path.{_≡_}
 use mathlib.Core.List.{List}
 use lib.ListN.{length}
 use Rattle.wire.specs.declared.Limits.{Limits}
+use Rattle.wire.specs.Limits.{isKnown}
 use Rattle.wire.specs.Numbers.{be}
-use Rattle.wire.specs.Answers.{Answer, accepted, refused, onAccepted}
+use Rattle.wire.specs.Answers.{Answer, accepted, refused, check, onAccepted}
 use Rattle.avl.specs.DataField.{AvlData, dataBytes, DataRules, readData, DataResult, dataResult}
 use Rattle.packet.specs.declared.PacketAnswer.{PacketAnswer}
 use Rattle.packet.specs.declared.PacketAnswer.the-variants.{Accepted, Refused}
@@ -22,7 +23,7 @@ pub record DataPacket (limits : Limits) (a : AvlData) (p : List ℕ) : Type 0 wh
   pub frame : FrameRules (limits .largest) (dataBytes a)
   pub whole : p ≡ packetBytes a
 
--- ---- the judge: 1 to 5, 6, 7, then the walk
+-- ---- the judge: 21, 1 to 5, 6, 7, then the walk
 
 unfoldable pub readPacket : Limits → List ℕ → Answer AvlData
 readPacket limits p = onAccepted (unframe (limits .largest) p) (readData (limits .longest))
@@ -30,14 +31,14 @@ readPacket limits p = onAccepted (unframe (limits .largest) p) (readData (limits
 unfoldable pub answerPacket : Limits → List ℕ → Answer DataResult
 answerPacket limits p = onAccepted (readPacket limits p) (λ a. accepted (dataResult a))
 
--- ---- the acknowledgement: the number of records in four bytes, 0 for a refused packet
+-- ---- the acknowledgement: the number of records in four bytes, 0 for a refused packet; of an unknown family none
 
 unfoldable pub acknowledged : Answer AvlData → ℕ
 acknowledged (accepted a) = length (a .records)
 acknowledged (refused r) = 0
 
-unfoldable pub tcpAcknowledgement : Limits → List ℕ → List ℕ
-tcpAcknowledgement limits p = be 4 (acknowledged (readPacket limits p))
+unfoldable pub tcpAcknowledgement : Limits → List ℕ → Answer (List ℕ)
+tcpAcknowledgement limits p = check (isKnown (limits .largest)) 21 (accepted (be 4 (acknowledged (readPacket limits p))))
 
 -- ---- what the code's answer says
 

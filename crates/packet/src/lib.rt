@@ -5,10 +5,9 @@ use wire::Limits;
 use wire::Refusal;
 use wire::Written;
 ghost use mathlib.Core.Path.{_≡_};
-ghost use Rattle.wire.specs.Answers.{accepted};
 ghost use Rattle.wire.specs.Buffers.{writing, leaving, writtenAs};
 ghost use Rattle.walk.specs.Walks.{dataWalk};
-ghost use Rattle.wire.specs.Limits.{baseLimits};
+ghost use Rattle.wire.specs.Limits.{limitsOf};
 ghost use Rattle.packet.specs.DataPackets.{readPacket, answerPacket, packetAs, acknowledged, tcpAcknowledgement};
 
 // The codec and the number of records of an accepted packet, or the refusal.
@@ -18,7 +17,7 @@ pub enum PacketAnswer {
 }
 
 // The packet's codec and count, and where the record with number `want` lies behind its first 10 bytes.
-pub fn judge_packet(limits: Limits, p: &[u8], want: usize) -> DataWalk
+pub fn judge_within(limits: Limits, p: &[u8], want: usize) -> DataWalk
     ensures { λ r. ⌜ r ≡ dataWalk want (readPacket limits (now (p .entry))) ⌝ }
 {
     let n = match frame::unframed(limits.largest, p) {
@@ -29,10 +28,17 @@ pub fn judge_packet(limits: Limits, p: &[u8], want: usize) -> DataWalk
     walk::read_data(limits.longest, &p[8..end], want)
 }
 
-pub fn read_packet(p: &[u8]) -> PacketAnswer
-    ensures { λ r. ⌜ packetAs r ≡ answerPacket baseLimits (now (p .entry)) ⌝ }
+// The same by the limits of a family.
+pub fn judge_packet(family: usize, p: &[u8], want: usize) -> DataWalk
+    ensures { λ r. ⌜ r ≡ dataWalk want (readPacket (limitsOf family) (now (p .entry))) ⌝ }
 {
-    match judge_packet(wire::BASE, p, 0) {
+    judge_within(wire::limits_of(family), p, want)
+}
+
+pub fn read_packet(family: usize, p: &[u8]) -> PacketAnswer
+    ensures { λ r. ⌜ packetAs r ≡ answerPacket (limitsOf family) (now (p .entry)) ⌝ }
+{
+    match judge_packet(family, p, 0) {
         DataWalk::Taken {
             codec,
             count,
@@ -45,10 +51,10 @@ pub fn read_packet(p: &[u8]) -> PacketAnswer
     }
 }
 
-fn record_count(p: &[u8]) -> u8
-    ensures { λ r. ⌜ r ≡ acknowledged (readPacket baseLimits (now (p .entry))) ⌝ }
+fn record_count(family: usize, p: &[u8]) -> u8
+    ensures { λ r. ⌜ r ≡ acknowledged (readPacket (limitsOf family) (now (p .entry))) ⌝ }
 {
-    match judge_packet(wire::BASE, p, 0) {
+    match judge_packet(family, p, 0) {
         DataWalk::Taken {
             codec: _,
             count,
@@ -58,17 +64,23 @@ fn record_count(p: &[u8]) -> u8
     }
 }
 
-// The acknowledgement (the paper's receipt): the number of records in four bytes, zeros for a refused packet.
-pub fn acknowledge_packet(p: &[u8], out: &mut [u8]) -> Written
-    ensures answer { λ r. ⌜ writtenAs r ≡ writing (accepted (tcpAcknowledgement baseLimits (now (p .entry)))) (now (out .entry)) ⌝ }
-    ensures buffer { λ r. ⌜ now (out .exit) ≡ leaving (accepted (tcpAcknowledgement baseLimits (now (p .entry)))) (now (out .entry)) ⌝ }
+fn unwritten(number: usize) -> Written
+    ensures { λ r. ⌜ r ≡ Written.Refused (record { number = number; index = 0 }) ⌝ }
 {
-    let count = record_count(p);
+    Written::Refused(Refusal { number, index: 0 })
+}
+
+// The acknowledgement (the paper's receipt): the number of records in four bytes, zeros for a refused packet; 21 comes first.
+pub fn acknowledge_packet(family: usize, p: &[u8], out: &mut [u8]) -> Written
+    ensures answer { λ r. ⌜ writtenAs r ≡ writing (tcpAcknowledgement (limitsOf family) (now (p .entry))) (now (out .entry)) ⌝ }
+    ensures buffer { λ r. ⌜ now (out .exit) ≡ leaving (tcpAcknowledgement (limitsOf family) (now (p .entry))) (now (out .entry)) ⌝ }
+{
+    if wire::limits_of(family).largest < 1 {
+        return unwritten(21);
+    }
+    let count = record_count(family, p);
     if out.len() < 4 {
-        return Written::Refused(Refusal {
-            number: 18,
-            index: 0,
-        });
+        return unwritten(18);
     }
     out[0] = 0;
     out[1] = 0;

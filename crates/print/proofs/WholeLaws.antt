@@ -6,6 +6,7 @@ use mathlib.Core.List.{List, [], _∷_, _++_}
 use lib.ListN.{length, take, drop, length-take, length-drop}
 use lib.Seq.{sets}
 use Rattle.wire.specs.declared.Limits.{Limits}
+use Rattle.wire.proofs.LimitLaws.{Most}
 use Rattle.wire.specs.declared.Refusal.{Refusal}
 use Rattle.wire.specs.declared.Written.{Written}
 use Rattle.wire.specs.Numbers.{Bytes}
@@ -140,20 +141,20 @@ part-source source n e codec start end elements is =
     let i = onAccepted-accepted source _ (sym (sym (ap partAs is) ∙ e)) in
     (i .0, i .1)
 
-module _ (limits : Limits) (p : List ℕ) (b : Bytes p) (few : limits .largest < 2 ^ 32) (n : ℕ) {q : Part} where
+module _ (limits : Limits) (p : List ℕ) (b : Bytes p) (few : Most limits) (n : ℕ) {q : Part} where
   pub packet-short : partAs q ≡ partOf (tcpSource limits p) n → ShortPart p q
   unfolding tcpSource
   packet-short e codec start end elements is =
       let i = part-source (tcpSource limits p) n e codec start end elements is in
       let j = onAccepted-accepted (readPacket limits p) _ (i .1) in
-      omega (arith, few, packet-most limits p (j .1) b)
+      omega (arith, few .packets, packet-most limits p (j .1) b)
 
   pub datagram-short : partAs q ≡ partOf (udpSource limits p) n → ShortPart p q
   unfolding udpSource
   datagram-short e codec start end elements is =
       let i = part-source (udpSource limits p) n e codec start end elements is in
       let j = onAccepted-accepted (readDatagram limits p) _ (i .1) in
-      omega (arith, few, datagram-most limits p (j .1) b)
+      omega (arith, few .datagrams, datagram-most limits p (j .1) b)
 
 -- ---- all lines
 

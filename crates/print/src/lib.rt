@@ -10,7 +10,7 @@ ghost use Prim.Native.Nat.{_+_, _*_, _^_, _≤_, _<_};
 ghost use mathlib.Core.List.{_∷_};
 ghost use lib.ListN.{length};
 ghost use lib.Seq.{sets};
-ghost use Rattle.wire.specs.Limits.{baseLimits};
+ghost use Rattle.wire.specs.Limits.{limitsOf};
 ghost use Rattle.wire.specs.Numbers.{numberAt, digits};
 ghost use Rattle.wire.specs.Sequences.{joined};
 ghost use Rattle.wire.specs.Imei.{asciiDigit};
@@ -425,27 +425,27 @@ fn line_in(p: &[u8], part: Part, out: &mut [u8]) -> Written
 // ---- the calls
 
 // The line of a record of a TCP data packet.
-pub fn line_of_packet(p: &[u8], n: usize, out: &mut [u8]) -> Written
-    ensures answer { λ r. ⌜ writtenAs r ≡ writing (lineOfPacket baseLimits (now (p .entry)) n) (now (out .entry)) ⌝ }
-    ensures buffer { λ r. ⌜ now (out .exit) ≡ leaving (lineOfPacket baseLimits (now (p .entry)) n) (now (out .entry)) ⌝ }
+pub fn line_of_packet(family: usize, p: &[u8], n: usize, out: &mut [u8]) -> Written
+    ensures answer { λ r. ⌜ writtenAs r ≡ writing (lineOfPacket (limitsOf family) (now (p .entry)) n) (now (out .entry)) ⌝ }
+    ensures buffer { λ r. ⌜ now (out .exit) ≡ leaving (lineOfPacket (limitsOf family) (now (p .entry)) n) (now (out .entry)) ⌝ }
 {
-    line_in(p, lookup::packet_part(wire::BASE, p, n), out)
+    line_in(p, lookup::packet_part(family, p, n), out)
 }
 
 // The line of a record of a UDP datagram.
-pub fn line_of_datagram(p: &[u8], n: usize, out: &mut [u8]) -> Written
-    ensures answer { λ r. ⌜ writtenAs r ≡ writing (lineOfDatagram baseLimits (now (p .entry)) n) (now (out .entry)) ⌝ }
-    ensures buffer { λ r. ⌜ now (out .exit) ≡ leaving (lineOfDatagram baseLimits (now (p .entry)) n) (now (out .entry)) ⌝ }
+pub fn line_of_datagram(family: usize, p: &[u8], n: usize, out: &mut [u8]) -> Written
+    ensures answer { λ r. ⌜ writtenAs r ≡ writing (lineOfDatagram (limitsOf family) (now (p .entry)) n) (now (out .entry)) ⌝ }
+    ensures buffer { λ r. ⌜ now (out .exit) ≡ leaving (lineOfDatagram (limitsOf family) (now (p .entry)) n) (now (out .entry)) ⌝ }
 {
-    line_in(p, lookup::datagram_part(wire::BASE, p, n), out)
+    line_in(p, lookup::datagram_part(family, p, n), out)
 }
 
 // The lines of all records of a TCP data packet.
-pub fn lines_of_packet(p: &[u8], out: &mut [u8]) -> Written
-    ensures answer { λ r. ⌜ writtenAs r ≡ writing (linesOfPacket baseLimits (now (p .entry))) (now (out .entry)) ⌝ }
-    ensures buffer { λ r. ⌜ now (out .exit) ≡ leaving (linesOfPacket baseLimits (now (p .entry))) (now (out .entry)) ⌝ }
+pub fn lines_of_packet(family: usize, p: &[u8], out: &mut [u8]) -> Written
+    ensures answer { λ r. ⌜ writtenAs r ≡ writing (linesOfPacket (limitsOf family) (now (p .entry))) (now (out .entry)) ⌝ }
+    ensures buffer { λ r. ⌜ now (out .exit) ≡ leaving (linesOfPacket (limitsOf family) (now (p .entry))) (now (out .entry)) ⌝ }
 {
-    match packet::judge_packet(wire::BASE, p, 0) {
+    match packet::judge_packet(family, p, 0) {
         DataWalk::Refused(r) => Written::Refused(r),
         DataWalk::Taken {
             codec: _,
@@ -459,11 +459,11 @@ pub fn lines_of_packet(p: &[u8], out: &mut [u8]) -> Written
 }
 
 // The lines of all records of a UDP datagram.
-pub fn lines_of_datagram(p: &[u8], out: &mut [u8]) -> Written
-    ensures answer { λ r. ⌜ writtenAs r ≡ writing (linesOfDatagram baseLimits (now (p .entry))) (now (out .entry)) ⌝ }
-    ensures buffer { λ r. ⌜ now (out .exit) ≡ leaving (linesOfDatagram baseLimits (now (p .entry))) (now (out .entry)) ⌝ }
+pub fn lines_of_datagram(family: usize, p: &[u8], out: &mut [u8]) -> Written
+    ensures answer { λ r. ⌜ writtenAs r ≡ writing (linesOfDatagram (limitsOf family) (now (p .entry))) (now (out .entry)) ⌝ }
+    ensures buffer { λ r. ⌜ now (out .exit) ≡ leaving (linesOfDatagram (limitsOf family) (now (p .entry))) (now (out .entry)) ⌝ }
 {
-    match datagram::judge_datagram(wire::BASE, p, 0) {
+    match datagram::judge_datagram(family, p, 0) {
         DataWalk::Refused(r) => Written::Refused(r),
         DataWalk::Taken {
             codec: _,

@@ -10,7 +10,7 @@ use lib.Seq.{sets, length-sets, take-at, drop-cons}
 use lib.Dec.{leb, eqb}
 use borrow.Author.Tests.{le-leb, lt-leb, leb-true, eq-eqb, ne-eqb}
 use Rattle.wire.specs.declared.Limits.{Limits}
-use Rattle.wire.specs.Limits.{baseLimits}
+use Rattle.wire.specs.Limits.{largestOfAll}
 use Rattle.wire.specs.declared.Refusal.{Refusal}
 use Rattle.wire.specs.Numbers.{Bytes, pick}
 use Rattle.wire.specs.Sequences.{joined}
@@ -31,7 +31,7 @@ use Rattle.packet.specs.DataPackets.{packetBytes, readPacket}
 use Rattle.packet.proofs.PacketLaws.{packet-exact}
 use Rattle.tlv.specs.Form.{form}
 use Rattle.tlv.specs.Decoding.{decoded}
-use Rattle.tlv.specs.PacketOf.{same, or17, readForm, packetOfForm}
+use Rattle.tlv.specs.PacketOf.{same, or17, readForm, packetWithin, packetOfForm}
 use Rattle.tlv.proofs.DecodedBytes.{bytes-field, bytes-decoded}
 use Rattle.tlv.proofs.FormLaws.{form-decoded}
 use Rattle.tlv.proofs.PacketOfLaws.{form-exact, form-refusal}
@@ -89,20 +89,20 @@ module _ (limits : Limits) (room : Roomy limits) (f : List ℕ) where
         let is = ap dataBytes again in
         (ap (readData (limits .longest)) is ∙ data-complete (limits .longest) a (k .packet .rules), k .form, omega (arith, ap length is, k .packet .frame .most))
 
-    refused-form : ((a : AvlData) → readForm limits f ≡ accepted a → ⊥) → packetOfForm limits f ≡ refused (refusal 17)
-    unfolding packetOfForm
+    refused-form : ((a : AvlData) → readForm limits f ≡ accepted a → ⊥) → packetWithin limits f ≡ refused (refusal 17)
+    unfolding packetWithin
     refused-form h = none (readForm limits f) (form-refusal limits f) h
 
-    pub long-refused : 4 * baseLimits .largest < length f → packetOfForm limits f ≡ refused (refusal 17)
+    pub long-refused : 4 * largestOfAll < length f → packetWithin limits f ≡ refused (refusal 17)
     long-refused h =
         refused-form (λ a e.
         let k = reads a e in
         omega (arith, h, form-size (limits .longest) field a (bytes-field f b) (data-long (decoded f)) (k .0), ap length (k .1), k .2, room .packets))
 
-    pub over-refused : baseLimits .largest < length field + 12 → packetOfForm limits f ≡ refused (refusal 17)
+    pub over-refused : largestOfAll < length field + 12 → packetWithin limits f ≡ refused (refusal 17)
     over-refused h = refused-form (λ a e. omega (arith, h, reads a e .2, room .packets))
 
-    other-refused : hasForm (formWithin limits field) f ≡ false → packetOfForm limits f ≡ refused (refusal 17)
+    other-refused : hasForm (formWithin limits field) f ≡ false → packetWithin limits f ≡ refused (refusal 17)
     unfolding formOfField hasForm readForm
     other-refused h =
         refused-form (λ a e.
@@ -116,8 +116,8 @@ module _ (limits : Limits) (room : Roomy limits) (f : List ℕ) where
         let z : _≡_ {A = ℕ} 0 1 = cc in
         omega arith)
 
-    found : hasForm (formWithin limits field) f ≡ true → packetOfForm limits f ≡ accepted (framed field)
-    unfolding packetOfForm packetBytes formOfField formWithin readForm or17
+    found : hasForm (formWithin limits field) f ≡ true → packetWithin limits f ≡ accepted (framed field)
+    unfolding packetWithin packetBytes formOfField formWithin readForm or17
     found h =
         let g = hasForm-true (formWithin limits field) f h in
         let c = check-accepted (leb (length field + 12) (limits .largest)) 17 _ (g .1) in
@@ -146,10 +146,10 @@ module _ (limits : Limits) (room : Roomy limits) (f : List ℕ) where
       seen : {t : Bool} → r ≡ t → hasForm (formWithin limits field) f ≡ t
       seen k = sym (ap (λ (x : List ℕ). hasForm (formWithin limits x) f) front) ∙ sym told ∙ k
 
-      pub part-found : r ≡ true → packetOfForm limits f ≡ accepted (framed part)
+      pub part-found : r ≡ true → packetWithin limits f ≡ accepted (framed part)
       part-found k = found b (seen k) ∙ ap (λ (x : List ℕ). accepted (framed x)) (sym front)
 
-      pub part-other : r ≡ false → packetOfForm limits f ≡ refused (refusal 17)
+      pub part-other : r ≡ false → packetWithin limits f ≡ refused (refusal 17)
       part-other k = other-refused b (seen k)
 
 -- ---- bytes compared one by one
@@ -211,8 +211,17 @@ form-written result before after f {n} e k =
 
 -- ---- the answer
 
-pub answers-refused : {result : Answer (List ℕ)} {out : List ℕ} {r : Written} → result ≡ refused (refusal 17) → r ≡ Written.Refused (refusal 17) → Answers result out out r
+pub answers-refused : {result : Answer (List ℕ)} {out : List ℕ} {r : Written} {number : ℕ} → result ≡ refused (refusal number) → r ≡ Written.Refused (refusal number) → Answers result out out r
 answers-refused {result} {out} e k = subst (λ (x : Written). Answers result out out x) (sym k) (refused-whole e)
+
+-- 21 comes first
+pub known-form : (limits : Limits) (f : List ℕ) → 1 ≤ limits .largest → packetOfForm limits f ≡ packetWithin limits f
+unfolding packetOfForm
+known-form limits f h = check-passed _ 21 _ (le-leb 1 (limits .largest) h)
+
+pub unknown-form : (limits : Limits) (f : List ℕ) → limits .largest < 1 → packetOfForm limits f ≡ refused (refusal 21)
+unfolding packetOfForm
+unknown-form limits f h = check-failed _ 21 _ (lt-leb 1 (limits .largest) h)
 
 pub answers-found : {result : Answer (List ℕ)} {p after : List ℕ} (before : List ℕ) (r : Written) → result ≡ accepted p → Answers (accepted p) before after r → Answers result before after r
 answers-found {after = after} before r e k = subst (λ y. Answers y before after r) (sym e) k

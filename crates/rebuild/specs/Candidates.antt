@@ -5,14 +5,14 @@ use mathlib.Core.List.{List}
 use lib.ListN.{length}
 use lib.Dec.{leb}
 use Rattle.wire.specs.declared.Limits.{Limits}
-use Rattle.wire.specs.Limits.{baseLimits}
+use Rattle.wire.specs.Limits.{largestOfAll}
 use Rattle.wire.specs.Answers.{Answer, accepted, refused, check}
 use Rattle.form.specs.Moves.{formOfField}
 use Rattle.tlv.specs.PacketOf.{same}
 
 -- the arrays are long enough, and an entry's length can tell a value's
 pub record Roomy (limits : Limits) : Type 0 where
-  pub packets : limits .largest ≤ baseLimits .largest
+  pub packets : limits .largest ≤ largestOfAll
   pub records : limits .longest < 256 ^ 2
 
 unfoldable pub formWithin : Limits → List ℕ → Answer (List ℕ)

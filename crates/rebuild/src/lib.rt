@@ -18,9 +18,9 @@ ghost use Rattle.avl.specs.DataField.{dataBytes};
 ghost use Rattle.frame.specs.Frame.{framed};
 ghost use Rattle.walk.specs.Walks.{Narrow};
 ghost use Rattle.tlv.specs.Decoding.{entryElement, run, behind, fixedOf, groupsOf, recordsOf, decoded};
-ghost use Rattle.tlv.specs.PacketOf.{same, packetOfForm};
+ghost use Rattle.tlv.specs.PacketOf.{same, packetWithin, packetOfForm};
 ghost use Rattle.rebuild.specs.Candidates.{Roomy, formWithin, hasForm};
-ghost use Rattle.wire.specs.Limits.{baseLimits};
+ghost use Rattle.wire.specs.Limits.{limitsOf};
 ghost use Rattle.store.specs.Stores.{Stored};
 ghost use Rattle.store.specs.Entries.{nextAt, entryAt, entriesAt};
 ghost use Rattle.rebuild.specs.FormPlaces.{recordAt, behindAll, Goes, RecordFrom};
@@ -282,8 +282,8 @@ fn put_packet(d: &[u8], out: &mut [u8]) -> Written
 fn long_packet(limits: Limits, f: &[u8], out: &mut [u8]) -> Written
     requires { ⌜ Roomy limits ⌝ }
     requires { ⌜ length (now f) ≤ 65536 ⌝ }
-    ensures answer { λ r. ⌜ writtenAs r ≡ writing (packetOfForm limits (now (f .entry))) (now (out .entry)) ⌝ }
-    ensures buffer { λ r. ⌜ now (out .exit) ≡ leaving (packetOfForm limits (now (f .entry))) (now (out .entry)) ⌝ }
+    ensures answer { λ r. ⌜ writtenAs r ≡ writing (packetWithin limits (now (f .entry))) (now (out .entry)) ⌝ }
+    ensures buffer { λ r. ⌜ now (out .exit) ≡ leaving (packetWithin limits (now (f .entry))) (now (out .entry)) ⌝ }
 {
     let mut d = [0u8; FIELD];
     let n = decode_form(f, &mut d);
@@ -301,8 +301,8 @@ fn long_packet(limits: Limits, f: &[u8], out: &mut [u8]) -> Written
 fn short_packet(limits: Limits, f: &[u8], out: &mut [u8]) -> Written
     requires { ⌜ Roomy limits ⌝ }
     requires { ⌜ length (now f) ≤ 65536 ⌝ }
-    ensures answer { λ r. ⌜ writtenAs r ≡ writing (packetOfForm limits (now (f .entry))) (now (out .entry)) ⌝ }
-    ensures buffer { λ r. ⌜ now (out .exit) ≡ leaving (packetOfForm limits (now (f .entry))) (now (out .entry)) ⌝ }
+    ensures answer { λ r. ⌜ writtenAs r ≡ writing (packetWithin limits (now (f .entry))) (now (out .entry)) ⌝ }
+    ensures buffer { λ r. ⌜ now (out .exit) ≡ leaving (packetWithin limits (now (f .entry))) (now (out .entry)) ⌝ }
 {
     let mut d = [0u8; 64];
     let n = decode_form(f, &mut d);
@@ -317,15 +317,19 @@ fn short_packet(limits: Limits, f: &[u8], out: &mut [u8]) -> Written
 }
 
 // The TCP data packet of a form; 17 where no acceptable packet has it.
-pub fn packet_of_form(f: &[u8], out: &mut [u8]) -> Written
-    ensures answer { λ r. ⌜ writtenAs r ≡ writing (packetOfForm baseLimits (now (f .entry))) (now (out .entry)) ⌝ }
-    ensures buffer { λ r. ⌜ now (out .exit) ≡ leaving (packetOfForm baseLimits (now (f .entry))) (now (out .entry)) ⌝ }
+pub fn packet_of_form(family: usize, f: &[u8], out: &mut [u8]) -> Written
+    ensures answer { λ r. ⌜ writtenAs r ≡ writing (packetOfForm (limitsOf family) (now (f .entry))) (now (out .entry)) ⌝ }
+    ensures buffer { λ r. ⌜ now (out .exit) ≡ leaving (packetOfForm (limitsOf family) (now (f .entry))) (now (out .entry)) ⌝ }
 {
+    let limits = wire::limits_of(family);
+    if limits.largest < 1 {
+        return refused(21);
+    }
     if wire::LARGEST_FORM < f.len() {
         return refused(17);
     }
     if f.len() <= 96 {
-        return short_packet(wire::BASE, f, out);
+        return short_packet(limits, f, out);
     }
-    long_packet(wire::BASE, f, out)
+    long_packet(limits, f, out)
 }

@@ -6,9 +6,10 @@ use mathlib.Core.Logic.{_↔_}
 use mathlib.Core.Bool.{Bool, true, false}
 use mathlib.Core.List.{List, [], _∷_}
 use lib.Dec.{eqb}
-use borrow.Author.Tests.{eq-eqb, eqb-true}
+use borrow.Author.Tests.{le-leb, eq-eqb, eqb-true}
 use Rattle.wire.specs.declared.Refusal.{Refusal}
 use Rattle.wire.specs.declared.Limits.{Limits}
+use Rattle.wire.specs.Limits.{isKnown}
 use Rattle.wire.specs.Numbers.{Bytes}
 use Rattle.wire.specs.Answers.{Answer, accepted, refused, check, onAccepted, refusal}
 use Rattle.wire.proofs.Accepting.{both-true, pick-true, check-accepted, check-passed, onAccepted-accepted, onAccepted-passed}
@@ -17,7 +18,7 @@ use Rattle.packet.specs.DataPackets.{packetBytes, DataPacket, readPacket}
 use Rattle.packet.proofs.PacketLaws.{packet-exact, packet-complete}
 use Rattle.tlv.specs.Form.{form}
 use Rattle.tlv.specs.Decoding.{decoded}
-use Rattle.tlv.specs.PacketOf.{same, or17, readForm, formOfPacket, packetOfForm}
+use Rattle.tlv.specs.PacketOf.{same, or17, readForm, formOfPacket, packetWithin, packetOfForm}
 use Rattle.tlv.proofs.DecodedBytes.{bytes-decoded}
 use Rattle.tlv.proofs.FormLaws.{form-decoded}
 
@@ -93,12 +94,13 @@ form-unique longest other a b l m h k e = sym (form-decoded longest a l h) ∙ a
 -- packet to form to packet: the same bytes
 pub packet-again : (limits : Limits) (p f : List ℕ) → Bytes p → (limits .longest) < 256 ^ 2
     → formOfPacket limits p ≡ accepted f → packetOfForm limits f ≡ accepted p
-unfolding formOfPacket packetOfForm
+unfolding formOfPacket packetWithin packetOfForm
 packet-again limits p f h l e =
     let i = onAccepted-accepted (readPacket limits p) _ e in
     let k = packet-exact limits p (i .0) h .0 (i .1) in
     let own : form (i .0) ≡ f = cc in
-    onAccepted-passed (readForm limits f) _
+    check-passed _ 21 _ (le-leb 1 (limits .largest) (omega (arith, k .frame .most)))
+    ∙ onAccepted-passed (readForm limits f) _
     (form-complete limits f (i .0) l
     (record { packet = record { rules = k .rules; frame = k .frame; whole = refl }; form = sym own }))
     ∙ ap accepted (sym (k .whole))
@@ -106,9 +108,9 @@ packet-again limits p f h l e =
 -- form to packet to form: the same form
 pub form-again : (limits : Limits) (f p : List ℕ) → Bytes f
     → packetOfForm limits f ≡ accepted p → formOfPacket limits p ≡ accepted f
-unfolding formOfPacket packetOfForm
+unfolding formOfPacket packetWithin packetOfForm
 form-again limits f p h e =
-    let i = onAccepted-accepted (readForm limits f) _ e in
+    let i = onAccepted-accepted (readForm limits f) _ (check-accepted (isKnown (limits .largest)) 21 (packetWithin limits f) e .1) in
     let k = form-sound limits f (i .0) h (i .1) in
     let own : packetBytes (i .0) ≡ p = cc in
     onAccepted-passed (readPacket limits p) _

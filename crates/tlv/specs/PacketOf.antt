@@ -4,6 +4,7 @@ use mathlib.Core.Bool.{Bool, true, false}
 use mathlib.Core.List.{List, [], _∷_}
 use lib.Dec.{eqb}
 use Rattle.wire.specs.declared.Limits.{Limits}
+use Rattle.wire.specs.Limits.{isKnown}
 use Rattle.wire.specs.Numbers.{pick}
 use Rattle.wire.specs.Answers.{Answer, accepted, refused, check, onAccepted, refusal}
 use Rattle.avl.specs.DataField.{AvlData}
@@ -38,5 +39,9 @@ unfoldable pub readForm : Limits → List ℕ → Answer AvlData
 readForm limits f =
     onAccepted (or17 (readPacket limits (packetBytes (decoded f)))) (λ a. check (same (form a) f) 17 (accepted a))
 
+unfoldable pub packetWithin : Limits → List ℕ → Answer (List ℕ)
+packetWithin limits f = onAccepted (readForm limits f) (λ a. accepted (packetBytes a))
+
+-- 21 comes first
 unfoldable pub packetOfForm : Limits → List ℕ → Answer (List ℕ)
-packetOfForm limits f = onAccepted (readForm limits f) (λ a. accepted (packetBytes a))
+packetOfForm limits f = check (isKnown (limits .largest)) 21 (packetWithin limits f)

@@ -13,3 +13,4 @@ pub mod DigitLaws
 pub mod ImeiWord
 pub mod BufferLaws
 pub mod Storing
+pub mod LimitLaws

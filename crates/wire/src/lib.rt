@@ -4,22 +4,22 @@ ghost use Prim.Native.Nat.{_+_, _≤_, _<_};
 ghost use lib.ListN.{length};
 ghost use lib.Seq.{sets};
 ghost use Rattle.wire.specs.Numbers.{numberAt, littleAt, signed, valueFrom, be, le};
+ghost use Rattle.wire.specs.Limits.{limitsOf};
 ghost use Rattle.wire.specs.Reading.{numbered, _>>=_ as bind, pure, repeat};
 ghost use Rattle.wire.specs.Imei.{imeiOf, textDigit, readImei, pairUpTo, readPacked};
 
 // In a word that holds an IMEI: there is none. An IMEI is below it; what is above it is the place of the fault.
 pub const NO_IMEI: u64 = 1_000_000_000_000_000;
 
-// The most bytes of a packet or a datagram, and of a record.
+// The most bytes of a TCP packet, of a datagram, and of a record.
 pub struct Limits {
     pub largest: usize,
+    pub datagram: usize,
     pub longest: usize,
 }
 
-// Document 01's limits.
+// The most bytes that a packet or a datagram of any family has.
 pub const LARGEST: usize = 1280;
-
-pub const LONGEST: usize = 255;
 
 // A TLV form has at most four times the bytes of its packet.
 pub const LARGEST_FORM: usize = 4 * LARGEST;
@@ -27,10 +27,30 @@ pub const LARGEST_FORM: usize = 4 * LARGEST;
 // A table of contents has at most a word for every two bytes of its packet.
 pub const LARGEST_CONTENTS: usize = LARGEST / 2;
 
-pub const BASE: Limits = Limits {
-    largest: LARGEST,
-    longest: LONGEST,
-};
+// The limits of a family of unit; of one that is not known, none is above 0.
+pub fn limits_of(family: usize) -> Limits
+    ensures { λ r. ⌜ r ≡ limitsOf family ⌝ }
+{
+    if family == 1 {
+        return Limits {
+            largest: 512,
+            datagram: 512,
+            longest: 255,
+        };
+    }
+    if family == 2 {
+        return Limits {
+            largest: LARGEST,
+            datagram: LARGEST,
+            longest: LARGEST,
+        };
+    }
+    Limits {
+        largest: 0,
+        datagram: 0,
+        longest: 0,
+    }
+}
 
 // Why a walk stopped: the refusal's number, the record's index, and the offset at which the offending field starts.
 pub struct Fault {

@@ -4,7 +4,7 @@ use native.Mathlib.Omega.{arith}
 use mathlib.Core.Path.{_≡_, sym, ap, _∙_}
 use lib.ListN.{length, take, drop}
 use borrow.Author.Needs.{needs}
-use Rattle.wire.specs.Limits.{baseLimits}
+use Rattle.wire.specs.Limits.{limitsOf}
 use Rattle.wire.specs.Places.{behind}
 use Rattle.wire.specs.Answers.{accepted}
 use Rattle.wire.proofs.Widths.{getD-bytes}
@@ -14,11 +14,11 @@ use Rattle.command.proofs.command_text.Statement.{statement}
 use Rattle.command.proofs.command_text.Tie as tie
 
 text : (c : tie.After-struct-known) → let p = c .before .before .before .before .before .before .args .p .now in let f = c .before .before .f .given .0 .0 in
-    (d : Command) × (readCommand baseLimits p ≡ accepted d) × (take (f .size) (drop (f .offset) p) ≡ d .text) × (f .offset + f .size ≤ length p)
+    (d : Command) × (readCommand (limitsOf (c .before .before .before .before .before .before .args .family)) p ≡ accepted d) × (take (f .size) (drop (f .offset) p) ≡ d .text) × (f .offset + f .size ≤ length p)
 unfolding commandAs
 text c =
     let p = c .before .before .before .before .before .before .args .p .now in
-    text-stands baseLimits p _ (getD-bytes p (λ i. c .before .before .before .before .before .shared-slice-known .given i .fits)) (sym (c .before .before .before .before .read-command .ensures) ∙ ap commandAs (c .before .before .f .given .1))
+    text-stands (limitsOf (c .before .before .before .before .before .before .args .family)) p _ (getD-bytes p (λ i. c .before .before .before .before .before .shared-slice-known .given i .fits)) (sym (c .before .before .before .before .read-command .ensures) ∙ ap commandAs (c .before .before .f .given .1))
 
 read-command-requires : tie.Need-read-command-requires
 read-command-requires c κs = search needs

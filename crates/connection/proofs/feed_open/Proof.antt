@@ -27,7 +27,7 @@ part-settle-end : tie.Need-part-settle-end
 part-settle-end c = search needs
 
 settle-requires : tie.Need-settle-requires
-settle-requires c κs = let k = at-once-part (c .before .before .before .before .before .before .before .before .before .before .before .pre) (c .before .before .before .before .before .before .before .before .before .before .before .args .bytes .now) (lit≤ tt) (c .before .before .before .before .before .before .before .if1 .taken) (c .before .before .before .before .n .given .0 .0) (sym (c .before .before .before .before .before .before .needed .ensures) ∙ c .before .before .before .before .n .given .1) (c .before .before .if2 .taken) in (k .0, omega (arith, k .1, c .before .before .before .before .before .before .before .before .before .before .before .pre .fits))
+settle-requires c κs = at-once-part (c .before .before .before .before .before .before .before .before .before .before .before .pre) (c .before .before .before .before .before .before .before .before .before .before .before .args .bytes .now) (lit≤ tt) (c .before .before .before .before .before .before .before .if1 .taken) (c .before .before .before .before .n .given .0 .0) (sym (c .before .before .before .before .before .before .needed .ensures) ∙ c .before .before .before .before .n .given .1) (c .before .before .if2 .taken)
 
 same-length : tie.Need-same-length
 same-length c = search needs

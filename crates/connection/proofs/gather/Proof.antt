@@ -100,7 +100,7 @@ part-settle-end : tie.Need-part-settle-end
 part-settle-end c = omega (arith, whole-room (c .before .before .before .before .before .before .before .before .before .before .before .before .before .before .before .before .before .before .before .before .before .before .pre) (c .before .before .before .before .before .before .before .before .before .before .before .before .before .before .before .before .before .before .before .before .before .before .args .bytes .now) (lit≤ tt) (c .before .before .before .before .before .before .before .before .before .before .before .before .before .before .before .before .before .before .header-rest .result) (c .before .before .before .before .before .before .before .before .before .before .before .before .before .before .before .before .before .before .header-rest .ensures) (c .before .before .before .before .before .before .before .before .before .before .before .before .before .before .before .put-bytes .last .0) (c .before .before .before .before .before .before .before .before .before .before .before .before .before .before .before .put-bytes .ensures) (c .before .before .before .before .before .before .before .before .n .given .0 .0) (sym (c .before .before .before .before .before .before .before .before .before .before .needed .ensures) ∙ c .before .before .before .before .before .before .before .before .n .given .1) (c .before .before .before .before .before .before .if1 .left) (c .before .before .before .put-bytes3 .last .0) (c .before .before .before .put-bytes3 .ensures))
 
 settle-requires : tie.Need-settle-requires
-settle-requires c κs = let k = part-long (c .before .before .before .before .before .before .before .before .before .before .before .before .before .before .before .before .before .before .before .before .before .before .before .before .pre) (c .before .before .before .before .before .before .before .before .before .before .before .before .before .before .before .before .before .before .before .before .before .before .before .before .args .bytes .now) (lit≤ tt) (c .before .before .before .before .before .before .before .before .before .before .before .before .before .before .before .before .before .before .before .before .header-rest .result) (c .before .before .before .before .before .before .before .before .before .before .before .before .before .before .before .before .before .before .before .before .header-rest .ensures) (c .before .before .before .before .before .before .before .before .before .before .before .before .before .before .before .before .before .put-bytes .last .0) (c .before .before .before .before .before .before .before .before .before .before .before .before .before .before .before .before .before .put-bytes .ensures) (c .before .before .before .before .before .before .before .before .before .before .n .given .0 .0) (sym (c .before .before .before .before .before .before .before .before .before .before .before .before .needed .ensures) ∙ c .before .before .before .before .before .before .before .before .before .before .n .given .1) (c .before .before .before .before .before .before .before .before .if1 .left) (c .before .before .before .before .before .put-bytes3 .last .0) (c .before .before .before .before .before .put-bytes3 .ensures) in (k .0, omega (arith, k .1, c .before .before .before .before .before .before .before .before .before .before .before .before .before .before .before .before .before .before .before .before .before .before .before .before .pre .fits))
+settle-requires c κs = part-long (c .before .before .before .before .before .before .before .before .before .before .before .before .before .before .before .before .before .before .before .before .before .before .before .before .pre) (c .before .before .before .before .before .before .before .before .before .before .before .before .before .before .before .before .before .before .before .before .before .before .before .before .args .bytes .now) (lit≤ tt) (c .before .before .before .before .before .before .before .before .before .before .before .before .before .before .before .before .before .before .before .before .header-rest .result) (c .before .before .before .before .before .before .before .before .before .before .before .before .before .before .before .before .before .before .before .before .header-rest .ensures) (c .before .before .before .before .before .before .before .before .before .before .before .before .before .before .before .before .before .put-bytes .last .0) (c .before .before .before .before .before .before .before .before .before .before .before .before .before .before .before .before .before .put-bytes .ensures) (c .before .before .before .before .before .before .before .before .before .before .n .given .0 .0) (sym (c .before .before .before .before .before .before .before .before .before .before .before .before .needed .ensures) ∙ c .before .before .before .before .before .before .before .before .before .before .n .given .1) (c .before .before .before .before .before .before .before .before .if1 .left) (c .before .before .before .before .before .put-bytes3 .last .0) (c .before .before .before .before .before .put-bytes3 .ensures)
 
 clear-requires-2 : tie.Need-clear-requires-2
 clear-requires-2 c κs = whole-room (c .before .before .before .before .before .before .before .before .before .before .before .before .before .before .before .before .before .before .before .before .before .before .before .before .before .before .before .before .pre) (c .before .before .before .before .before .before .before .before .before .before .before .before .before .before .before .before .before .before .before .before .before .before .before .before .before .before .before .before .args .bytes .now) (lit≤ tt) (c .before .before .before .before .before .before .before .before .before .before .before .before .before .before .before .before .before .before .before .before .before .before .before .before .header-rest .result) (c .before .before .before .before .before .before .before .before .before .before .before .before .before .before .before .before .before .before .before .before .before .before .before .before .header-rest .ensures) (c .before .before .before .before .before .before .before .before .before .before .before .before .before .before .before .before .before .before .before .before .before .put-bytes .last .0) (c .before .before .before .before .before .before .before .before .before .before .before .before .before .before .before .before .before .before .before .before .before .put-bytes .ensures) (c .before .before .before .before .before .before .before .before .before .before .before .before .before .before .n .given .0 .0) (sym (c .before .before .before .before .before .before .before .before .before .before .before .before .before .before .before .before .needed .ensures) ∙ c .before .before .before .before .before .before .before .before .before .before .before .before .before .before .n .given .1) (c .before .before .before .before .before .before .before .before .before .before .before .before .if1 .left) (c .before .before .before .before .before .before .before .before .before .put-bytes3 .last .0) (c .before .before .before .before .before .before .before .before .before .put-bytes3 .ensures)

@@ -8,6 +8,9 @@ use Rattle.datagram.proofs.WalkLaws.{payload-part, payload-long, walk-r
 use Rattle.datagram.proofs.judge_datagram.Statement.{statement}
 use Rattle.datagram.proofs.judge_datagram.Tie as tie
 
+limits-of-requires : tie.Need-limits-of-requires
+limits-of-requires c κs = search needs
+
 read-header-requires : tie.Need-read-header-requires
 read-header-requires c κs = search needs
 
@@ -16,34 +19,35 @@ enum-known-r c = search needs
 
 returns : tie.Need-returns
 unfolding headerAs
-returns c = sym (walk-refused (c .before .before .before .before .before .args .limits) (c .before .before .before .before .before .args .p .now) (sym (c .before .before .before .read-header .ensures) ∙ ap (headerAs (c .before .before .before .before .before .args .p .now)) (c .before .r .given .1)) (c .before .before .before .before .before .args .want))
+returns c = rw (← (c .before .before .before .before .limits-of .ensures)) (sym (walk-refused (c .before .before .before .before .limits-of .result) (c .before .before .before .before .before .before .args .p .now) (sym (c .before .before .before .read-header .ensures) ∙ ap (headerAs (c .before .before .before .before .before .before .args .p .now)) (c .before .r .given .1)) (c .before .before .before .before .before .before .args .want)))
 
 enum-told : tie.Need-enum-told
 enum-told c = search needs
 
 sub-read-data : tie.Need-sub-read-data
 unfolding headerAs
-sub-read-data c = omega (arith, payload-long (c .before .before .before .before .args .limits .largest) (c .before .before .before .before .args .p .now) (sym (c .before .before .read-header .ensures) ∙ ap (headerAs (c .before .before .before .before .args .p .now)) (c .enum-told .given .1)) .0)
+sub-read-data c = omega (arith, payload-long (c .before .before .before .limits-of .result .datagram) (c .before .before .before .before .before .args .p .now) (sym (c .before .before .read-header .ensures) ∙ ap (headerAs (c .before .before .before .before .before .args .p .now)) (c .enum-told .given .1)) .0)
 
 part-read-data-start : tie.Need-part-read-data-start
 unfolding headerAs
-part-read-data-start c = let long = payload-long (c .before .before .before .before .args .limits .largest) (c .before .before .before .before .args .p .now) (sym (c .before .before .read-header .ensures) ∙ ap (headerAs (c .before .before .before .before .args .p .now)) (c .enum-told .given .1)) .0 in search needs
+part-read-data-start c = let long = payload-long (c .before .before .before .limits-of .result .datagram) (c .before .before .before .before .before .args .p .now) (sym (c .before .before .read-header .ensures) ∙ ap (headerAs (c .before .before .before .before .before .args .p .now)) (c .enum-told .given .1)) .0 in search needs
 
 part-read-data-end : tie.Need-part-read-data-end
 part-read-data-end c = search needs
 
 read-data-requires : tie.Need-read-data-requires
 unfolding headerAs
-read-data-requires c κs = payload-long (c .before .before .before .before .before .args .limits .largest) (c .before .before .before .before .before .args .p .now) (sym (c .before .before .before .read-header .ensures) ∙ ap (headerAs (c .before .before .before .before .before .args .p .now)) (c .before .enum-told .given .1)) .1
+read-data-requires c κs = payload-long (c .before .before .before .before .limits-of .result .datagram) (c .before .before .before .before .before .before .args .p .now) (sym (c .before .before .before .read-header .ensures) ∙ ap (headerAs (c .before .before .before .before .before .before .args .p .now)) (c .before .enum-told .given .1)) .1
 
 returns-2 : tie.Need-returns-2
 unfolding headerAs
-returns-2 c = c .read-data .ensures ∙ ap (λ l. dataWalk (c .before .before .before .before .before .before .args .want) (readData (c .before .before .before .before .before .before .args .limits .longest) l)) (payload-part (c .before .before .before .before .before .before .args .p .now)) ∙ walk-on (c .before .before .before .before .before .before .args .limits) (c .before .before .before .before .before .before .args .p .now) (sym (c .before .before .before .before .read-header .ensures) ∙ ap (headerAs (c .before .before .before .before .before .before .args .p .now)) (c .before .before .enum-told .given .1)) (c .before .before .before .before .before .before .args .want)
+returns-2 c = rw (← (c .before .before .before .before .before .limits-of .ensures)) (c .read-data .ensures ∙ ap (λ l. dataWalk (c .before .before .before .before .before .before .before .args .want) (readData (c .before .before .before .before .before .limits-of .result .longest) l)) (payload-part (c .before .before .before .before .before .before .before .args .p .now)) ∙ walk-on (c .before .before .before .before .before .limits-of .result) (c .before .before .before .before .before .before .before .args .p .now) (sym (c .before .before .before .before .read-header .ensures) ∙ ap (headerAs (c .before .before .before .before .before .before .before .args .p .now)) (c .before .before .enum-told .given .1)) (c .before .before .before .before .before .before .before .args .want))
 
 pub judge-datagram-spec : {M : Type 1} → statement M
 judge-datagram-spec =
     tie.close
     (tie.spec
+    limits-of-requires
     read-header-requires
     enum-known-r
     returns

@@ -1,4 +1,4 @@
-use Rattle.datagram.proofs.WalkLaws.{header-short, header-large, header-length, header-imei, header-is}
+use Rattle.datagram.proofs.WalkLaws.{header-unknown, header-short, header-large, header-length, header-imei, header-is}
 use Rattle.datagram.specs.Datagrams.{headerAs}
 use Rattle.wire.proofs.ImeiWord.{word-imei, word-none}
 use mathlib.Core.Path.{sym, ap, _∙_}
@@ -12,14 +12,21 @@ refused-requires c κs = search needs
 
 returns : tie.Need-returns
 unfolding headerAs
-returns c = ap (headerAs (c .before .before .before .args .p .now)) (c .refused .ensures) ∙ sym (header-short (c .before .before .before .args .largest) (c .before .before .before .args .p .now) (c .before .if1 .taken))
+returns c = ap (headerAs (c .before .before .before .args .p .now)) (c .refused .ensures) ∙ sym (header-unknown (c .before .before .before .args .largest) (c .before .before .before .args .p .now) (c .before .if1 .taken))
 
 refused-requires-2 : tie.Need-refused-requires-2
 refused-requires-2 c κs = search needs
 
 returns-2 : tie.Need-returns-2
 unfolding headerAs
-returns-2 c = ap (headerAs (c .before .before .before .before .args .p .now)) (c .refused2 .ensures) ∙ sym (header-large (c .before .before .before .before .args .largest) (c .before .before .before .before .args .p .now) (c .before .before .if1 .left) (c .before .if2 .taken))
+returns-2 c = ap (headerAs (c .before .before .before .before .args .p .now)) (c .refused2 .ensures) ∙ sym (header-short (c .before .before .before .before .args .largest) (c .before .before .before .before .args .p .now) (c .before .before .if1 .left) (c .before .if2 .taken))
+
+refused-requires-3 : tie.Need-refused-requires-3
+refused-requires-3 c κs = search needs
+
+returns-3 : tie.Need-returns-3
+unfolding headerAs
+returns-3 c = ap (headerAs (c .before .before .before .before .before .args .p .now)) (c .refused3 .ensures) ∙ sym (header-large (c .before .before .before .before .before .args .largest) (c .before .before .before .before .before .args .p .now) (c .before .before .before .if1 .left) (c .before .before .if2 .left) (c .before .if3 .taken))
 
 be16-requires : tie.Need-be16-requires
 be16-requires c κs = search needs
@@ -27,29 +34,29 @@ be16-requires c κs = search needs
 cast-size : tie.Need-cast-size
 cast-size c = search needs
 
-add-if3 : tie.Need-add-if3
-add-if3 c = search needs
-
-refused-requires-3 : tie.Need-refused-requires-3
-refused-requires-3 c κs = search needs
-
-returns-3 : tie.Need-returns-3
-unfolding headerAs
-returns-3 c = ap (headerAs (c .before .before .before .before .before .before .args .p .now)) (c .refused3 .ensures) ∙ sym (header-length (c .before .before .before .before .before .before .args .largest) (c .before .before .before .before .before .before .args .p .now) (c .before .before .before .before .if1 .left) (c .before .before .before .if2 .left) (λ e. c .before .if3 .taken (e ∙ ap (λ (n : ℕ). n + 2) (sym (c .before .before .be16 .ensures)))))
-
-read-imei-requires : tie.Need-read-imei-requires
-read-imei-requires c κs = search needs
-
-returns-4 : tie.Need-returns-4
-unfolding headerAs
-returns-4 c = sym (header-is (c .before .before .before .before .before .before .before .args .largest) (c .before .before .before .before .before .before .before .args .p .now) (c .before .before .before .before .before .if1 .left) (c .before .before .before .before .if2 .left) (c .before .before .if3 .left ∙ ap (λ (n : ℕ). n + 2) (c .before .before .before .be16 .ensures)) (sym (c .before .read-imei .ensures) ∙ word-imei _ _ _ (c .if4 .taken)))
+add-if4 : tie.Need-add-if4
+add-if4 c = search needs
 
 refused-requires-4 : tie.Need-refused-requires-4
 refused-requires-4 c κs = search needs
 
+returns-4 : tie.Need-returns-4
+unfolding headerAs
+returns-4 c = ap (headerAs (c .before .before .before .before .before .before .before .args .p .now)) (c .refused4 .ensures) ∙ sym (header-length (c .before .before .before .before .before .before .before .args .largest) (c .before .before .before .before .before .before .before .args .p .now) (c .before .before .before .before .before .if1 .left) (c .before .before .before .before .if2 .left) (c .before .before .before .if3 .left) (λ e. c .before .if4 .taken (e ∙ ap (λ (n : ℕ). n + 2) (sym (c .before .before .be16 .ensures)))))
+
+read-imei-requires : tie.Need-read-imei-requires
+read-imei-requires c κs = search needs
+
 returns-5 : tie.Need-returns-5
 unfolding headerAs
-returns-5 c = ap (headerAs (c .before .before .before .before .before .before .before .before .args .p .now)) (c .refused4 .ensures) ∙ sym (header-imei (c .before .before .before .before .before .before .before .before .args .largest) (c .before .before .before .before .before .before .before .before .args .p .now) (c .before .before .before .before .before .before .if1 .left) (c .before .before .before .before .before .if2 .left) (c .before .before .before .if3 .left ∙ ap (λ (n : ℕ). n + 2) (c .before .before .before .before .be16 .ensures)) (sym (c .before .before .read-imei .ensures) ∙ word-none _ _ _ (c .before .if4 .left)))
+returns-5 c = sym (header-is (c .before .before .before .before .before .before .before .before .args .largest) (c .before .before .before .before .before .before .before .before .args .p .now) (c .before .before .before .before .before .before .if1 .left) (c .before .before .before .before .before .if2 .left) (c .before .before .before .before .if3 .left) (c .before .before .if4 .left ∙ ap (λ (n : ℕ). n + 2) (c .before .before .before .be16 .ensures)) (sym (c .before .read-imei .ensures) ∙ word-imei _ _ _ (c .if5 .taken)))
+
+refused-requires-5 : tie.Need-refused-requires-5
+refused-requires-5 c κs = search needs
+
+returns-6 : tie.Need-returns-6
+unfolding headerAs
+returns-6 c = ap (headerAs (c .before .before .before .before .before .before .before .before .before .args .p .now)) (c .refused5 .ensures) ∙ sym (header-imei (c .before .before .before .before .before .before .before .before .before .args .largest) (c .before .before .before .before .before .before .before .before .before .args .p .now) (c .before .before .before .before .before .before .before .if1 .left) (c .before .before .before .before .before .before .if2 .left) (c .before .before .before .before .before .if3 .left) (c .before .before .before .if4 .left ∙ ap (λ (n : ℕ). n + 2) (c .before .before .before .before .be16 .ensures)) (sym (c .before .before .read-imei .ensures) ∙ word-none _ _ _ (c .before .if5 .left)))
 
 pub read-header-spec : {M : Type 1} → statement M
 read-header-spec =
@@ -59,12 +66,14 @@ read-header-spec =
     returns
     refused-requires-2
     returns-2
-    be16-requires
-    cast-size
-    add-if3
     refused-requires-3
     returns-3
-    read-imei-requires
-    returns-4
+    be16-requires
+    cast-size
+    add-if4
     refused-requires-4
-    returns-5)
+    returns-4
+    read-imei-requires
+    returns-5
+    refused-requires-5
+    returns-6)

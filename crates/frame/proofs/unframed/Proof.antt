@@ -4,7 +4,7 @@ use Rattle.frame.specs.Frame.{unframe, framing}
 use Rattle.frame.specs.declared.Framed.the-variants.{Field}
 use Rattle.checksum.specs.Crc.{crc}
 use Rattle.wire.specs.Answers.{check}
-use borrow.Author.Tests.{lt-leb, eq-eqb, ne-eqb}
+use borrow.Author.Tests.{le-leb, lt-leb, eq-eqb, ne-eqb}
 use lib.Seq.{length-take-le}
 use lib.ListN.{length-drop, take, drop}
 use mathlib.Core.Path.{_≡_, sym, ap, _∙_}
@@ -23,25 +23,29 @@ returns : tie.Need-returns
 unfolding unframe framing check
 returns c = simp (lt-leb _ _ (c .if1 .taken))
 
+returns-2 : tie.Need-returns-2
+unfolding unframe framing check
+returns-2 c = simp (le-leb _ _ (c .before .if1 .left), lt-leb _ _ (c .if2 .taken))
+
 header-requires : tie.Need-header-requires
 header-requires c κs = search needs
 
 enum-known-number : tie.Need-enum-known-number
 enum-known-number c = search needs
 
-returns-2 : tie.Need-returns-2
+returns-3 : tie.Need-returns-3
 unfolding framing
-returns-2 c = sym (ap framing (refused-header (c .before .before .before .before .before .before .args .largest) (c .before .before .before .before .before .before .args .p .now) _ (sym (c .before .before .before .header .ensures) ∙ c .before .number .given .1) (c .before .before .before .before .if1 .left)))
+returns-3 c = sym (ap framing (refused-header (c .before .before .before .before .before .before .before .args .largest) (c .before .before .before .before .before .before .before .args .p .now) _ (sym (c .before .before .before .header .ensures) ∙ c .before .number .given .1) (c .before .before .before .before .before .if1 .left) (c .before .before .before .before .if2 .left)))
 
 enum-known-n : tie.Need-enum-known-n
 enum-known-n c = search needs
 
-add-if2 : tie.Need-add-if2
-add-if2 c = omega (arith, header-field (c .before .before .before .before .before .before .args .largest) (c .before .before .before .before .before .before .args .p .now) (c .before .n .given .0 .0) (sym (c .before .before .before .header .ensures) ∙ c .before .n .given .1))
+add-if3 : tie.Need-add-if3
+add-if3 c = omega (arith, header-field (c .before .before .before .before .before .before .before .args .largest) (c .before .before .before .before .before .before .before .args .p .now) (c .before .n .given .0 .0) (sym (c .before .before .before .header .ensures) ∙ c .before .n .given .1))
 
-returns-3 : tie.Need-returns-3
+returns-4 : tie.Need-returns-4
 unfolding framing check
-returns-3 c = simp (behind-header (c .before .before .before .before .before .before .before .args .largest) (c .before .before .before .before .before .before .before .args .p .now) (c .before .before .n .given .0 .0) (sym (c .before .before .before .before .header .ensures) ∙ c .before .before .n .given .1) (c .before .before .before .before .before .if1 .left), ne-eqb _ _ (c .if2 .taken))
+returns-4 c = simp (behind-header (c .before .before .before .before .before .before .before .before .args .largest) (c .before .before .before .before .before .before .before .before .args .p .now) (c .before .before .n .given .0 .0) (sym (c .before .before .before .before .header .ensures) ∙ c .before .before .n .given .1) (c .before .before .before .before .before .before .if1 .left) (c .before .before .before .before .before .if2 .left), ne-eqb _ _ (c .if3 .taken))
 
 add-end : tie.Need-add-end
 add-end c = search needs
@@ -61,34 +65,35 @@ part-crc16-end c = search needs
 crc16-requires : tie.Need-crc16-requires
 crc16-requires c κs = search needs
 
-cast-if3 : tie.Need-cast-if3
-cast-if3 c = search needs
-
-returns-4 : tie.Need-returns-4
-unfolding framing check
-returns-4 c = let p = c .before .before .before .before .before .before .before .before .before .before .before .args .p .now in let n = c .before .before .before .before .before .before .n .given .0 .0 in simp (behind-header (c .before .before .before .before .before .before .before .before .before .before .before .args .largest) p n (sym (c .before .before .before .before .before .before .before .before .header .ensures) ∙ c .before .before .before .before .before .before .n .given .1) (c .before .before .before .before .before .before .before .before .before .if1 .left), eq-eqb _ _ (c .before .before .before .before .if2 .left), ne-eqb _ _ (λ e. c .if3 .taken (c .before .before .before .be32 .ensures ∙ e ∙ sym (c .before .crc16 .ensures ∙ lent n p))))
+cast-if4 : tie.Need-cast-if4
+cast-if4 c = search needs
 
 returns-5 : tie.Need-returns-5
 unfolding framing check
-returns-5 c = let p = c .before .before .before .before .before .before .before .before .before .before .before .args .p .now in let n = c .before .before .before .before .before .before .n .given .0 .0 in simp (behind-header (c .before .before .before .before .before .before .before .before .before .before .before .args .largest) p n (sym (c .before .before .before .before .before .before .before .before .header .ensures) ∙ c .before .before .before .before .before .before .n .given .1) (c .before .before .before .before .before .before .before .before .before .if1 .left), eq-eqb _ _ (c .before .before .before .before .if2 .left), eq-eqb _ _ (sym (c .before .before .before .be32 .ensures) ∙ c .if3 .left ∙ c .before .crc16 .ensures ∙ lent n p)) (ap Field (sym (length-take-le n (drop 8 p) (omega (arith, length-drop 8 p, c .before .before .before .before .if2 .left)))))
+returns-5 c = let p = c .before .before .before .before .before .before .before .before .before .before .before .before .args .p .now in let n = c .before .before .before .before .before .before .n .given .0 .0 in simp (behind-header (c .before .before .before .before .before .before .before .before .before .before .before .before .args .largest) p n (sym (c .before .before .before .before .before .before .before .before .header .ensures) ∙ c .before .before .before .before .before .before .n .given .1) (c .before .before .before .before .before .before .before .before .before .before .if1 .left) (c .before .before .before .before .before .before .before .before .before .if2 .left), eq-eqb _ _ (c .before .before .before .before .if3 .left), ne-eqb _ _ (λ e. c .if4 .taken (c .before .before .before .be32 .ensures ∙ e ∙ sym (c .before .crc16 .ensures ∙ lent n p))))
+
+returns-6 : tie.Need-returns-6
+unfolding framing check
+returns-6 c = let p = c .before .before .before .before .before .before .before .before .before .before .before .before .args .p .now in let n = c .before .before .before .before .before .before .n .given .0 .0 in simp (behind-header (c .before .before .before .before .before .before .before .before .before .before .before .before .args .largest) p n (sym (c .before .before .before .before .before .before .before .before .header .ensures) ∙ c .before .before .before .before .before .before .n .given .1) (c .before .before .before .before .before .before .before .before .before .before .if1 .left) (c .before .before .before .before .before .before .before .before .before .if2 .left), eq-eqb _ _ (c .before .before .before .before .if3 .left), eq-eqb _ _ (sym (c .before .before .before .be32 .ensures) ∙ c .if4 .left ∙ c .before .crc16 .ensures ∙ lent n p)) (ap Field (sym (length-take-le n (drop 8 p) (omega (arith, length-drop 8 p, c .before .before .before .before .if3 .left)))))
 
 pub unframed-spec : {M : Type 1} → statement M
 unframed-spec =
     tie.close
     (tie.spec
     returns
+    returns-2
     header-requires
     enum-known-number
-    returns-2
-    enum-known-n
-    add-if2
     returns-3
+    enum-known-n
+    add-if3
+    returns-4
     add-end
     be32-requires
     sub-crc16
     part-crc16-start
     part-crc16-end
     crc16-requires
-    cast-if3
-    returns-4
-    returns-5)
+    cast-if4
+    returns-5
+    returns-6)

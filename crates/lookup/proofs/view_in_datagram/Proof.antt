@@ -1,6 +1,6 @@
 use mathlib.Core.Path.{ap, _∙_}
 use Rattle.wire.specs.Places.{behind}
-use Rattle.wire.specs.Limits.{baseLimits}
+use Rattle.wire.specs.Limits.{limitsOf}
 use Rattle.wire.proofs.Widths.{getD-bytes}
 use Rattle.element.specs.Elements.{nth}
 use Rattle.lookup.specs.Lookups.{valueByNumber}
@@ -15,11 +15,11 @@ value-in-datagram-requires c κs = search needs
 
 view-of-requires : tie.Need-view-of-requires
 unfolding valueByNumber
-view-of-requires c κs = value-view (λ x. udp-stored baseLimits (c .before .before .args .p .now) x (getD-bytes (c .before .before .args .p .now) (λ k. c .before .shared-slice-known .given k .fits))) (λ x. c .before .before .args .n) (nth (c .before .before .args .k)) (nth-member (c .before .before .args .k)) _ (c .value-in-datagram .ensures) .0
+view-of-requires c κs = value-view (λ x. udp-stored (limitsOf (c .before .before .args .family)) (c .before .before .args .p .now) x (getD-bytes (c .before .before .args .p .now) (λ k. c .before .shared-slice-known .given k .fits))) (λ x. c .before .before .args .n) (nth (c .before .before .args .k)) (nth-member (c .before .before .args .k)) _ (c .value-in-datagram .ensures) .0
 
 returns : tie.Need-returns
 unfolding valueByNumber
-returns c = (c .view-of .ensures .0 ∙ value-view (λ x. udp-stored baseLimits (c .before .before .before .args .p .now) x (getD-bytes (c .before .before .before .args .p .now) (λ k. c .before .before .shared-slice-known .given k .fits))) (λ x. c .before .before .before .args .n) (nth (c .before .before .before .args .k)) (nth-member (c .before .before .before .args .k)) _ (c .before .value-in-datagram .ensures) .1, c .view-of .ensures .1 ∙ ap (behind (c .before .before .before .args .p .ptr)) (view-start _ _ (c .before .value-in-datagram .ensures)))
+returns c = (c .view-of .ensures .0 ∙ value-view (λ x. udp-stored (limitsOf (c .before .before .before .args .family)) (c .before .before .before .args .p .now) x (getD-bytes (c .before .before .before .args .p .now) (λ k. c .before .before .shared-slice-known .given k .fits))) (λ x. c .before .before .before .args .n) (nth (c .before .before .before .args .k)) (nth-member (c .before .before .before .args .k)) _ (c .before .value-in-datagram .ensures) .1, c .view-of .ensures .1 ∙ ap (behind (c .before .before .before .args .p .ptr)) (view-start _ _ (c .before .value-in-datagram .ensures)))
 
 pub view-in-datagram-spec : {M : Type 1} → statement M
 view-in-datagram-spec = tie.close (tie.spec value-in-datagram-requires view-of-requires returns)

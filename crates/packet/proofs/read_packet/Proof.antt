@@ -1,7 +1,7 @@
 use Rattle.packet.proofs.WalkLaws.{packet-fits, answer-taken, answer-refused}
 use Rattle.packet.specs.DataPackets.{readPacket, packetAs}
 use Rattle.walk.proofs.TakenLaws.{taken, not-taken}
-use Rattle.wire.specs.Limits.{baseLimits}
+use Rattle.wire.specs.Limits.{limitsOf}
 use Rattle.wire.proofs.Widths.{getD-bytes}
 use mathlib.Core.Path.{sym, _∙_}
 use native.Mathlib.Omega.{arith}
@@ -16,21 +16,21 @@ enum-known-codec : tie.Need-enum-known-codec
 enum-known-codec c = search needs
 
 cast-t8 : tie.Need-cast-t8
-cast-t8 c = omega (arith, packet-fits baseLimits (c .before .before .before .before .before .args .p .now) (getD-bytes (c .before .before .before .before .before .args .p .now) (λ k. c .before .before .before .before .shared-slice-known .given k .fits)) (taken 0 (readPacket baseLimits (c .before .before .before .before .before .args .p .now)) (sym (c .before .before .before .judge-packet .ensures) ∙ c .before .codec .given .1)))
+cast-t8 c = omega (arith, packet-fits (limitsOf (c .before .before .before .before .before .args .family)) (c .before .before .before .before .before .args .p .now) (getD-bytes (c .before .before .before .before .before .args .p .now) (λ k. c .before .before .before .before .shared-slice-known .given k .fits)) (taken 0 (readPacket (limitsOf (c .before .before .before .before .before .args .family)) (c .before .before .before .before .before .args .p .now)) (sym (c .before .before .before .judge-packet .ensures) ∙ c .before .codec .given .1)))
 
 cast-t9 : tie.Need-cast-t9
-cast-t9 c = omega (arith, packet-fits baseLimits (c .before .before .before .before .before .args .p .now) (getD-bytes (c .before .before .before .before .before .args .p .now) (λ k. c .before .before .before .before .shared-slice-known .given k .fits)) (taken 0 (readPacket baseLimits (c .before .before .before .before .before .args .p .now)) (sym (c .before .before .before .judge-packet .ensures) ∙ c .before .codec .given .1)))
+cast-t9 c = omega (arith, packet-fits (limitsOf (c .before .before .before .before .before .args .family)) (c .before .before .before .before .before .args .p .now) (getD-bytes (c .before .before .before .before .before .args .p .now) (λ k. c .before .before .before .before .shared-slice-known .given k .fits)) (taken 0 (readPacket (limitsOf (c .before .before .before .before .before .args .family)) (c .before .before .before .before .before .args .p .now)) (sym (c .before .before .before .judge-packet .ensures) ∙ c .before .codec .given .1)))
 
 enum-known-r : tie.Need-enum-known-r
 enum-known-r c = search needs
 
 returns : tie.Need-returns
 unfolding packetAs
-returns c = sym (answer-taken baseLimits (c .before .before .before .before .before .args .p .now) (taken 0 (readPacket baseLimits (c .before .before .before .before .before .args .p .now)) (sym (c .before .before .before .judge-packet .ensures) ∙ c .before .codec .given .1)))
+returns c = sym (answer-taken (limitsOf (c .before .before .before .before .before .args .family)) (c .before .before .before .before .before .args .p .now) (taken 0 (readPacket (limitsOf (c .before .before .before .before .before .args .family)) (c .before .before .before .before .before .args .p .now)) (sym (c .before .before .before .judge-packet .ensures) ∙ c .before .codec .given .1)))
 
 returns-2 : tie.Need-returns-2
 unfolding packetAs
-returns-2 c = sym (answer-refused baseLimits (c .before .before .before .before .before .args .p .now) (not-taken 0 (readPacket baseLimits (c .before .before .before .before .before .args .p .now)) (sym (c .before .before .before .judge-packet .ensures) ∙ c .before .r .given .1)))
+returns-2 c = sym (answer-refused (limitsOf (c .before .before .before .before .before .args .family)) (c .before .before .before .before .before .args .p .now) (not-taken 0 (readPacket (limitsOf (c .before .before .before .before .before .args .family)) (c .before .before .before .before .before .args .p .now)) (sym (c .before .before .before .judge-packet .ensures) ∙ c .before .r .given .1)))
 
 pub read-packet-spec : {M : Type 1} → statement M
 read-packet-spec =
