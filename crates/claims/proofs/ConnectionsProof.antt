@@ -1,4 +1,4 @@
--- The claims on connections, for every room and limits where the largest packet and a login fit.
+-- The claims on connections, for every room and limits of a family that is known, where the largest packet and a login fit.
 use Prim.Native.Nat.{ℕ, zero, suc, _-_, _^_, _≤_, _<_}
 use native.Mathlib.Omega.{arith}
 use mathlib.Core.Path.{_≡_, refl, sym, ap, ap₂, _∙_, subst}
@@ -8,9 +8,10 @@ use mathlib.Core.List.{List, [], _∷_, _++_, map, append-assoc}
 use lib.ListN.{length, take, drop, getD, length-drop, drop-of-length-le}
 use lib.Seq.{take-append-seam, take-all, drop-length}
 use lib.Dec.{eqb, leb, lit<, lit≤}
-use borrow.Author.Tests.{eq-eqb, eqb-true}
+use borrow.Author.Tests.{leb-true, eq-eqb, eqb-true}
 use Rattle.wire.specs.declared.Limits.{Limits}
-use Rattle.wire.specs.Limits.{baseLimits}
+use Rattle.wire.specs.Limits.{largestOfAll, limitsOf, isKnown}
+use Rattle.wire.proofs.LimitLaws.{limits-most}
 use Rattle.wire.specs.Numbers.{Bytes, digits, be, pick}
 use Rattle.wire.specs.Sequences.{joined, All}
 use Rattle.wire.specs.Answers.{Answer, accepted, refused, refusal, check, told, onAccepted}
@@ -19,7 +20,7 @@ use Rattle.wire.specs.Reading.{_>>=_, _>>_, here, number, span, andThen, requir
 use Rattle.wire.specs.Imei.{asciiDigit, imeiText, readImei}
 use Rattle.wire.proofs.Widths.{bytes-append, bytes-take, bytes-be, digits-small}
 use Rattle.wire.proofs.ImeiText.{length-imeiText}
-use Rattle.wire.proofs.Accepting.{both-true, onAccepted-passed, onAccepted-refused}
+use Rattle.wire.proofs.Accepting.{both-true, check-failed, onAccepted-passed, onAccepted-refused}
 use Rattle.avl.specs.DataField.{AvlData}
 use Rattle.packet.specs.DataPackets.{readPacket}
 use Rattle.packet.proofs.PacketLaws.{packet-exact}
@@ -32,15 +33,14 @@ use Rattle.stream.specs.Stream.{Phase, forLogin, forPacket, Item, login, packet
 use Rattle.stream.proofs.StreamLaws.{more-needed, still-more, feed-judged, taken-more}
 use Rattle.stream.proofs.FlowLaws.{Sound, HoldsBytes, leaves, none-held}
 use Rattle.stream.proofs.ItemLaws.{data-bytes, data-given, command-given}
-use Rattle.connection.specs.declared.Connection.{Connection}
-use Rattle.connection.specs.State.{zeros, padded, phaseNumber, kept, fresh, isZero, phaseOf, heldBy, opened, countOf, judgedAt, wanted}
+use Rattle.connection.specs.State.{Gathered, zeros, padded, phaseNumber, kept, fresh, isZero, phaseOf, heldBy, opened, countOf, judgedAt, wanted}
 use Rattle.connection.specs.Feeding.{Outcome, outcome, fed}
 use Rattle.connection.proofs.PaddedLaws.{are-zeros, zeros-are, length-padded}
 use Rattle.connection.proofs.OpenLaws.{held-length, open-is, open-or}
 use Rattle.connection.proofs.FeedLaws.{unopened, open-fed}
 use Rattle.connection.proofs.KeptLaws.{kept-open, kept-fed, open-kept, closed-shut}
 use Rattle.claims.specs.Demand3.{Accepted, isData, isCommand}
-use Rattle.claims.specs.Connections.{Reached, atFirst, byFeed, isClosed, isGiven, Run, ended, shut, goesOn, gives, together, Meets, FeedsKept}
+use Rattle.claims.specs.Connections.{Reached, atFirst, byFeed, isClosed, isGiven, Run, ended, shut, goesOn, gives, together, Meets, FeedsKept, ConnectionsKept}
 
 bytes-imei : (imei : ℕ) → Bytes (imeiText imei)
 unfolding imeiText
@@ -59,7 +59,7 @@ unfolding stream
 stream-closed limits [] = refl
 stream-closed limits (b ∷ s) = refl
 
-module _ (limits : Limits) (room : ℕ) (small : 17 ≤ room) (large : limits .largest ≤ room) where
+module _ (limits : Limits) (room : ℕ) (known : 1 ≤ limits .largest) (small : 17 ≤ room) (large : limits .largest ≤ room) where
   -- ---- a run is a stream
 
   kept-phase : (st : State) → kept room st .phase ≡ 2 → st ≡ closed
@@ -73,19 +73,19 @@ module _ (limits : Limits) (room : ℕ) (small : 17 ≤ room) (large : limits .l
   closed-phase = refl
 
   -- what a feed of a kept state gives
-  record Step (st : State) (s : List ℕ) (d : Connection) (used : ℕ) (told : Verdict) : Type 0 where
+  record Step (st : State) (s : List ℕ) (d : Gathered) (used : ℕ) (told : Verdict) : Type 0 where
     pub after : State
     pub is : d ≡ kept room after
     pub sound : Sound limits after
     pub flows : (later : List ℕ) → stream limits (s ++ later) st ≡ byVerdict told (stream limits later after) (λ i. stream limits (drop used s ++ later) after)
 
-  step : (p : Phase) (h s : List ℕ) {d : Connection} {used : ℕ} {told : Verdict} → verdict limits p h ≡ more
+  step : (p : Phase) (h s : List ℕ) {d : Gathered} {used : ℕ} {told : Verdict} → verdict limits p h ≡ more
       → fed limits room (kept room (waiting p h)) s ≡ record { state = d; used = used; told = told } → Step (waiting p h) s d used told
   unfolding outcome
   step p h s {d} {used} {told} e eq =
       let t = taken limits p h s in
       let k = leaves limits p s h e in
-      let same : outcome room t ≡ record { state = d; used = used; told = told } = sym (kept-fed limits room small large p h s e) ∙ eq in
+      let same : outcome room t ≡ record { state = d; used = used; told = told } = sym (kept-fed limits room known small large p h s e) ∙ eq in
       let count : t .used ≡ used = ap (λ (o : Outcome). o .used) same in
       let tells : t .told ≡ told = ap (λ (o : Outcome). o .told) same in
       record {
@@ -98,24 +98,24 @@ module _ (limits : Limits) (room : ℕ) (small : 17 ≤ room) (large : limits .l
       }
 
   -- of a state that is not closed
-  step-of : (st : State) {c d : Connection} (s : List ℕ) {used : ℕ} {told : Verdict} → Sound limits st → c ≡ kept room st → (c .phase ≡ 2 → ⊥)
+  step-of : (st : State) {c d : Gathered} (s : List ℕ) {used : ℕ} {told : Verdict} → Sound limits st → c ≡ kept room st → (c .phase ≡ 2 → ⊥)
       → fed limits room c s ≡ record { state = d; used = used; told = told } → Step st s d used told
-  step-of (waiting p h) s e q open-phase eq = step p h s e (ap (λ (x : Connection). fed limits room x s) (sym q) ∙ eq)
-  step-of closed s e q open-phase eq = absurd (open-phase (ap (λ (x : Connection). x .phase) q ∙ closed-phase))
+  step-of (waiting p h) s e q open-phase eq = step p h s e (ap (λ (x : Gathered). fed limits room x s) (sym q) ∙ eq)
+  step-of closed s e q open-phase eq = absurd (open-phase (ap (λ (x : Gathered). x .phase) q ∙ closed-phase))
 
   -- where more is needed it is not closed
-  more-open : (c d : Connection) (s : List ℕ) (used : ℕ) → fed limits room c s ≡ record { state = d; used = used; told = more } → c .phase ≡ 2 → ⊥
+  more-open : (c d : Gathered) (s : List ℕ) (used : ℕ) → fed limits room c s ≡ record { state = d; used = used; told = more } → c .phase ≡ 2 → ⊥
   more-open c d s used eq two =
-      let shut-fed = unopened limits room c s (closed-shut limits room small large c two) in
+      let shut-fed = unopened limits room c s (closed-shut limits room known small large c two) in
       let same : _≡_ {A = Verdict} (settled (refusing (refusal 19))) more = ap (λ (o : Outcome). o .told) (sym shut-fed ∙ eq) in
       let z : _≡_ {A = ℕ} 0 1 = cc same in omega (arith, z)
 
-  run-stream : {c e : Connection} {pieces : List (List ℕ)} {items : List Item} → Run limits room c pieces items e
+  run-stream : {c e : Gathered} {pieces : List (List ℕ)} {items : List Item} → Run limits room c pieces items e
       → (st : State) → Sound limits st → c ≡ kept room st → let whole = stream limits (joined (λ p. p) pieces) st in (items ≡ whole .items) × (e ≡ kept room (whole .state))
   unfolding stream byVerdict cons
   run-stream (ended c) st sound q = (refl, q)
   run-stream (shut c pieces two) st sound q =
-      let shut-state = kept-phase st (ap (λ (x : Connection). x .phase) (sym q) ∙ two) in
+      let shut-state = kept-phase st (ap (λ (x : Gathered). x .phase) (sym q) ∙ two) in
       let whole : stream limits (joined (λ p. p) pieces) st ≡ record { items = []; state = closed } = ap (stream limits (joined (λ p. p) pieces)) shut-state ∙ stream-closed limits (joined (λ p. p) pieces) in
       (ap (λ (w : Streamed). w .items) (sym whole), q ∙ ap (kept room) shut-state ∙ ap (λ (w : Streamed). kept room (w .state)) (sym whole))
   run-stream (goesOn c d e piece pieces items used eq rest) st sound q =
@@ -135,8 +135,8 @@ module _ (limits : Limits) (room : ℕ) (small : 17 ≤ room) (large : limits .l
 
   -- ---- every way of cutting has an outcome
 
-  abbrev Outcomes : Connection → List (List ℕ) → Type 0
-  Outcomes c pieces = (items : List Item) × (e : Connection) × Run limits room c pieces items e
+  abbrev Outcomes : Gathered → List (List ℕ) → Type 0
+  Outcomes c pieces = (items : List Item) × (e : Gathered) × Run limits room c pieces items e
 
   waiting-phase : (p : Phase) (h : List ℕ) → kept room (waiting p h) .phase ≡ 2 → ⊥
   unfolding kept phaseNumber
@@ -147,7 +147,7 @@ module _ (limits : Limits) (room : ℕ) (small : 17 ≤ room) (large : limits .l
       → fed limits room (kept room (waiting p held)) s ≡ record { state = kept room (taken limits p held s .state); used = taken limits p held s .used; told = v }
   unfolding outcome
   fed-told p held s sound e =
-      kept-fed limits room small large p held s sound ∙ ap (λ (v : Verdict). record { state = kept room (taken limits p held s .state); used = taken limits p held s .used; told = v }) e
+      kept-fed limits room known small large p held s sound ∙ ap (λ (v : Verdict). record { state = kept room (taken limits p held s .state); used = taken limits p held s .used; told = v }) e
 
   -- one feed of a piece; what is left of it behind an item is shorter
   one-feed : (pieces : List (List ℕ)) (st : State) (piece : List ℕ) → Sound limits st
@@ -186,7 +186,7 @@ module _ (limits : Limits) (room : ℕ) (small : 17 ≤ room) (large : limits .l
   login-waits = refl
 
   -- closed, as it is kept
-  closed-is : (c : Connection) → isClosed room c ≡ true → c ≡ kept room closed
+  closed-is : (c : Gathered) → isClosed room c ≡ true → c ≡ kept room closed
   unfolding isClosed kept padded
   closed-is c e =
       let sized = pick (eqb (length (c .held)) room) (isZero (c .held)) false in
@@ -200,36 +200,36 @@ module _ (limits : Limits) (room : ℕ) (small : 17 ≤ room) (large : limits .l
       let bytes : c .held ≡ zeros (room - 0) = are-zeros (c .held) (e₃ .1) ∙ ap (λ (n : ℕ). zeros n) left in
       λ i. record { held = bytes i; fill = none i; phase = two i }
 
-  given-kept : (c : Connection) → isGiven limits room c ≡ true → (st : State) × (c ≡ kept room st) × Sound limits st
+  given-kept : (c : Gathered) → isGiven limits room c ≡ true → (st : State) × (c ≡ kept room st) × Sound limits st
   unfolding isGiven isAccepted isClosed
   given-kept c e = go (opened limits room c) refl e
     where
       go : (r : Answer (List ℕ)) → opened limits room c ≡ r → pick (isAccepted r) true (isClosed room c) ≡ true → (st : State) × (c ≡ kept room st) × Sound limits st
-      go (accepted h) q e = let k = open-kept limits room small large c q in (waiting (phaseOf (c .phase)) h, k .0, k .1)
+      go (accepted h) q e = let k = open-kept limits room known small large c q in (waiting (phaseOf (c .phase)) h, k .0, k .1)
       go (refused r) q e = (closed, closed-is c e, tt)
 
   kept-given : (st : State) → Sound limits st → isGiven limits room (kept room st) ≡ true
   unfolding isGiven isAccepted isClosed kept padded
-  kept-given (waiting p h) sound = simp (kept-open limits room small large p h sound)
+  kept-given (waiting p h) sound = simp (kept-open limits room known small large p h sound)
   kept-given closed sound =
       simp (
-        closed-shut limits room small large (kept room closed) closed-phase,
+        closed-shut limits room known small large (kept room closed) closed-phase,
         eq-eqb (length (padded room [])) room (length-padded room [] (omega arith)),
         zeros-are (room - 0),
       )
 
-  reached-given : {c : Connection} → Reached limits room c → isGiven limits room c ≡ true
+  reached-given : {c : Gathered} → Reached limits room c → isGiven limits room c ≡ true
   unfolding fresh outcome
   reached-given atFirst = kept-given (waiting forLogin []) login-waits
   reached-given (byFeed c s r b) = go (given-kept c (reached-given r) .0) (given-kept c (reached-given r) .1) (given-kept c (reached-given r) .2)
     where
       go : (st : State) → c ≡ kept room st → Sound limits st → isGiven limits room (fed limits room c s .state) ≡ true
       go (waiting p h) q sound =
-          let same = ap (λ (x : Connection). fed limits room x s) q ∙ kept-fed limits room small large p h s sound in
+          let same = ap (λ (x : Gathered). fed limits room x s) q ∙ kept-fed limits room known small large p h s sound in
           ap (λ (o : Outcome). isGiven limits room (o .state)) same ∙ kept-given (taken limits p h s .state) (leaves limits p s h sound .sound)
       go closed q sound =
-          let two = ap (λ (x : Connection). x .phase) q ∙ closed-phase in
-          ap (λ (o : Outcome). isGiven limits room (o .state)) (unopened limits room c s (closed-shut limits room small large c two)) ∙ ap (isGiven limits room) q ∙ kept-given closed tt
+          let two = ap (λ (x : Gathered). x .phase) q ∙ closed-phase in
+          ap (λ (o : Outcome). isGiven limits room (o .state)) (unopened limits room c s (closed-shut limits room known small large c two)) ∙ ap (isGiven limits room) q ∙ kept-given closed tt
 
   -- ---- a login, then packets
 
@@ -279,7 +279,7 @@ module _ (limits : Limits) (room : ℕ) (small : 17 ≤ room) (large : limits .l
   feed-on : (p : Phase) (h s : List ℕ) {t : Taken} → verdict limits p h ≡ more → Bytes s → taken limits p h s ≡ t → Reached limits room (kept room (waiting p h)) → Reached limits room (kept room (t .state))
   unfolding outcome
   feed-on p h s sound b e r =
-      subst (Reached limits room) (ap (λ (o : Outcome). o .state) (kept-fed limits room small large p h s sound ∙ ap (outcome room) e)) (byFeed (kept room (waiting p h)) s r b)
+      subst (Reached limits room) (ap (λ (o : Outcome). o .state) (kept-fed limits room known small large p h s sound ∙ ap (outcome room) e)) (byFeed (kept room (waiting p h)) s r b)
 
   first : Reached limits room (kept room (waiting forLogin []))
   unfolding fresh
@@ -297,37 +297,37 @@ module _ (limits : Limits) (room : ℕ) (small : 17 ≤ room) (large : limits .l
       (feed-on forLogin [] (imeiText 0) login-waits (bytes-imei 0) (login-taken 0 (lit< tt)) first)
   kept-reached closed sound b = feed-on forLogin [] (zeros 17) login-waits (bytes-zeros 17) refused-first first
 
-  held-bytes : (c : Connection) (st : State) → Bytes (c .held) → c ≡ kept room st → HoldsBytes st
+  held-bytes : (c : Gathered) (st : State) → Bytes (c .held) → c ≡ kept room st → HoldsBytes st
   unfolding kept padded
   held-bytes c (waiting p h) b q =
-      let same : take (length h) (c .held) ≡ h = ap (λ (x : Connection). take (length h) (x .held)) q ∙ take-append-seam h (zeros (room - length h)) in
+      let same : take (length h) (c .held) ≡ h = ap (λ (x : Gathered). take (length h) (x .held)) q ∙ take-append-seam h (zeros (room - length h)) in
       subst Bytes same (bytes-take (length h) (c .held) b)
   held-bytes c closed b q = tt
 
-  given-reached : (c : Connection) → Bytes (c .held) → isGiven limits room c ≡ true → Reached limits room c
+  given-reached : (c : Gathered) → Bytes (c .held) → isGiven limits room c ≡ true → Reached limits room c
   given-reached c b e =
       let k = given-kept c e in
       subst (Reached limits room) (sym (k .1)) (kept-reached (k .0) (k .2) (held-bytes c (k .0) b (k .1)))
 
   -- ---- 19
 
-  open-given : (c : Connection) {h : List ℕ} → opened limits room c ≡ accepted h → isGiven limits room c ≡ true
+  open-given : (c : Gathered) {h : List ℕ} → opened limits room c ≡ accepted h → isGiven limits room c ≡ true
   unfolding isGiven isAccepted
   open-given c e = simp e
 
   -- an open connection is not left as it was with a refusal
-  open-not : (c : Connection) (s : List ℕ) {h : List ℕ} → opened limits room c ≡ accepted h → fed limits room c s ≡ record { state = c; used = 0; told = settled (refusing (refusal 19)) } → ⊥
+  open-not : (c : Gathered) (s : List ℕ) {h : List ℕ} → opened limits room c ≡ accepted h → fed limits room c s ≡ record { state = c; used = 0; told = settled (refusing (refusal 19)) } → ⊥
   unfolding outcome next
   open-not c s {h} e k =
       let p = phaseOf (c .phase) in
-      let is = open-kept limits room small large c e in
+      let is = open-kept limits room known small large c e in
       let same : outcome room (taken limits p h s) ≡ record { state = c; used = 0; told = settled (refusing (refusal 19)) } = sym (open-fed limits room c s e) ∙ k in
       let tells : taken limits p h s .told ≡ settled (refusing (refusal 19)) = ap (λ (o : Outcome). o .told) same in
       let left = leaves limits p s h (is .1) .forward (refusing (refusal 19)) tells .1 in
       let two : c .phase ≡ 2 = sym (ap (λ (o : Outcome). o .state .phase) same) ∙ ap (λ (st : State). kept room st .phase) left ∙ closed-phase in
       omega (arith, two, open-is limits room c e .0 .phase)
 
-  is-nineteen : (c : Connection) (s : List ℕ) → Bytes (c .held)
+  is-nineteen : (c : Gathered) (s : List ℕ) → Bytes (c .held)
       → (fed limits room c s ≡ record { state = c; used = 0; told = settled (refusing (refusal 19)) }) ↔ (Reached limits room c → c .phase ≡ 2)
   is-nineteen c s b = (
     λ k r.
@@ -340,8 +340,8 @@ module _ (limits : Limits) (room : ℕ) (small : 17 ≤ room) (large : limits .l
   )
     where
       by-state : (st : State) → c ≡ kept room st → Sound limits st → fed limits room c s ≡ record { state = c; used = 0; told = settled (refusing (refusal 19)) } → c .phase ≡ 2
-      by-state (waiting p h) q sound k = absurd (open-not c s (ap (opened limits room) q ∙ kept-open limits room small large p h sound) k)
-      by-state closed q sound k = ap (λ (x : Connection). x .phase) q ∙ closed-phase
+      by-state (waiting p h) q sound k = absurd (open-not c s (ap (opened limits room) q ∙ kept-open limits room known small large p h sound) k)
+      by-state closed q sound k = ap (λ (x : Gathered). x .phase) q ∙ closed-phase
 
   -- ---- what is given keeps the rules
 
@@ -406,7 +406,7 @@ module _ (limits : Limits) (room : ℕ) (small : 17 ≤ room) (large : limits .l
   all-meet (c ∷ s) (waiting p held) b h =
       byte-meets p held c s (bytes-append held (c ∷ []) h (b .0, tt)) (λ st k. all-meet s st (b .1) k)
 
-  given-back : (imei : ℕ) (ps pieces : List (List ℕ)) (items : List Item) (e : Connection) → imei < 10 ^ 15 → All (Accepted limits) ps
+  given-back : (imei : ℕ) (ps pieces : List (List ℕ)) (items : List Item) (e : Gathered) → imei < 10 ^ 15 → All (Accepted limits) ps
       → Run limits room (fresh room) pieces items e → joined (λ p. p) pieces ≡ imeiText imei ++ joined (λ p. p) ps
       → (items ≡ login imei ∷ map packet ps) × (e ≡ kept room (waiting forPacket []))
   unfolding fresh
@@ -415,16 +415,16 @@ module _ (limits : Limits) (room : ℕ) (small : 17 ≤ room) (large : limits .l
       let whole = ap (λ (l : List ℕ). stream limits l (waiting forLogin [])) same ∙ all-flow imei ps h k in
       (r .0 ∙ ap (λ (w : Streamed). w .items) whole, r .1 ∙ ap (λ (w : Streamed). kept room (w .state)) whole)
 
-  as-one : (pieces : List (List ℕ)) (items : List Item) (e : Connection) → Run limits room (fresh room) pieces items e
+  as-one : (pieces : List (List ℕ)) (items : List Item) (e : Gathered) → Run limits room (fresh room) pieces items e
       → let whole = stream limits (joined (λ p. p) pieces) (waiting forLogin []) in (items ≡ whole .items) × (e ≡ kept room (whole .state))
   unfolding fresh
   as-one pieces items e run = run-stream run (waiting forLogin []) login-waits refl
 
-  outcome-of : (pieces : List (List ℕ)) → (items : List Item) × (e : Connection) × Run limits room (fresh room) pieces items e
+  outcome-of : (pieces : List (List ℕ)) → (items : List Item) × (e : Gathered) × Run limits room (fresh room) pieces items e
   unfolding fresh
   outcome-of pieces = all-pieces pieces (waiting forLogin []) login-waits
 
-  wanted-least : (c : Connection) (s : List ℕ) → length s < wanted limits room c → fed limits room c s .told ≡ more
+  wanted-least : (c : Gathered) (s : List ℕ) → length s < wanted limits room c → fed limits room c s .told ≡ more
   unfolding wanted countOf judgedAt onAccepted outcome
   wanted-least c s h =
       open-or limits room c
@@ -456,6 +456,10 @@ module _ (limits : Limits) (room : ℕ) (small : 17 ≤ room) (large : limits .l
         givenBack = given-back;
       }
 
--- the base's 1,280 bytes
-pub base-feeds-kept : FeedsKept baseLimits 1280
-base-feeds-kept = feeds-kept baseLimits 1280 (lit≤ tt) (lit≤ tt)
+pub connections-kept : ConnectionsKept
+unfolding opened
+connections-kept =
+    record {
+      known = λ family e. feeds-kept (limitsOf family) largestOfAll (leb-true 1 (limitsOf family .largest) e) (lit≤ tt) (limits-most family .packets);
+      unknown = λ family c s e. unopened (limitsOf family) largestOfAll c s (check-failed (isKnown (limitsOf family .largest)) 19 _ e);
+    }

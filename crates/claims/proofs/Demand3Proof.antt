@@ -1,12 +1,12 @@
--- Demand 3 holds, for any limits whose records fit the TLV form's lengths, the base's 1,280 and 255 among them.
-use Prim.Native.Nat.{ℕ, _%_, _^_, _<_}
+-- Demand 3 holds across all families: every family's records fit the TLV form's lengths.
+use Prim.Native.Nat.{ℕ, _%_}
 use native.Mathlib.Omega.{arith}
 use mathlib.Core.Path.{_≡_, sym, ap, ap₂, _∙_, subst₂}
 use mathlib.Core.List.{List, [], _∷_}
 use lib.ListN.{length}
-use lib.Dec.{lit<}
 use Rattle.wire.specs.declared.Limits.{Limits}
-use Rattle.wire.specs.Limits.{baseLimits}
+use Rattle.wire.specs.Limits.{limitsOf}
+use Rattle.wire.proofs.LimitLaws.{limits-most}
 use Rattle.wire.specs.Sequences.{All}
 use Rattle.wire.proofs.Placed.{between-whole}
 use Rattle.checksum.specs.Bits.{differing}
@@ -21,7 +21,7 @@ use Rattle.command.specs.Commands.{Command, commandField, CommandPacket}
 use Rattle.command.proofs.CommandLaws.{layout-unique}
 use Rattle.tlv.specs.Form.{form}
 use Rattle.tlv.proofs.PacketOfLaws.{form-unique}
-use Rattle.claims.specs.Demand3.{Accepted, isData, isCommand, AgreeBut, NeverTakenForEachOther}
+use Rattle.claims.specs.Demand3.{Accepted, InSomeFamily, isData, isCommand, AgreeBut, NeverTakenForEachOther}
 
 module _ (limits : Limits) where
   framing : (d p : List ℕ) → FrameRules (limits .largest) d → p ≡ framed d → IsFrame p
@@ -33,17 +33,18 @@ module _ (limits : Limits) where
   is-frame p (isData a k) = framing (dataBytes a) p (k .frame) (k .whole)
   is-frame p (isCommand c k) = framing (commandField (k .row) c) p (k .frame) (k .whole)
 
-  all-frames : (ps : List (List ℕ)) → All (Accepted limits) ps → All IsFrame ps
-  all-frames [] h = tt
-  all-frames (p ∷ ps) h = (is-frame p (h .0), all-frames ps (h .1))
+all-frames : (ps : List (List ℕ)) → All InSomeFamily ps → All IsFrame ps
+all-frames [] h = tt
+all-frames (p ∷ ps) h = (is-frame (limitsOf (h .0 .0)) p (h .0 .1), all-frames ps (h .1))
 
-by-form : (limits : Limits) (p q : List ℕ) → (limits .longest) < 256 ^ 2 → (a b : AvlData) → DataPacket limits a p → DataPacket limits b q
-    → form a ≡ form b → p ≡ q
-by-form limits p q l a b f g e = f .whole ∙ ap packetBytes (form-unique (limits .longest) (limits .longest) a b l l (f .rules) (g .rules) e) ∙ sym (g .whole)
+by-form : (p q : List ℕ) (family other : ℕ) (a b : AvlData) → DataPacket (limitsOf family) a p → DataPacket (limitsOf other) b q → form a ≡ form b → p ≡ q
+by-form p q family other a b f g e =
+    let same = form-unique (limitsOf family .longest) (limitsOf other .longest) a b (omega (arith, limits-most family .records)) (omega (arith, limits-most other .records)) (f .rules) (g .rules) e in
+    f .whole ∙ ap packetBytes same ∙ sym (g .whole)
 
-by-fields : (limits : Limits) (p q : List ℕ) (c e : Command) → CommandPacket limits c p → CommandPacket limits e q
+by-fields : (p q : List ℕ) (family other : ℕ) (c e : Command) → CommandPacket (limitsOf family) c p → CommandPacket (limitsOf other) e q
     → c .codec ≡ e .codec → c .type ≡ e .type → c .imei ≡ e .imei → c .text ≡ e .text → p ≡ q
-by-fields limits p q c e f g codec type imei text =
+by-fields p q family other c e f g codec type imei text =
     let same : c ≡ e = λ i. record { codec = codec i; type = type i; imei = imei i; text = text i } in
     let row : f .row ≡ g .row = layout-unique (c .codec) (f .rules .layout) (rw (sym codec) at (g .rules .layout)) in
     f .whole ∙ ap₂ (λ (l : Layout) (x : Command). framed (commandField l x)) row same ∙ sym (g .whole)
@@ -65,18 +66,14 @@ not-nearby p q f g e l i h =
     (subst₂ (AgreeBut i) (the-field p f) (the-field q g) h)
     ∙ sym (the-field q g)
 
-pub demand-3 : (limits : Limits) → (limits .longest) < 256 ^ 2 → NeverTakenForEachOther limits
-demand-3 limits l p q ps qs h k hs ks =
-    let f = is-frame limits p h in
-    let g = is-frame limits q k in
+pub demand-3 : NeverTakenForEachOther
+demand-3 p q ps qs h k hs ks =
+    let f = is-frame (limitsOf (h .0)) p (h .1) in
+    let g = is-frame (limitsOf (k .0)) q (k .1) in
     record {
-      byForm = by-form limits p q l;
-      byFields = by-fields limits p q;
+      byForm = by-form p q;
+      byFields = by-fields p q;
       evenly = evenly p q f g;
       notNearby = not-nearby p q f g;
-      inOneWay = one-way ps qs (all-frames limits ps hs) (all-frames limits qs ks);
+      inOneWay = one-way ps qs (all-frames ps hs) (all-frames qs ks);
     }
-
--- the base's limits
-pub demand-3-base : NeverTakenForEachOther baseLimits
-demand-3-base = demand-3 baseLimits (lit< tt)

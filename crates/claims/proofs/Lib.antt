@@ -12,3 +12,6 @@ pub mod TotalsProof
 pub mod DriverTagsProof
 pub mod LinesProof
 pub mod BillingLinesProof
+pub mod NeverLaws
+pub mod FamiliesProof
+pub mod FamilyLimitsProof

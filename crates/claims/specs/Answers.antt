@@ -148,66 +148,66 @@ sampleFields =
 -- what was read
 unfoldable pub readings : List Row
 readings =
-    read-packet "codec 8" twoTcp (PacketAnswer.Accepted 0x08 2)
-    ∷ read-packet "codec 16" newer (PacketAnswer.Accepted 0x10 2)
-    ∷ read-packet "codec 8E" older (PacketAnswer.Accepted 0x8E 1)
-    ∷ read-datagram "codec 8" twoUdp (DatagramAnswer.Accepted 0x08 2 header)
-    ∷ read-datagram "a record of 255 bytes" (udp 0x01 0x17 (field 0x8E 1 (long 213 1))) (DatagramAnswer.Accepted 0x8E 1 header)
+    read-packet "codec 8" 2 twoTcp (PacketAnswer.Accepted 0x08 2)
+    ∷ read-packet "codec 16" 2 newer (PacketAnswer.Accepted 0x10 2)
+    ∷ read-packet "codec 8E" 2 older (PacketAnswer.Accepted 0x8E 1)
+    ∷ read-datagram "codec 8" 2 twoUdp (DatagramAnswer.Accepted 0x08 2 header)
+    ∷ read-datagram "family 1, a record of 255 bytes" 1 (udp 0x01 0x17 (field 0x8E 1 (long 213 1))) (DatagramAnswer.Accepted 0x8E 1 header)
     ∷ read-login "login" login (LoginAnswer.Imei 123456789012345)
-    ∷ read-command "codec 12" getio (CommandAnswer.Accepted (record { codec = 0x0C; kind = 0x05; imei = 0; offset = 15; size = 5 })) (0x67 ∷ 0x65 ∷ 0x74 ∷ 0x69 ∷ 0x6F ∷ [])
-    ∷ read-command "codec 12, type 06, no text" (tcp 0x00 0x08 (0x0C ∷ 0x01 ∷ 0x06 ∷ 0x00 ∷ 0x00 ∷ 0x00 ∷ 0x00 ∷ 0x01 ∷ []) 0x33 0xD1) (CommandAnswer.Accepted (record { codec = 0x0C; kind = 0x06; imei = 0; offset = 15; size = 0 })) []
-    ∷ read-command "codec 14" getver (CommandAnswer.Accepted (record { codec = 0x0E; kind = 0x05; imei = 352093081452251; offset = 23; size = 6 })) (0x67 ∷ 0x65 ∷ 0x74 ∷ 0x76 ∷ 0x65 ∷ 0x72 ∷ [])
-    ∷ read-command "codec 14, type 11" nack (CommandAnswer.Accepted (record { codec = 0x0E; kind = 0x11; imei = 352093081452251; offset = 23; size = 0 })) []
+    ∷ read-command "codec 12" 2 getio (CommandAnswer.Accepted (record { codec = 0x0C; kind = 0x05; imei = 0; offset = 15; size = 5 })) (0x67 ∷ 0x65 ∷ 0x74 ∷ 0x69 ∷ 0x6F ∷ [])
+    ∷ read-command "codec 12, type 06, no text" 2 (tcp 0x00 0x08 (0x0C ∷ 0x01 ∷ 0x06 ∷ 0x00 ∷ 0x00 ∷ 0x00 ∷ 0x00 ∷ 0x01 ∷ []) 0x33 0xD1) (CommandAnswer.Accepted (record { codec = 0x0C; kind = 0x06; imei = 0; offset = 15; size = 0 })) []
+    ∷ read-command "codec 14" 2 getver (CommandAnswer.Accepted (record { codec = 0x0E; kind = 0x05; imei = 352093081452251; offset = 23; size = 6 })) (0x67 ∷ 0x65 ∷ 0x74 ∷ 0x76 ∷ 0x65 ∷ 0x72 ∷ [])
+    ∷ read-command "codec 14, type 11" 2 nack (CommandAnswer.Accepted (record { codec = 0x0E; kind = 0x11; imei = 352093081452251; offset = 23; size = 0 })) []
     ∷ []
 
 -- what was looked up
 unfoldable pub lookups : List Row
 lookups =
-    record-in-packet "codec 16" newer 1 (RecordAnswer.Fields fullFields)
-    ∷ record-in-packet "codec 16, the record before" newer 0 (RecordAnswer.Fields oneFields)
-    ∷ record-in-packet "codec 8E" older 0 (RecordAnswer.Fields variedFields)
-    ∷ record-in-datagram "codec 16" newerUdp 1 (RecordAnswer.Fields fullFields)
-    ∷ record-in-datagram "codec 8" sample 0 (RecordAnswer.Fields sampleFields)
-    ∷ value-in-packet "4 bytes" newer 1 3 (ValueAnswer.Found (record { id = 0x0115; kind = 4; offset = 88; size = 4 })) (0xC1 ∷ 0xC2 ∷ 0xC3 ∷ 0xC4 ∷ [])
-    ∷ value-in-packet "variable, empty" older 0 1 (ValueAnswer.Found (record { id = 0x0101; kind = 9; offset = 55; size = 0 })) []
-    ∷ value-in-packet "variable" older 0 2 (ValueAnswer.Found (record { id = 0x0142; kind = 9; offset = 59; size = 3 })) (0x61 ∷ 0x62 ∷ 0x63 ∷ [])
-    ∷ id-in-packet "an ID that occurs twice" newer 1 0x0115 (ValueAnswer.Found (record { id = 0x0115; kind = 1; offset = 76; size = 1 })) (0xA1 ∷ [])
-    ∷ value-in-datagram "codec 8" sample 0 0 (ValueAnswer.Found (record { id = 0x0015; kind = 1; offset = 53; size = 1 })) (0x03 ∷ [])
-    ∷ value-in-datagram "1 byte" newerUdp 1 0 (ValueAnswer.Found (record { id = 0x0115; kind = 1; offset = 91; size = 1 })) (0xA1 ∷ [])
-    ∷ value-in-datagram "1 byte, the second" newerUdp 1 1 (ValueAnswer.Found (record { id = 0x0181; kind = 1; offset = 94; size = 1 })) (0xA2 ∷ [])
-    ∷ value-in-datagram "2 bytes" newerUdp 1 2 (ValueAnswer.Found (record { id = 0x0142; kind = 2; offset = 98; size = 2 })) (0xB1 ∷ 0xB2 ∷ [])
-    ∷ value-in-datagram "4 bytes" newerUdp 1 3 (ValueAnswer.Found (record { id = 0x0115; kind = 4; offset = 103; size = 4 })) (0xC1 ∷ 0xC2 ∷ 0xC3 ∷ 0xC4 ∷ [])
-    ∷ value-in-datagram "8 bytes" newerUdp 1 4 (ValueAnswer.Found (record { id = 0x014E; kind = 8; offset = 110; size = 8 })) (0xD1 ∷ 0xD2 ∷ 0xD3 ∷ 0xD4 ∷ 0xD5 ∷ 0xD6 ∷ 0xD7 ∷ 0xD8 ∷ [])
-    ∷ value-in-datagram "the record before" newerUdp 0 0 (ValueAnswer.Found (record { id = 0x0143; kind = 1; offset = 56; size = 1 })) (0x5A ∷ [])
-    ∷ id-in-datagram "an ID that occurs twice" newerUdp 1 0x0115 (ValueAnswer.Found (record { id = 0x0115; kind = 1; offset = 91; size = 1 })) (0xA1 ∷ [])
-    ∷ id-in-datagram "8 bytes" newerUdp 1 0x014E (ValueAnswer.Found (record { id = 0x014E; kind = 8; offset = 110; size = 8 })) (0xD1 ∷ 0xD2 ∷ 0xD3 ∷ 0xD4 ∷ 0xD5 ∷ 0xD6 ∷ 0xD7 ∷ 0xD8 ∷ [])
-    ∷ last-known "in both" newer older 0x0142 (KnownAnswer.Found false (record { id = 0x0142; kind = 2; offset = 83; size = 2 })) (0xB1 ∷ 0xB2 ∷ [])
-    ∷ last-known "in the newer, older refused" newer brokenTcp 0x0142 (KnownAnswer.Found false (record { id = 0x0142; kind = 2; offset = 83; size = 2 })) (0xB1 ∷ 0xB2 ∷ [])
-    ∷ last-known "in the older" newer older 0x0015 (KnownAnswer.Found true (record { id = 0x0015; kind = 1; offset = 42; size = 1 })) (0x03 ∷ [])
+    record-in-packet "codec 16" 2 newer 1 (RecordAnswer.Fields fullFields)
+    ∷ record-in-packet "codec 16, the record before" 2 newer 0 (RecordAnswer.Fields oneFields)
+    ∷ record-in-packet "codec 8E" 2 older 0 (RecordAnswer.Fields variedFields)
+    ∷ record-in-datagram "codec 16" 2 newerUdp 1 (RecordAnswer.Fields fullFields)
+    ∷ record-in-datagram "codec 8" 2 sample 0 (RecordAnswer.Fields sampleFields)
+    ∷ value-in-packet "4 bytes" 2 newer 1 3 (ValueAnswer.Found (record { id = 0x0115; kind = 4; offset = 88; size = 4 })) (0xC1 ∷ 0xC2 ∷ 0xC3 ∷ 0xC4 ∷ [])
+    ∷ value-in-packet "variable, empty" 2 older 0 1 (ValueAnswer.Found (record { id = 0x0101; kind = 9; offset = 55; size = 0 })) []
+    ∷ value-in-packet "variable" 2 older 0 2 (ValueAnswer.Found (record { id = 0x0142; kind = 9; offset = 59; size = 3 })) (0x61 ∷ 0x62 ∷ 0x63 ∷ [])
+    ∷ id-in-packet "an ID that occurs twice" 2 newer 1 0x0115 (ValueAnswer.Found (record { id = 0x0115; kind = 1; offset = 76; size = 1 })) (0xA1 ∷ [])
+    ∷ value-in-datagram "codec 8" 2 sample 0 0 (ValueAnswer.Found (record { id = 0x0015; kind = 1; offset = 53; size = 1 })) (0x03 ∷ [])
+    ∷ value-in-datagram "1 byte" 2 newerUdp 1 0 (ValueAnswer.Found (record { id = 0x0115; kind = 1; offset = 91; size = 1 })) (0xA1 ∷ [])
+    ∷ value-in-datagram "1 byte, the second" 2 newerUdp 1 1 (ValueAnswer.Found (record { id = 0x0181; kind = 1; offset = 94; size = 1 })) (0xA2 ∷ [])
+    ∷ value-in-datagram "2 bytes" 2 newerUdp 1 2 (ValueAnswer.Found (record { id = 0x0142; kind = 2; offset = 98; size = 2 })) (0xB1 ∷ 0xB2 ∷ [])
+    ∷ value-in-datagram "4 bytes" 2 newerUdp 1 3 (ValueAnswer.Found (record { id = 0x0115; kind = 4; offset = 103; size = 4 })) (0xC1 ∷ 0xC2 ∷ 0xC3 ∷ 0xC4 ∷ [])
+    ∷ value-in-datagram "8 bytes" 2 newerUdp 1 4 (ValueAnswer.Found (record { id = 0x014E; kind = 8; offset = 110; size = 8 })) (0xD1 ∷ 0xD2 ∷ 0xD3 ∷ 0xD4 ∷ 0xD5 ∷ 0xD6 ∷ 0xD7 ∷ 0xD8 ∷ [])
+    ∷ value-in-datagram "the record before" 2 newerUdp 0 0 (ValueAnswer.Found (record { id = 0x0143; kind = 1; offset = 56; size = 1 })) (0x5A ∷ [])
+    ∷ id-in-datagram "an ID that occurs twice" 2 newerUdp 1 0x0115 (ValueAnswer.Found (record { id = 0x0115; kind = 1; offset = 91; size = 1 })) (0xA1 ∷ [])
+    ∷ id-in-datagram "8 bytes" 2 newerUdp 1 0x014E (ValueAnswer.Found (record { id = 0x014E; kind = 8; offset = 110; size = 8 })) (0xD1 ∷ 0xD2 ∷ 0xD3 ∷ 0xD4 ∷ 0xD5 ∷ 0xD6 ∷ 0xD7 ∷ 0xD8 ∷ [])
+    ∷ last-known "in both" 2 newer older 0x0142 (KnownAnswer.Found false (record { id = 0x0142; kind = 2; offset = 83; size = 2 })) (0xB1 ∷ 0xB2 ∷ [])
+    ∷ last-known "in the newer, older refused" 2 newer brokenTcp 0x0142 (KnownAnswer.Found false (record { id = 0x0142; kind = 2; offset = 83; size = 2 })) (0xB1 ∷ 0xB2 ∷ [])
+    ∷ last-known "in the older" 2 newer older 0x0015 (KnownAnswer.Found true (record { id = 0x0015; kind = 1; offset = 42; size = 1 })) (0x03 ∷ [])
     ∷ []
 
 -- what was written
 unfoldable pub writings : List Row
 writings =
-    acknowledge-packet "accepted" newer (replicate 5 7) (Written.Bytes 4) (0x00 ∷ 0x00 ∷ 0x00 ∷ 0x02 ∷ 0x07 ∷ [])
-    ∷ acknowledge-packet "refused" brokenTcp (replicate 5 7) (Written.Bytes 4) (0x00 ∷ 0x00 ∷ 0x00 ∷ 0x00 ∷ 0x07 ∷ [])
-    ∷ acknowledge-datagram "accepted" twoUdp (replicate 8 7) (Written.Bytes 7) (0x00 ∷ 0x05 ∷ 0xCA ∷ 0xFE ∷ 0x01 ∷ 0x05 ∷ 0x02 ∷ 0x07 ∷ [])
+    acknowledge-packet "accepted" 2 newer (replicate 5 7) (Written.Bytes 4) (0x00 ∷ 0x00 ∷ 0x00 ∷ 0x02 ∷ 0x07 ∷ [])
+    ∷ acknowledge-packet "refused" 2 brokenTcp (replicate 5 7) (Written.Bytes 4) (0x00 ∷ 0x00 ∷ 0x00 ∷ 0x00 ∷ 0x07 ∷ [])
+    ∷ acknowledge-datagram "accepted" 2 twoUdp (replicate 8 7) (Written.Bytes 7) (0x00 ∷ 0x05 ∷ 0xCA ∷ 0xFE ∷ 0x01 ∷ 0x05 ∷ 0x02 ∷ 0x07 ∷ [])
     ∷ answer-login "known" login true (replicate 2 7) (Written.Bytes 1) (0x01 ∷ 0x07 ∷ [])
     ∷ answer-login "not known" login false (replicate 2 7) (Written.Bytes 1) (0x00 ∷ 0x07 ∷ [])
     ∷ answer-login "known, digit 3A" (set login 16 0x3A) true (replicate 2 7) (Written.Bytes 1) (0x00 ∷ 0x07 ∷ [])
-    ∷ write-command "codec 12" 0x0C 0x05 [] (0x67 ∷ 0x65 ∷ 0x74 ∷ 0x69 ∷ 0x6F ∷ []) (replicate 26 7) (Written.Bytes 25) (getio ++ (7 ∷ []))
-    ∷ write-command "codec 14" 0x0E 0x05 imei (0x67 ∷ 0x65 ∷ 0x74 ∷ 0x76 ∷ 0x65 ∷ 0x72 ∷ []) (replicate 34 7) (Written.Bytes 34) getver
-    ∷ write-command "codec 14, type 11" 0x0E 0x11 imei [] (replicate 28 7) (Written.Bytes 28) nack
-    ∷ form-of-packet "codec 16" newer (replicate 121 7) (Written.Bytes 120) (newerForm ++ (7 ∷ []))
-    ∷ form-of-packet "codec 8E" older (replicate 58 7) (Written.Bytes 58) olderForm
-    ∷ form-of-datagram "codec 16" newerUdp (replicate 120 7) (Written.Bytes 120) newerForm
-    ∷ packet-of-form "codec 16" newerForm (replicate 109 7) (Written.Bytes 108) (newer ++ (7 ∷ []))
-    ∷ packet-of-form "codec 8E" olderForm (replicate 67 7) (Written.Bytes 67) older
-    ∷ packet-of-form "codec 8" sampleForm (replicate 47 7) (Written.Bytes 47) (tcp 0x00 0x23 (drop 23 sample) 0xB0 0xD2)
-    ∷ contents-of-datagram "codec 8" sample (replicate 8 7) (Written.Bytes 7) (sampleContents ++ (7 ∷ []))
-    ∷ contents-of-datagram "codec 8, records without values" twoUdp (replicate 10 7) (Written.Bytes 10) twoContents
-    ∷ contents-of-packet "codec 16" newer (replicate 18 7) (Written.Bytes 16) (newerContents ++ (7 ∷ 7 ∷ []))
-    ∷ contents-of-packet "codec 8E" older (replicate 9 7) (Written.Bytes 9) olderContents
+    ∷ write-command "codec 12" 2 0x0C 0x05 [] (0x67 ∷ 0x65 ∷ 0x74 ∷ 0x69 ∷ 0x6F ∷ []) (replicate 26 7) (Written.Bytes 25) (getio ++ (7 ∷ []))
+    ∷ write-command "codec 14" 2 0x0E 0x05 imei (0x67 ∷ 0x65 ∷ 0x74 ∷ 0x76 ∷ 0x65 ∷ 0x72 ∷ []) (replicate 34 7) (Written.Bytes 34) getver
+    ∷ write-command "codec 14, type 11" 2 0x0E 0x11 imei [] (replicate 28 7) (Written.Bytes 28) nack
+    ∷ form-of-packet "codec 16" 2 newer (replicate 121 7) (Written.Bytes 120) (newerForm ++ (7 ∷ []))
+    ∷ form-of-packet "codec 8E" 2 older (replicate 58 7) (Written.Bytes 58) olderForm
+    ∷ form-of-datagram "codec 16" 2 newerUdp (replicate 120 7) (Written.Bytes 120) newerForm
+    ∷ packet-of-form "codec 16" 2 newerForm (replicate 109 7) (Written.Bytes 108) (newer ++ (7 ∷ []))
+    ∷ packet-of-form "codec 8E" 2 olderForm (replicate 67 7) (Written.Bytes 67) older
+    ∷ packet-of-form "codec 8" 2 sampleForm (replicate 47 7) (Written.Bytes 47) (tcp 0x00 0x23 (drop 23 sample) 0xB0 0xD2)
+    ∷ contents-of-datagram "codec 8" 2 sample (replicate 8 7) (Written.Bytes 7) (sampleContents ++ (7 ∷ []))
+    ∷ contents-of-datagram "codec 8, records without values" 2 twoUdp (replicate 10 7) (Written.Bytes 10) twoContents
+    ∷ contents-of-packet "codec 16" 2 newer (replicate 18 7) (Written.Bytes 16) (newerContents ++ (7 ∷ 7 ∷ []))
+    ∷ contents-of-packet "codec 8E" 2 older (replicate 9 7) (Written.Bytes 9) olderContents
     ∷ []
 
 abbrev pub answers : List (List Row)

@@ -1,8 +1,8 @@
--- The bench sheet, P1 to P13: what the sheet gives the judges, and what it says they answer.
+-- The bench sheet, P1 to P13: what the sheet gives the judges in family 2, and what it says they answer.
 use Prim.Native.Nat.{ℕ}
 use mathlib.Core.List.{List, [], _∷_}
 use lib.ListN.{set}
-use Rattle.wire.specs.Limits.{baseLimits}
+use Rattle.wire.specs.Limits.{limitsOf}
 use Rattle.wire.specs.Answers.{Answer, accepted, refused, onAccepted}
 use Rattle.command.specs.Commands.{readCommand}
 use Rattle.datagram.specs.Datagrams.{udpAcknowledgement}
@@ -30,24 +30,24 @@ getio =
 
 -- a command's codec, type, IMEI and text
 unfoldable pub commandFields : List ℕ → Answer (List ℕ)
-commandFields p = onAccepted (readCommand baseLimits p) (λ c. accepted (c .codec ∷ c .type ∷ c .imei ∷ c .text))
+commandFields p = onAccepted (readCommand (limitsOf 2) p) (λ c. accepted (c .codec ∷ c .type ∷ c .imei ∷ c .text))
 
 unfoldable pub sheet : List Row
 sheet =
-    row "P1" (formOfDatagram baseLimits sample) (accepted sampleForm)
-    ∷ row "P2" (udpAcknowledgement baseLimits sample) (accepted sampleAcknowledgement)
-    ∷ row "P3" (formOfDatagram baseLimits (set sample 1 0x37)) (refused (4 at 0))
-    ∷ row "P4" (formOfDatagram baseLimits (set sample 57 2)) (refused (7 at 0))
-    ∷ row "P5" (formOfDatagram baseLimits (set sample 33 3)) (refused (10 at 0))
-    ∷ row "P6" (formOfDatagram baseLimits (set sample 50 2)) (refused (9 at 0))
-    ∷ row "P7" (formOfDatagram baseLimits (set sample 51 2)) (refused (8 at 0))
-    ∷ row "P8" (formOfDatagram baseLimits (set (set sample 24 2) 57 2)) (refused (8 at 1))
+    row "P1" (formOfDatagram (limitsOf 2) sample) (accepted sampleForm)
+    ∷ row "P2" (udpAcknowledgement (limitsOf 2) sample) (accepted sampleAcknowledgement)
+    ∷ row "P3" (formOfDatagram (limitsOf 2) (set sample 1 0x37)) (refused (4 at 0))
+    ∷ row "P4" (formOfDatagram (limitsOf 2) (set sample 57 2)) (refused (7 at 0))
+    ∷ row "P5" (formOfDatagram (limitsOf 2) (set sample 33 3)) (refused (10 at 0))
+    ∷ row "P6" (formOfDatagram (limitsOf 2) (set sample 50 2)) (refused (9 at 0))
+    ∷ row "P7" (formOfDatagram (limitsOf 2) (set sample 51 2)) (refused (8 at 0))
+    ∷ row "P8" (formOfDatagram (limitsOf 2) (set (set sample 24 2) 57 2)) (refused (8 at 1))
     ∷ row "P9" (commandFields getio) (accepted (0x0C ∷ 0x05 ∷ 0 ∷ 0x67 ∷ 0x65 ∷ 0x74 ∷ 0x69 ∷ 0x6F ∷ []))
     ∷ row "P10" (commandFields (set getio 24 0xCA)) (refused (5 at 0))
-    ∷ row "P11" (formOfPacket baseLimits []) (refused (1 at 0))
-    ∷ row "P12" (formOfPacket baseLimits (0 ∷ 0 ∷ 0 ∷ 0 ∷ 0 ∷ 0 ∷ 0 ∷ 0 ∷ [])) (refused (3 at 0))
-    ∷ row "P13" (formOfPacket baseLimits (0 ∷ 0 ∷ 0 ∷ 0 ∷ 0 ∷ 0 ∷ 0x04 ∷ 0xF5 ∷ [])) (refused (3 at 0))
-    ∷ row "P13" (formOfPacket baseLimits (0 ∷ 0 ∷ 0 ∷ 0 ∷ 0 ∷ 0 ∷ 0x04 ∷ 0xF4 ∷ [])) (refused (4 at 0))
+    ∷ row "P11" (formOfPacket (limitsOf 2) []) (refused (1 at 0))
+    ∷ row "P12" (formOfPacket (limitsOf 2) (0 ∷ 0 ∷ 0 ∷ 0 ∷ 0 ∷ 0 ∷ 0 ∷ 0 ∷ [])) (refused (3 at 0))
+    ∷ row "P13" (formOfPacket (limitsOf 2) (0 ∷ 0 ∷ 0 ∷ 0 ∷ 0 ∷ 0 ∷ 0x04 ∷ 0xF5 ∷ [])) (refused (3 at 0))
+    ∷ row "P13" (formOfPacket (limitsOf 2) (0 ∷ 0 ∷ 0 ∷ 0 ∷ 0 ∷ 0 ∷ 0x04 ∷ 0xF4 ∷ [])) (refused (4 at 0))
     ∷ []
 
 -- every row is answered as the sheet says

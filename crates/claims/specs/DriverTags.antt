@@ -62,19 +62,19 @@ tagsForm =
 
 unfoldable pub tagRows : List Row
 tagRows =
-    read-packet "all counted" tags (PacketAnswer.Accepted 0x8E 2)
-    ∷ read-packet "first record, four counts" (tcp 0x00 0x83 (tagField 3 3) 0x42 0xDC) (PacketAnswer.Refused (9 at 0))
-    ∷ read-packet "second record, four counts" (tcp 0x00 0x83 (tagField 5 1) 0xA6 0x90) (PacketAnswer.Refused (9 at 1))
-    ∷ read-packet "first record, variable values twice" (tcp 0x00 0x83 (tagField 7 3) 0x7B 0x6A) (PacketAnswer.Refused (9 at 0))
-    ∷ read-datagram "all counted" (udp 0x00 0x98 (tagField 5 3)) (DatagramAnswer.Accepted 0x8E 2 header)
-    ∷ read-datagram "second record, four counts" (udp 0x00 0x98 (tagField 5 1)) (DatagramAnswer.Refused (9 at 1))
-    ∷ value-in-packet "the name" tags 0 3 (ValueAnswer.Found (record { id = 0x0193; kind = 9; offset = 62; size = 15 })) name
-    ∷ value-in-packet "the empty value" tags 0 4 (ValueAnswer.Found (record { id = 0x0196; kind = 9; offset = 81; size = 0 })) []
-    ∷ value-in-packet "an ID that occurs twice" tags 1 1 (ValueAnswer.Found (record { id = 0x0193; kind = 9; offset = 126; size = 3 })) (0x4F ∷ 0x6E ∷ 0x61 ∷ [])
-    ∷ value-in-packet "the second time" tags 1 2 (ValueAnswer.Found (record { id = 0x0193; kind = 9; offset = 133; size = 5 })) (0x4A ∷ 0x6F ∷ 0x6E ∷ 0x61 ∷ 0x73 ∷ [])
-    ∷ id-in-packet "by its ID, the first" tags 1 0x0193 (ValueAnswer.Found (record { id = 0x0193; kind = 9; offset = 126; size = 3 })) (0x4F ∷ 0x6E ∷ 0x61 ∷ [])
-    ∷ form-of-packet "its form" tags (replicate 144 7) (Written.Bytes 143) (tagsForm ++ (7 ∷ []))
-    ∷ packet-of-form "and back" tagsForm (replicate 144 7) (Written.Bytes 143) (tags ++ (7 ∷ []))
+    read-packet "all counted" 2 tags (PacketAnswer.Accepted 0x8E 2)
+    ∷ read-packet "first record, four counts" 2 (tcp 0x00 0x83 (tagField 3 3) 0x42 0xDC) (PacketAnswer.Refused (9 at 0))
+    ∷ read-packet "second record, four counts" 2 (tcp 0x00 0x83 (tagField 5 1) 0xA6 0x90) (PacketAnswer.Refused (9 at 1))
+    ∷ read-packet "first record, variable values twice" 2 (tcp 0x00 0x83 (tagField 7 3) 0x7B 0x6A) (PacketAnswer.Refused (9 at 0))
+    ∷ read-datagram "all counted" 2 (udp 0x00 0x98 (tagField 5 3)) (DatagramAnswer.Accepted 0x8E 2 header)
+    ∷ read-datagram "second record, four counts" 2 (udp 0x00 0x98 (tagField 5 1)) (DatagramAnswer.Refused (9 at 1))
+    ∷ value-in-packet "the name" 2 tags 0 3 (ValueAnswer.Found (record { id = 0x0193; kind = 9; offset = 62; size = 15 })) name
+    ∷ value-in-packet "the empty value" 2 tags 0 4 (ValueAnswer.Found (record { id = 0x0196; kind = 9; offset = 81; size = 0 })) []
+    ∷ value-in-packet "an ID that occurs twice" 2 tags 1 1 (ValueAnswer.Found (record { id = 0x0193; kind = 9; offset = 126; size = 3 })) (0x4F ∷ 0x6E ∷ 0x61 ∷ [])
+    ∷ value-in-packet "the second time" 2 tags 1 2 (ValueAnswer.Found (record { id = 0x0193; kind = 9; offset = 133; size = 5 })) (0x4A ∷ 0x6F ∷ 0x6E ∷ 0x61 ∷ 0x73 ∷ [])
+    ∷ id-in-packet "by its ID, the first" 2 tags 1 0x0193 (ValueAnswer.Found (record { id = 0x0193; kind = 9; offset = 126; size = 3 })) (0x4F ∷ 0x6E ∷ 0x61 ∷ [])
+    ∷ form-of-packet "its form" 2 tags (replicate 144 7) (Written.Bytes 143) (tagsForm ++ (7 ∷ []))
+    ∷ packet-of-form "and back" 2 tagsForm (replicate 144 7) (Written.Bytes 143) (tags ++ (7 ∷ []))
     ∷ []
 
 abbrev pub AsTagsAreCounted : Type 0

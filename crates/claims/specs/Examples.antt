@@ -2,7 +2,7 @@
 use Prim.Native.Nat.{ℕ}
 use mathlib.Core.List.{List, [], _∷_}
 use lib.ListN.{length}
-use Rattle.wire.specs.Limits.{baseLimits}
+use Rattle.wire.specs.Limits.{limitsOf}
 use Rattle.wire.specs.Answers.{Answer, accepted, refused, onAccepted}
 use Rattle.packet.specs.DataPackets.{readPacket}
 use Rattle.login.specs.Login.{readLogin}
@@ -123,7 +123,7 @@ codec15 =
 -- ---- what is read of them
 
 unfoldable pub packetFields : List ℕ → Answer (List ℕ)
-packetFields p = onAccepted (readPacket baseLimits p) (λ a. accepted (a .codec ∷ length (a .records) ∷ []))
+packetFields p = onAccepted (readPacket (limitsOf 2) p) (λ a. accepted (a .codec ∷ length (a .records) ∷ []))
 
 unfoldable pub loginFields : List ℕ → Answer (List ℕ)
 loginFields p = onAccepted (readLogin p) (λ imei. accepted (imei ∷ []))
@@ -131,7 +131,7 @@ loginFields p = onAccepted (readLogin p) (λ imei. accepted (imei ∷ []))
 -- codec, count, packet ID, unused byte, AVL packet ID, IMEI
 unfoldable pub datagramFields : List ℕ → Answer (List ℕ)
 datagramFields p =
-    onAccepted (readDatagram baseLimits p)
+    onAccepted (readDatagram (limitsOf 2) p)
     (λ g. accepted
     (g .payload .codec ∷ length (g .payload .records) ∷ g .header .packet ∷ g .header .unused ∷ g .header .avl ∷ g .header .imei ∷ []))
 

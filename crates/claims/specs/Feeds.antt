@@ -9,9 +9,8 @@ use Rattle.connection.specs.declared.Connection.{Connection}
 use Rattle.connection.specs.declared.Fed.{Fed}
 use Rattle.connection.specs.declared.Lent.{Lent}
 use Rattle.connection.specs.declared.Item.{Item}
-use Rattle.connection.specs.State.{fresh}
-use Rattle.claims.specs.Rows.{Row, row, EachAsSaid, _at_}
-use Rattle.claims.specs.Calls.{feed, feed-either, feed-lent, want, streamed}
+use Rattle.claims.specs.Rows.{Row, EachAsSaid, _at_}
+use Rattle.claims.specs.Calls.{start, reset, feed, feed-either, feed-lent, want, streamed}
 use Rattle.claims.specs.Packets.{field, tcp, login, plain, long, two, two16, twoTcp, brokenTcp, newer, older, getioField, getverField, getver}
 use Rattle.claims.specs.BenchSheet.{sample, getio}
 
@@ -37,29 +36,33 @@ stored s = take 1280 (s ++ replicate 1280 0)
 
 -- these bytes are held, the login is expected
 abbrev pub beforeLogin : List ℕ → Connection
-beforeLogin s = record { held = stored s; fill = length s; phase = 0 }
+beforeLogin s = record { held = stored s; fill = length s; phase = 0; family = 2 }
 
 -- these bytes are held, a packet is expected
 abbrev pub behindLogin : List ℕ → Connection
-behindLogin s = record { held = stored s; fill = length s; phase = 1 }
+behindLogin s = record { held = stored s; fill = length s; phase = 1; family = 2 }
 
 abbrev pub inPhase : ℕ → Connection
-inPhase n = record { held = replicate 1280 0; fill = 0; phase = n }
+inPhase n = record { held = replicate 1280 0; fill = 0; phase = n; family = 2 }
 
 abbrev pub closed : Connection
 closed = inPhase 2
 
 -- 3 bytes held, and a byte that is not zero at this place
 abbrev pub spare : ℕ → Connection
-spare place = record { held = set (stored (take 3 login)) place 0x01; fill = 3; phase = 0 }
+spare place = record { held = set (stored (take 3 login)) place 0x01; fill = 3; phase = 0; family = 2 }
 
 -- so many bytes held, they say
 abbrev pub filled : ℕ → Connection
-filled n = record { held = take 1280 largest; fill = n; phase = 1 }
+filled n = record { held = take 1280 largest; fill = n; phase = 1; family = 2 }
+
+-- the same state of another family; the states above are of family 2
+abbrev pub inFamily : ℕ → Connection → Connection
+inFamily n c = record { held = c .held; fill = c .fill; phase = c .phase; family = n }
 
 -- so many bytes of state, a lent one
 abbrev pub room : ℕ → Connection
-room n = record { held = replicate n 0; fill = 0; phase = 0 }
+room n = record { held = replicate n 0; fill = 0; phase = 0; family = 2 }
 
 -- ---- what a feed gives: how many bytes it used first
 
@@ -75,6 +78,10 @@ gives used size p = record { state = behindLogin []; used = used; item = Item.Pa
 
 abbrev pub closes : ℕ → Refusal → Fed
 closes used r = record { state = closed; used = used; item = Item.Refused r; packet = replicate 1280 0 }
+
+-- the same feed of a connection of another family
+abbrev pub fedIn : ℕ → Fed → Fed
+fedIn n f = record { state = inFamily n (f .state); used = f .used; item = f .item; packet = f .packet }
 
 -- 19
 abbrev pub stays : Connection → Fed
@@ -102,7 +109,8 @@ feedRefusals =
     ∷ feed-either "total 1, no value" (behindLogin []) (tcp 0x00 0x3F (set two 57 0x01) 0x65 0xB2) (closes 75 (9 at 1))
     ∷ feed-either "priority 3" (behindLogin []) brokenTcp (closes 75 (10 at 1))
     ∷ feed-either "generation 8" (behindLogin []) (tcp 0x00 0x43 (set two16 60 0x08) 0x4C 0x37) (closes 79 (11 at 1))
-    ∷ feed-either "256 bytes, 312 of 313 held" (behindLogin (take 312 longTcp)) (0xA7 ∷ []) (closes 1 (12 at 1))
+    ∷ feed-either "family 1, 256 bytes, 312 of 313 held" (inFamily 1 (behindLogin (take 312 longTcp))) (0xA7 ∷ []) (fedIn 1 (closes 1 (12 at 1)))
+    ∷ feed-either "family 1, L 501, 7 bytes held" (inFamily 1 (behindLogin (0x00 ∷ 0x00 ∷ 0x00 ∷ 0x00 ∷ 0x00 ∷ 0x00 ∷ 0x01 ∷ []))) (0xF5 ∷ 0x08 ∷ []) (fedIn 1 (closes 1 (3 at 0)))
     ∷ feed-either "command, CRC" (behindLogin []) (set getio 24 0xCA) (closes 25 (5 at 0))
     ∷ feed-either "command, second quantity 0, type 07" (behindLogin []) (tcp 0x00 0x0D (set (set getioField 2 0x07) 12 0x00) 0x78 0x01) (closes 25 (7 at 0))
     ∷ feed-either "command, size cut short" (behindLogin []) (tcp 0x00 0x07 (0x0C ∷ 0x01 ∷ 0x05 ∷ 0x00 ∷ 0x00 ∷ 0x00 ∷ 0x01 ∷ []) 0x11 0xC0) (closes 19 (8 at 0))
@@ -128,6 +136,11 @@ shutFeeds =
     ∷ feed-either "first spare byte not zero" (spare 3) login (stays (spare 3))
     ∷ feed-either "last spare byte not zero" (spare 1279) login (stays (spare 1279))
     ∷ feed-either "fill 1,281" (filled 1281) [] (stays (filled 1281))
+    ∷ feed-either "family 0, all zero" (inFamily 0 (beforeLogin [])) login (stays (inFamily 0 (beforeLogin [])))
+    ∷ feed-either "family 3, no bytes" (inFamily 3 (behindLogin [])) [] (stays (inFamily 3 (behindLogin [])))
+    ∷ feed-either "family 1, L 501 held" (inFamily 1 (behindLogin (0x00 ∷ 0x00 ∷ 0x00 ∷ 0x00 ∷ 0x00 ∷ 0x00 ∷ 0x01 ∷ 0xF5 ∷ []))) [] (stays (inFamily 1 (behindLogin (0x00 ∷ 0x00 ∷ 0x00 ∷ 0x00 ∷ 0x00 ∷ 0x00 ∷ 0x01 ∷ 0xF5 ∷ []))))
+    ∷ feed-lent "family 3, none lent" (inFamily 3 (beforeLogin [])) login [] (unfed (beforeLogin []) (19 at 0)) (stored []) []
+    ∷ feed-lent "family 1, 511 bytes lent" (inFamily 1 (beforeLogin [])) login (replicate 511 7) (unfed (beforeLogin []) (18 at 0)) (stored []) (replicate 511 7)
     ∷ feed-lent "closed, none lent" closed login [] (unfed closed (19 at 0)) (stored []) []
     ∷ feed-lent "1,279 bytes of state" (room 1279) login (replicate 1280 7) (unfed (room 1279) (19 at 0)) (replicate 1279 0) (replicate 1280 7)
     ∷ feed-lent "1,281 bytes of state" (room 1281) login (replicate 1280 7) (unfed (room 1281) (19 at 0)) (replicate 1281 0) (replicate 1280 7)
@@ -139,14 +152,16 @@ shutFeeds =
 -- more needed, a login, a packet; with the state afterwards
 unfoldable pub feedAnswers : List Row
 feedAnswers =
-    row "a fresh connection" (fresh 1280) (beforeLogin [])
-    ∷ feed "no bytes" (beforeLogin []) [] (waits 0 (beforeLogin []))
+    feed "no bytes" (beforeLogin []) [] (waits 0 (beforeLogin []))
     ∷ feed "a login" (beforeLogin []) login (greets 17 123456789012345)
     ∷ feed "a login, a packet behind it" (beforeLogin []) (login ++ getio) (greets 17 123456789012345)
     ∷ feed "a login but its last byte" (beforeLogin []) (take 16 login) (waits 16 (beforeLogin (take 16 login)))
     ∷ feed "its last byte, a packet behind it" (beforeLogin (take 16 login)) (0x35 ∷ getio) (greets 1 123456789012345)
     ∷ feed "IMEI length wrong, 16 bytes" (beforeLogin (take 3 getio)) (replicate 13 1) (waits 13 (beforeLogin (take 3 getio ++ replicate 13 1)))
     ∷ feed "a packet" (behindLogin []) sampleTcp (gives 47 47 sampleTcp)
+    ∷ feed "a record of 256 bytes" (behindLogin []) longTcp (gives 313 313 longTcp)
+    ∷ feed "family 1, a packet" (inFamily 1 (behindLogin [])) sampleTcp (fedIn 1 (gives 47 47 sampleTcp))
+    ∷ feed-lent "family 1, a packet, 512 bytes lent" (inFamily 1 (behindLogin [])) sampleTcp (replicate 512 7) (record { phase = 1; fill = 0; used = 47; item = Item.Packet 47 }) (stored []) (sampleTcp ++ replicate 465 7)
     ∷ feed "a packet, two bytes behind it" (behindLogin []) (sampleTcp ++ (0x00 ∷ 0x01 ∷ [])) (gives 47 47 sampleTcp)
     ∷ feed "its first 7 bytes" (behindLogin []) (take 7 sampleTcp) (waits 7 (behindLogin (take 7 sampleTcp)))
     ∷ feed "no bytes, 7 held" (behindLogin (take 7 sampleTcp)) [] (waits 0 (behindLogin (take 7 sampleTcp)))
@@ -180,6 +195,9 @@ wants =
     ∷ want "8 bytes held" (behindLogin (take 8 sampleTcp)) 39
     ∷ want "46 bytes held" (behindLogin (take 46 sampleTcp)) 1
     ∷ want "8 bytes held, L 1,268" (behindLogin (take 8 largest)) 1272
+    ∷ want "family 1, 8 bytes held, L 500" (inFamily 1 (behindLogin (0x00 ∷ 0x00 ∷ 0x00 ∷ 0x00 ∷ 0x00 ∷ 0x00 ∷ 0x01 ∷ 0xF4 ∷ []))) 504
+    ∷ want "family 1, 8 bytes held, L 501" (inFamily 1 (behindLogin (0x00 ∷ 0x00 ∷ 0x00 ∷ 0x00 ∷ 0x00 ∷ 0x00 ∷ 0x01 ∷ 0xF5 ∷ []))) 0
+    ∷ want "family 3" (inFamily 3 (beforeLogin [])) 0
     ∷ want "closed" closed 0
     ∷ want "phase 3" (inPhase 3) 0
     ∷ want "a whole login held" (beforeLogin login) 0
@@ -193,16 +211,32 @@ wants =
 -- all items of a stream from a fresh connection, and the state behind it
 unfoldable pub streams : List Row
 streams =
-    streamed "no bytes" [] [] (waiting forLogin [])
-    ∷ streamed "a login, a packet, a command" (login ++ sampleTcp ++ getio) (rule.login 123456789012345 ∷ rule.packet sampleTcp ∷ rule.packet getio ∷ []) (waiting forPacket [])
-    ∷ streamed "a login, a command, 3 bytes of a packet" (login ++ getio ++ (0x00 ∷ 0x00 ∷ 0x01 ∷ [])) (rule.login 123456789012345 ∷ rule.packet getio ∷ []) (waiting forPacket (0x00 ∷ 0x00 ∷ 0x01 ∷ []))
-    ∷ streamed "the CRC wrong, a command behind it" (login ++ set getio 24 0xCA ++ getio) (rule.login 123456789012345 ∷ rule.refusing (5 at 0) ∷ []) rule.closed
-    ∷ streamed "two logins, a command behind them" (login ++ login ++ getio) (rule.login 123456789012345 ∷ rule.refusing (2 at 0) ∷ []) rule.closed
-    ∷ streamed "a command first, then a login" (getio ++ login) (rule.refusing (15 at 0) ∷ []) rule.closed
+    streamed "no bytes" 2 [] [] (waiting forLogin [])
+    ∷ streamed "a login, a packet, a command" 2 (login ++ sampleTcp ++ getio) (rule.login 123456789012345 ∷ rule.packet sampleTcp ∷ rule.packet getio ∷ []) (waiting forPacket [])
+    ∷ streamed "a login, a command, 3 bytes of a packet" 2 (login ++ getio ++ (0x00 ∷ 0x00 ∷ 0x01 ∷ [])) (rule.login 123456789012345 ∷ rule.packet getio ∷ []) (waiting forPacket (0x00 ∷ 0x00 ∷ 0x01 ∷ []))
+    ∷ streamed "the CRC wrong, a command behind it" 2 (login ++ set getio 24 0xCA ++ getio) (rule.login 123456789012345 ∷ rule.refusing (5 at 0) ∷ []) rule.closed
+    ∷ streamed "two logins, a command behind them" 2 (login ++ login ++ getio) (rule.login 123456789012345 ∷ rule.refusing (2 at 0) ∷ []) rule.closed
+    ∷ streamed "family 1, a record of 256 bytes" 1 (login ++ longTcp ++ getio) (rule.login 123456789012345 ∷ rule.refusing (12 at 1) ∷ []) rule.closed
+    ∷ streamed "the same in family 2" 2 (login ++ longTcp ++ getio) (rule.login 123456789012345 ∷ rule.packet longTcp ∷ rule.packet getio ∷ []) (waiting forPacket [])
+    ∷ streamed "a command first, then a login" 2 (getio ++ login) (rule.refusing (15 at 0) ∷ []) rule.closed
+    ∷ []
+
+-- a start: fresh; or 21, and closed, of family 1. A reset is the start of the state's family
+unfoldable pub starts : List Row
+starts =
+    start "family 1" 1 (record { refusal = 0 at 0; state = inFamily 1 (beforeLogin []) })
+    ∷ start "family 2" 2 (record { refusal = 0 at 0; state = beforeLogin [] })
+    ∷ start "family 0" 0 (record { refusal = 21 at 0; state = inFamily 1 closed })
+    ∷ start "family 3" 3 (record { refusal = 21 at 0; state = inFamily 1 closed })
+    ∷ start "family 258" 258 (record { refusal = 21 at 0; state = inFamily 1 closed })
+    ∷ reset "closed" closed (beforeLogin [])
+    ∷ reset "a refused start" (inFamily 1 closed) (inFamily 1 (beforeLogin []))
+    ∷ reset "family 1, a packet begun" (inFamily 1 (behindLogin (take 7 sampleTcp))) (inFamily 1 (beforeLogin []))
+    ∷ reset "family 3" (inFamily 3 (behindLogin [])) (inFamily 1 closed)
     ∷ []
 
 abbrev pub feeds : List (List Row)
-feeds = feedRefusals ∷ shutFeeds ∷ feedAnswers ∷ wants ∷ streams ∷ []
+feeds = starts ∷ feedRefusals ∷ shutFeeds ∷ feedAnswers ∷ wants ∷ streams ∷ []
 
 abbrev pub AsThePaperFeeds : Type 0
 AsThePaperFeeds = EachAsSaid feeds

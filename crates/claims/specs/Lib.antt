@@ -12,6 +12,8 @@ pub mod Measures
 pub mod Feeds
 pub mod Connections
 pub mod Totals
+pub mod Families
+pub mod FamilyLimits
 pub mod DriverTags
 pub mod Lines
 pub mod BillingLines

@@ -40,7 +40,7 @@ pub record ReadUpTo (longest codec count : ℕ) (first : List AvlRecord) (n : �
 -- a TCP data packet and a datagram with this data field get 9 at the record `index`
 pub record Nine (limits : Limits) (d : List ℕ) (index : ℕ) : Type 0 where
   pub inPacket : (p : List ℕ) → unframe (limits .largest) p ≡ accepted d → readPacket limits p ≡ refused (9 at index)
-  pub inDatagram : (p : List ℕ) (h : Header) → judgeHeader (limits .largest) p ≡ accepted h → drop 23 p ≡ d → readDatagram limits p ≡ refused (9 at index)
+  pub inDatagram : (p : List ℕ) (h : Header) → judgeHeader (limits .datagram) p ≡ accepted h → drop 23 p ≡ d → readDatagram limits p ≡ refused (9 at index)
 
 module _ (limits : Limits) (codec count : ℕ) (first : List AvlRecord) (n : ℕ) (r : AvlRecord) (rest : List ℕ) where
   abbrev Refused9 : Type 0
