@@ -8,17 +8,18 @@ use lib.ListN.{length}
 use lib.Dec.{leb}
 use borrow.Author.Tests.{le-leb, leb-true, eqb-true, ne-eqb}
 use Rattle.wire.specs.Numbers.{numberAt, pick}
-use Rattle.wire.specs.Limits.{baseLimits}
+use Rattle.wire.specs.declared.Limits.{Limits}
 use Rattle.wire.specs.Answers.{accepted}
 use Rattle.wire.proofs.Accepting.{check-accepted, onAccepted-accepted}
 use Rattle.datagram.specs.Datagrams.{Datagram, judgeHeader, readDatagram}
 use Rattle.inspect.specs.FirstBytes.{shows, isConnection}
 
-pub no-datagram : (p : List ℕ) {g : Datagram} → readDatagram baseLimits p ≡ accepted g → isConnection p ≡ false
+pub no-datagram : (limits : Limits) (p : List ℕ) {g : Datagram} → readDatagram limits p ≡ accepted g → isConnection p ≡ false
 unfolding readDatagram judgeHeader isConnection shows
-no-datagram p e =
-    let i = onAccepted-accepted (judgeHeader (baseLimits .largest) p) _ e in
-    let c₁ = check-accepted _ 1 _ (i .1) in
+no-datagram limits p e =
+    let i = onAccepted-accepted (judgeHeader (limits .datagram) p) _ e in
+    let c₀ = check-accepted _ 21 _ (i .1) in
+    let c₁ = check-accepted _ 1 _ (c₀ .1) in
     let c₂ = check-accepted _ 3 _ (c₁ .1) in
     let c₃ = check-accepted _ 4 _ (c₂ .1) in
     let long : 26 ≤ length p = leb-true _ _ (c₁ .0) in

@@ -4,6 +4,7 @@
 mod input;
 
 ghost use mathlib.Core.Path.{_≡_};
+ghost use Prim.Native.Nat.{_≤_};
 ghost use Rattle.inspect.specs.declared.Task.{Task};
 ghost use Rattle.inspect.specs.Runs.{refusalBy};
 use input::Input;
@@ -11,7 +12,7 @@ use libc::STDERR_FILENO;
 use libc::STDOUT_FILENO;
 use text::Kind;
 
-// What the first word asks for.
+// What the first word asks for, behind those that name a family.
 pub enum Task {
     Auto,
     Packet,
@@ -39,9 +40,11 @@ inspect lines [FILE]             the billing lines of a TCP data packet or a dat
 inspect write MESSAGE TEXT       a command packet of codec 12, as hex text\n\
 inspect write MESSAGE IMEI TEXT  the same of codec 14\n\
 inspect help                     this text\n\
+inspect family N ..              any of these by the limits of family N, 1 or 2; of family 2 if left out\n\
 KIND: packet, datagram, login, command, form, connection, line, or auto (found out, also if left out)\n\
 connection: a login and packets one behind another, shown item by item; its bytes count from 0\n\
 line: billing lines, shown one by one; taken as they are, never as hex text; lines and bytes count from 0\n\
+family 1: units of the 640 family, at most 512 bytes a packet and 255 a record; 2: all others, 1,280 bytes\n\
 FILE: at most 65536 bytes, hex text or as they are; standard input if left out or -\n\
 MESSAGE: 12 or 14 (a command), 12-response, 14-response, 14-mismatch (IMEI doesn't match)\n\
 A refusal is a line 'refused: NUMBER ..' on standard output. The exit status says nothing.\n",
@@ -83,20 +86,20 @@ fn task_of(i: usize) -> Task {
 }
 
 // Does a task on an input; the number of the refusal that it says, 0 if none.
-fn run(task: Task, p: &[u8]) -> usize
-    ensures { λ r. ⌜ r ≡ refusalBy task (now (p .entry)) ⌝ }
+fn run(family: usize, task: Task, p: &[u8]) -> usize
+    ensures { λ r. ⌜ r ≡ refusalBy family task (now (p .entry)) ⌝ }
 {
     match task {
-        Task::Packet => report::show_packet(p),
-        Task::Datagram => report::show_datagram(p),
+        Task::Packet => report::show_packet(family, p),
+        Task::Datagram => report::show_datagram(family, p),
         Task::Login => report::show_login(p),
-        Task::Command => report::show_command(p),
-        Task::Form => report::show_form(p),
-        Task::Connection => report::show_connection(p),
+        Task::Command => report::show_command(family, p),
+        Task::Form => report::show_form(family, p),
+        Task::Connection => report::show_connection(family, p),
         Task::Line => report::show_lines(p),
-        Task::FormOf => run_form_of(p),
-        Task::PacketOf => report::say_packet_of(p),
-        Task::Lines => run_lines(p),
+        Task::FormOf => run_form_of(family, p),
+        Task::PacketOf => report::say_packet_of(family, p),
+        Task::Lines => run_lines(family, p),
         Task::Auto => 0,
         Task::Write => 0,
         Task::Help => 0,
@@ -104,40 +107,40 @@ fn run(task: Task, p: &[u8]) -> usize
     }
 }
 
-fn run_form_of(p: &[u8]) -> usize
-    ensures { λ r. ⌜ r ≡ refusalBy Task.FormOf (now (p .entry)) ⌝ }
+fn run_form_of(family: usize, p: &[u8]) -> usize
+    ensures { λ r. ⌜ r ≡ refusalBy family Task.FormOf (now (p .entry)) ⌝ }
 {
     if input::is_tcp(p) {
-        return report::say_form_of_packet(p);
+        return report::say_form_of_packet(family, p);
     }
-    report::say_form_of_datagram(p)
+    report::say_form_of_datagram(family, p)
 }
 
-fn run_lines(p: &[u8]) -> usize
-    ensures { λ r. ⌜ r ≡ refusalBy Task.Lines (now (p .entry)) ⌝ }
+fn run_lines(family: usize, p: &[u8]) -> usize
+    ensures { λ r. ⌜ r ≡ refusalBy family Task.Lines (now (p .entry)) ⌝ }
 {
     if input::is_tcp(p) {
-        return report::say_lines_of_packet(p);
+        return report::say_lines_of_packet(family, p);
     }
-    report::say_lines_of_datagram(p)
+    report::say_lines_of_datagram(family, p)
 }
 
-fn run_on(task: Task, p: &[u8]) {
+fn run_on(family: usize, task: Task, p: &[u8]) {
     match task {
         Task::Auto => {
             if p.len() == 0 {
                 return empty();
             }
-            run(input::found(p), p);
+            run(family, input::found(p), p);
         }
         Task::Line => {
             if p.len() == 0 {
                 return empty();
             }
-            run(task, p);
+            run(family, task, p);
         }
         _ => {
-            run(task, p);
+            run(family, task, p);
         }
     }
 }
@@ -151,9 +154,9 @@ fn odd(digits: usize) {
 
 // Hex text is what has hex digits and white space alone, so nothing that is accepted is taken for it:
 // a TCP packet, a login and a connection start with 00, a TLV form with 01, a datagram with 00 to 04.
-fn run_on_text(task: Task, s: &[u8]) {
+fn run_on_text(family: usize, task: Task, s: &[u8]) {
     match text::kind_of(s) {
-        Kind::Raw => run_on(task, s),
+        Kind::Raw => run_on(family, task, s),
         Kind::Hex(digits) => {
             if digits % 2 == 1 {
                 return odd(digits);
@@ -161,29 +164,29 @@ fn run_on_text(task: Task, s: &[u8]) {
             let mut bytes = [0u8; 32768];
             let n = text::decode(s, &mut bytes);
             if n <= bytes.len() {
-                run_on(task, &bytes[0..n]);
+                run_on(family, task, &bytes[0..n]);
             }
         }
     }
 }
 
 // Billing lines are taken as they are: one that is cut short may look like hex text.
-fn run_on_input(task: Task, s: &[u8]) {
+fn run_on_input(family: usize, task: Task, s: &[u8]) {
     match task {
-        Task::Line => run_on(task, s),
-        _ => run_on_text(task, s),
+        Task::Line => run_on(family, task, s),
+        _ => run_on_text(family, task, s),
     }
 }
 
 // Reads the file that word `i` names, and does the task on it.
-fn inspect(task: Task, i: usize) {
+fn inspect(family: usize, task: Task, i: usize) {
     let mut buf = [0u8; 65537];
     match input::read_word(i, &mut buf) {
         Input::Failed => {}
         Input::Long => fail(b"inspect: the input is longer than 65536 bytes\n"),
         Input::Bytes(n) => {
             if n <= buf.len() {
-                run_on_input(task, &buf[0..n]);
+                run_on_input(family, task, &buf[0..n]);
             }
         }
     }
@@ -193,7 +196,7 @@ fn inspect(task: Task, i: usize) {
 const NONE: usize = usize::MAX;
 
 // Writes a command with the IMEI of word `i` and the text of word `j`, the last of the words.
-fn write_words(codec: u8, kind: u8, i: usize, j: usize, words: usize) {
+fn write_words(family: usize, codec: u8, kind: u8, i: usize, j: usize, words: usize) {
     if words == 0 || words - 1 != j {
         return wrong();
     }
@@ -204,38 +207,60 @@ fn write_words(codec: u8, kind: u8, i: usize, j: usize, words: usize) {
     if os::errno() != 0 {
         return fail(b"inspect: the text is longer than 4096 bytes\n");
     }
-    report::say_command(codec, kind, &imei[..n], &text[..m]);
+    report::say_command(family, codec, kind, &imei[..n], &text[..m]);
 }
 
-fn write_task(words: usize) {
+// The same with the message of word `i`.
+fn write_task(family: usize, i: usize, words: usize)
+    requires { ⌜ i ≤ 4 ⌝ }
+{
     let messages = b"12 12-response 14 14-response 14-mismatch ";
-    match input::place_of_word(2, messages) {
-        0 => write_words(0x0C, 0x05, NONE, 3, words),
-        1 => write_words(0x0C, 0x06, NONE, 3, words),
-        2 => write_words(0x0E, 0x05, 3, 4, words),
-        3 => write_words(0x0E, 0x06, 3, 4, words),
-        4 => write_words(0x0E, 0x11, 3, 4, words),
+    match input::place_of_word(i, messages) {
+        0 => write_words(family, 0x0C, 0x05, NONE, i + 1, words),
+        1 => write_words(family, 0x0C, 0x06, NONE, i + 1, words),
+        2 => write_words(family, 0x0E, 0x05, i + 1, i + 2, words),
+        3 => write_words(family, 0x0E, 0x06, i + 1, i + 2, words),
+        4 => write_words(family, 0x0E, 0x11, i + 1, i + 2, words),
         _ => wrong(),
     }
 }
 
-fn main() {
+// Does what the words from word `i` on ask for.
+fn do_words(family: usize, i: usize)
+    requires { ⌜ i ≤ 3 ⌝ }
+{
     let words = os::arg_count();
-    let task = task_of(1);
+    let task = task_of(i);
     match task {
         Task::Help => usage(STDOUT_FILENO),
-        Task::Write => write_task(words),
+        Task::Write => write_task(family, i + 1, words),
         Task::Unknown => {
-            if 2 < words {
+            if i + 1 < words {
                 return wrong();
             }
-            inspect(Task::Auto, 1)
+            inspect(family, Task::Auto, i)
         }
         _ => {
-            if 3 < words {
+            if i + 2 < words {
                 return wrong();
             }
-            inspect(task, 2)
+            inspect(family, task, i + 1)
         }
     }
+}
+
+// The family that word `i` names; 0, which is none, for any other word and for none.
+fn family_of(i: usize) -> usize {
+    match input::place_of_word(i, b"1 2 ") {
+        0 => 1,
+        1 => 2,
+        _ => 0,
+    }
+}
+
+fn main() {
+    if input::place_of_word(1, b"family ") == 0 {
+        return do_words(family_of(2), 3);
+    }
+    do_words(2, 1)
 }

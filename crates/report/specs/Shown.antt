@@ -5,7 +5,7 @@ use mathlib.Core.List.{List, [], _∷_}
 use lib.ListN.{replicate}
 use lib.Dec.{eqb}
 use Rattle.wire.specs.Numbers.{pick}
-use Rattle.wire.specs.Limits.{baseLimits}
+use Rattle.wire.specs.Limits.{largestOfAll, limitsOf, isKnown}
 use Rattle.wire.specs.Answers.{Answer, accepted, refused}
 use Rattle.wire.specs.Buffers.{writing}
 use Rattle.packet.specs.DataPackets.{readPacket, answerPacket, acknowledged}
@@ -26,19 +26,19 @@ refusalNumber (refused r) = r .number
 
 -- ---- an input of each kind
 
-unfoldable pub packetRefusal : List ℕ → ℕ
-packetRefusal p = refusalNumber (answerPacket baseLimits p)
+unfoldable pub packetRefusal : ℕ → List ℕ → ℕ
+packetRefusal family p = refusalNumber (answerPacket (limitsOf family) p)
 
-unfoldable pub datagramRefusal : List ℕ → ℕ
-datagramRefusal p = refusalNumber (answerDatagram baseLimits p)
+unfoldable pub datagramRefusal : ℕ → List ℕ → ℕ
+datagramRefusal family p = refusalNumber (answerDatagram (limitsOf family) p)
 
 unfoldable pub loginRefusal : List ℕ → ℕ
 loginRefusal p = refusalNumber (readLogin p)
 
-unfoldable pub commandRefusal : List ℕ → ℕ
-commandRefusal p = refusalNumber (answerCommand baseLimits p)
+unfoldable pub commandRefusal : ℕ → List ℕ → ℕ
+commandRefusal family p = refusalNumber (answerCommand (limitsOf family) p)
 
--- ---- a connection, from a fresh one on
+-- ---- a connection, from a fresh one of the family on
 
 -- of the first item that is refused; a refusal closes, so none is behind it
 unfoldable pub closingRefusal : List Item → ℕ
@@ -47,8 +47,12 @@ closingRefusal (login imei ∷ items) = closingRefusal items
 closingRefusal (packet p ∷ items) = closingRefusal items
 closingRefusal (refusing r ∷ items) = r .number
 
-unfoldable pub connectionRefusal : List ℕ → ℕ
-connectionRefusal p = closingRefusal (stream baseLimits p (waiting forLogin []) .items)
+unfoldable pub feedsRefusal : ℕ → List ℕ → ℕ
+feedsRefusal family p = closingRefusal (stream (limitsOf family) p (waiting forLogin []) .items)
+
+-- none of an unknown family is started
+unfoldable pub connectionRefusal : ℕ → List ℕ → ℕ
+connectionRefusal family p = pick (isKnown (limitsOf family .largest)) (feedsRefusal family p) 21
 
 -- ---- billing lines, read back
 
@@ -72,34 +76,34 @@ firstRefusal (line ∷ lines) = earlier (lineRefusal line) (firstRefusal lines)
 unfoldable pub linesRefusal : List ℕ → ℕ
 linesRefusal s = firstRefusal (textLines s)
 
--- ---- what is written, into a buffer of `size` bytes
+-- ---- what is written, into a buffer of `size` bytes: long enough in every family
 
 unfoldable pub writtenRefusal : ℕ → Answer (List ℕ) → ℕ
 writtenRefusal size result = refusalNumber (writing result (replicate size 0))
 
-unfoldable pub formOfPacketRefusal : List ℕ → ℕ
-formOfPacketRefusal p = writtenRefusal (4 * baseLimits .largest) (formOfPacket baseLimits p)
+unfoldable pub formOfPacketRefusal : ℕ → List ℕ → ℕ
+formOfPacketRefusal family p = writtenRefusal (4 * largestOfAll) (formOfPacket (limitsOf family) p)
 
-unfoldable pub formOfDatagramRefusal : List ℕ → ℕ
-formOfDatagramRefusal p = writtenRefusal (4 * baseLimits .largest) (formOfDatagram baseLimits p)
+unfoldable pub formOfDatagramRefusal : ℕ → List ℕ → ℕ
+formOfDatagramRefusal family p = writtenRefusal (4 * largestOfAll) (formOfDatagram (limitsOf family) p)
 
-unfoldable pub linesOfPacketRefusal : List ℕ → ℕ
-linesOfPacketRefusal p = writtenRefusal (4 * baseLimits .largest) (linesOfPacket baseLimits p)
+unfoldable pub linesOfPacketRefusal : ℕ → List ℕ → ℕ
+linesOfPacketRefusal family p = writtenRefusal (4 * largestOfAll) (linesOfPacket (limitsOf family) p)
 
-unfoldable pub linesOfDatagramRefusal : List ℕ → ℕ
-linesOfDatagramRefusal p = writtenRefusal (4 * baseLimits .largest) (linesOfDatagram baseLimits p)
+unfoldable pub linesOfDatagramRefusal : ℕ → List ℕ → ℕ
+linesOfDatagramRefusal family p = writtenRefusal (4 * largestOfAll) (linesOfDatagram (limitsOf family) p)
 
-unfoldable pub packetOfFormRefusal : List ℕ → ℕ
-packetOfFormRefusal f = writtenRefusal (baseLimits .largest) (packetOfForm baseLimits f)
+unfoldable pub packetOfFormRefusal : ℕ → List ℕ → ℕ
+packetOfFormRefusal family f = writtenRefusal largestOfAll (packetOfForm (limitsOf family) f)
 
-unfoldable pub writeRefusal : ℕ → ℕ → List ℕ → List ℕ → ℕ
-writeRefusal codec kind imei text = writtenRefusal (baseLimits .largest) (commandBytes baseLimits codec kind imei text)
+unfoldable pub writeRefusal : ℕ → ℕ → ℕ → List ℕ → List ℕ → ℕ
+writeRefusal family codec kind imei text = writtenRefusal largestOfAll (commandBytes (limitsOf family) codec kind imei text)
 
 -- ---- the records of a datagram or a TCP data packet
 
-unfoldable pub contentsHere : Bool → List ℕ → Answer (List ℕ)
-contentsHere udp p = pick udp (contentsOfDatagram baseLimits p) (contentsOfPacket baseLimits p)
+unfoldable pub contentsHere : ℕ → Bool → List ℕ → Answer (List ℕ)
+contentsHere family udp p = pick udp (contentsOfDatagram (limitsOf family) p) (contentsOfPacket (limitsOf family) p)
 
 -- how many records there are, and are said
-unfoldable pub recordsSaid : Bool → List ℕ → ℕ
-recordsSaid udp p = acknowledged (pick udp (payloadOf (readDatagram baseLimits p)) (readPacket baseLimits p))
+unfoldable pub recordsSaid : ℕ → Bool → List ℕ → ℕ
+recordsSaid family udp p = acknowledged (pick udp (payloadOf (readDatagram (limitsOf family) p)) (readPacket (limitsOf family) p))

@@ -13,7 +13,7 @@ use wire::Refusal;
 
 // What a feed told of the bytes `s`, which it used from `at` on, and left in `packet`; the number of
 // the refusal, 0 if none.
-pub fn say_item(item: Item, at: usize, s: &[u8], packet: &[u8]) -> usize
+pub fn say_item(family: usize, item: Item, at: usize, s: &[u8], packet: &[u8]) -> usize
     ensures { λ r. ⌜ r ≡ itemRefusal item .number ⌝ }
 {
     match item {
@@ -26,7 +26,7 @@ pub fn say_item(item: Item, at: usize, s: &[u8], packet: &[u8]) -> usize
         Item::Packet(n) => {
             say_place(at, s.len());
             if n <= packet.len() {
-                say_whole(&packet[0..n]);
+                say_whole(family, &packet[0..n]);
             }
             0
         }
@@ -52,11 +52,11 @@ fn is_command(p: &[u8]) -> bool {
     }
 }
 
-fn say_whole(p: &[u8]) -> usize {
+fn say_whole(family: usize, p: &[u8]) -> usize {
     if is_command(p) {
-        return show_command(p);
+        return show_command(family, p);
     }
-    show_packet(p)
+    show_packet(family, p)
 }
 
 fn refuse_item(s: &[u8], r: Refusal) -> usize

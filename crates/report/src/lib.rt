@@ -5,8 +5,9 @@ mod records;
 
 ghost use mathlib.Core.Path.{_≡_};
 ghost use Prim.Native.Nat.{_≤_};
+ghost use Rattle.wire.specs.Limits.{limitsOf};
 ghost use Rattle.wire.specs.Buffers.{writtenAs};
-ghost use Rattle.report.specs.Shown.{refusalNumber, packetRefusal, datagramRefusal, loginRefusal, commandRefusal, packetOfFormRefusal, formOfPacketRefusal, formOfDatagramRefusal, writeRefusal, connectionRefusal, linesOfPacketRefusal, linesOfDatagramRefusal, earlier, linesRefusal};
+ghost use Rattle.report.specs.Shown.{refusalNumber, packetRefusal, datagramRefusal, loginRefusal, commandRefusal, packetOfFormRefusal, formOfPacketRefusal, formOfDatagramRefusal, writeRefusal, feedsRefusal, connectionRefusal, linesOfPacketRefusal, linesOfDatagramRefusal, earlier, linesRefusal};
 use command::CommandAnswer;
 use command::CommandFields;
 use datagram::DatagramAnswer;
@@ -24,13 +25,13 @@ use say::say_quoted;
 use wire::Refusal;
 use wire::Written;
 
-// The meanings of the refusals, in document 01's words; the first line is 0's, which is none.
+// The meanings of the refusals, in the paper's words; the first line is 0's, which is none.
 fn say_meaning(number: usize) {
     say_line(
         b"\n\
 under 8 bytes (TCP packet), 17 (login), 26 (UDP)\n\
 first four bytes not zero\n\
-data length outside 3 to 1,268; datagram over 1,280\n\
+data length or datagram outside its family's limits\n\
 input length differs from what its length field gives; login over 17 bytes\n\
 CRC field wrong\n\
 codec not one this entry point takes\n\
@@ -44,10 +45,11 @@ message type not allowed for its codec\n\
 text size breaks its rule\n\
 IMEI length or digit wrong\n\
 no such record, element or ID\n\
-not the TLV form of any acceptable TCP data packet\n\
+not the TLV form of any acceptable TCP data packet of the family\n\
 lent buffer too short for the result\n\
 connection closed, or a state that no feeds from a fresh one give\n\
-not a billing line\n",
+not a billing line\n\
+unknown family\n",
         number,
     );
 }
@@ -101,26 +103,26 @@ fn say_counts(codec: u8, count: u8, size: usize, answer: &[u8]) {
     say_hex_line(answer);
 }
 
-pub fn show_packet(p: &[u8]) -> usize
-    ensures { λ r. ⌜ r ≡ packetRefusal (now (p .entry)) ⌝ }
+pub fn show_packet(family: usize, p: &[u8]) -> usize
+    ensures { λ r. ⌜ r ≡ packetRefusal family (now (p .entry)) ⌝ }
 {
-    match packet::read_packet(p) {
+    match packet::read_packet(family, p) {
         PacketAnswer::Refused(r) => refuse_data(r),
         PacketAnswer::Accepted { codec, count } => {
             let mut answer = [0u8; 4];
-            packet::acknowledge_packet(p, &mut answer);
+            packet::acknowledge_packet(family, p, &mut answer);
             say(b"TCP data packet", &[]);
             say_counts(codec, count, p.len(), &answer);
-            say_records(false, codec, p);
+            say_records(family, false, codec, p);
             0
         }
     }
 }
 
-pub fn show_datagram(p: &[u8]) -> usize
-    ensures { λ r. ⌜ r ≡ datagramRefusal (now (p .entry)) ⌝ }
+pub fn show_datagram(family: usize, p: &[u8]) -> usize
+    ensures { λ r. ⌜ r ≡ datagramRefusal family (now (p .entry)) ⌝ }
 {
-    match datagram::read_datagram(p) {
+    match datagram::read_datagram(family, p) {
         DatagramAnswer::Refused(r) => refuse_data(r),
         DatagramAnswer::Accepted {
             codec,
@@ -128,11 +130,11 @@ pub fn show_datagram(p: &[u8]) -> usize
             header,
         } => {
             let mut answer = [0u8; 7];
-            datagram::acknowledge_datagram(p, &mut answer);
+            datagram::acknowledge_datagram(family, p, &mut answer);
             say(b"UDP datagram", &[]);
             say_counts(codec, count, p.len(), &answer);
             say_header(header);
-            say_records(true, codec, p);
+            say_records(family, true, codec, p);
             0
         }
     }
@@ -165,16 +167,16 @@ fn say_imei(imei: u64) {
     );
 }
 
-pub fn show_command(p: &[u8]) -> usize
-    ensures { λ r. ⌜ r ≡ commandRefusal (now (p .entry)) ⌝ }
+pub fn show_command(family: usize, p: &[u8]) -> usize
+    ensures { λ r. ⌜ r ≡ commandRefusal family (now (p .entry)) ⌝ }
 {
-    match command::read_command(p) {
+    match command::read_command(family, p) {
         CommandAnswer::Refused(r) => refuse(r),
         CommandAnswer::Accepted(f) => {
             say(b"TCP command packet, %1 bytes", &[p.len() as u64]);
             say_message(f);
             say(b"text ", &[]);
-            say_quoted(command::command_text(p));
+            say_quoted(command::command_text(family, p));
             say(b"\n", &[]);
             0
         }
@@ -233,9 +235,10 @@ fn say_end(at: usize, fill: usize, wanted: usize)
     );
 }
 
-// A captured connection: fed to a fresh one, item by item, until it is used up or closed.
-pub fn show_connection(p: &[u8]) -> usize
-    ensures { λ r. ⌜ r ≡ connectionRefusal (now (p .entry)) ⌝ }
+// A captured connection: fed to a fresh one of the family, item by item, until it is used up or closed.
+fn show_feeds(family: usize, p: &[u8]) -> usize
+    requires { ⌜ 1 ≤ limitsOf family .largest ⌝ }
+    ensures { λ r. ⌜ r ≡ feedsRefusal family (now (p .entry)) ⌝ }
 {
     let mut held = [0u8; wire::LARGEST];
     let mut packet = [0u8; wire::LARGEST];
@@ -243,10 +246,10 @@ pub fn show_connection(p: &[u8]) -> usize
     let mut fill: usize = 0;
     let mut at: usize = 0;
     while at < p.len() {
-        let fed = connection::feed_lent(phase, fill, &mut held, &p[at..], &mut packet);
+        let fed = connection::feed_lent(family, phase, fill, &mut held, &p[at..], &mut packet);
         let item = fed.item;
         let end = at + fed.used;
-        let number = say_item(item, at, &p[at..end], &packet);
+        let number = say_item(family, item, at, &p[at..end], &packet);
         at = end;
         phase = fed.phase;
         fill = fed.fill;
@@ -255,8 +258,21 @@ pub fn show_connection(p: &[u8]) -> usize
             return number;
         }
     }
-    say_end(at, fill, connection::wanted(phase, fill, &held));
+    say_end(at, fill, connection::wanted(family, phase, fill, &held));
     0
+}
+
+// The same of any family: one that is not known is refused, and nothing is shown.
+pub fn show_connection(family: usize, p: &[u8]) -> usize
+    ensures { λ r. ⌜ r ≡ connectionRefusal family (now (p .entry)) ⌝ }
+{
+    if wire::limits_of(family).largest < 1 {
+        return refuse(Refusal {
+            number: 21,
+            index: 0,
+        });
+    }
+    show_feeds(family, p)
 }
 
 // The first of two refusals, where 0 is none.
@@ -289,16 +305,16 @@ pub fn show_lines(s: &[u8]) -> usize
 }
 
 // The packet that a TLV form stands for.
-pub fn show_form(f: &[u8]) -> usize
-    ensures { λ r. ⌜ r ≡ packetOfFormRefusal (now (f .entry)) ⌝ }
+pub fn show_form(family: usize, f: &[u8]) -> usize
+    ensures { λ r. ⌜ r ≡ packetOfFormRefusal family (now (f .entry)) ⌝ }
 {
     let mut p = [0u8; wire::LARGEST];
-    match rebuild::packet_of_form(f, &mut p) {
+    match rebuild::packet_of_form(family, f, &mut p) {
         Written::Refused(r) => refuse(r),
         Written::Bytes(n) => {
             if n <= p.len() {
                 say(b"TLV form, %1 bytes, of this packet:\n", &[f.len() as u64]);
-                show_packet(&p[0..n]);
+                show_packet(family, &p[0..n]);
             }
             0
         }
@@ -336,53 +352,53 @@ fn say_written_lines(answer: Written, out: &[u8]) -> usize
 }
 
 // The TLV form of a TCP data packet, and of a datagram.
-pub fn say_form_of_packet(p: &[u8]) -> usize
-    ensures { λ r. ⌜ r ≡ formOfPacketRefusal (now (p .entry)) ⌝ }
+pub fn say_form_of_packet(family: usize, p: &[u8]) -> usize
+    ensures { λ r. ⌜ r ≡ formOfPacketRefusal family (now (p .entry)) ⌝ }
 {
     let mut out = [0u8; wire::LARGEST_FORM];
-    let answer = form::form_of_packet(p, &mut out);
+    let answer = form::form_of_packet(family, p, &mut out);
     say_written(answer, &out)
 }
 
-pub fn say_form_of_datagram(p: &[u8]) -> usize
-    ensures { λ r. ⌜ r ≡ formOfDatagramRefusal (now (p .entry)) ⌝ }
+pub fn say_form_of_datagram(family: usize, p: &[u8]) -> usize
+    ensures { λ r. ⌜ r ≡ formOfDatagramRefusal family (now (p .entry)) ⌝ }
 {
     let mut out = [0u8; wire::LARGEST_FORM];
-    let answer = form::form_of_datagram(p, &mut out);
+    let answer = form::form_of_datagram(family, p, &mut out);
     say_written(answer, &out)
 }
 
 // The billing lines of a TCP data packet, and of a datagram: they have at most as many bytes as a TLV form.
-pub fn say_lines_of_packet(p: &[u8]) -> usize
-    ensures { λ r. ⌜ r ≡ linesOfPacketRefusal (now (p .entry)) ⌝ }
+pub fn say_lines_of_packet(family: usize, p: &[u8]) -> usize
+    ensures { λ r. ⌜ r ≡ linesOfPacketRefusal family (now (p .entry)) ⌝ }
 {
     let mut out = [0u8; wire::LARGEST_FORM];
-    let answer = print::lines_of_packet(p, &mut out);
+    let answer = print::lines_of_packet(family, p, &mut out);
     say_written_lines(answer, &out)
 }
 
-pub fn say_lines_of_datagram(p: &[u8]) -> usize
-    ensures { λ r. ⌜ r ≡ linesOfDatagramRefusal (now (p .entry)) ⌝ }
+pub fn say_lines_of_datagram(family: usize, p: &[u8]) -> usize
+    ensures { λ r. ⌜ r ≡ linesOfDatagramRefusal family (now (p .entry)) ⌝ }
 {
     let mut out = [0u8; wire::LARGEST_FORM];
-    let answer = print::lines_of_datagram(p, &mut out);
+    let answer = print::lines_of_datagram(family, p, &mut out);
     say_written_lines(answer, &out)
 }
 
 // The TCP data packet of a TLV form.
-pub fn say_packet_of(f: &[u8]) -> usize
-    ensures { λ r. ⌜ r ≡ packetOfFormRefusal (now (f .entry)) ⌝ }
+pub fn say_packet_of(family: usize, f: &[u8]) -> usize
+    ensures { λ r. ⌜ r ≡ packetOfFormRefusal family (now (f .entry)) ⌝ }
 {
     let mut out = [0u8; wire::LARGEST];
-    let answer = rebuild::packet_of_form(f, &mut out);
+    let answer = rebuild::packet_of_form(family, f, &mut out);
     say_written(answer, &out)
 }
 
 // A command packet.
-pub fn say_command(codec: u8, kind: u8, imei: &[u8], text: &[u8]) -> usize
-    ensures { λ r. ⌜ r ≡ writeRefusal codec kind (now (imei .entry)) (now (text .entry)) ⌝ }
+pub fn say_command(family: usize, codec: u8, kind: u8, imei: &[u8], text: &[u8]) -> usize
+    ensures { λ r. ⌜ r ≡ writeRefusal family codec kind (now (imei .entry)) (now (text .entry)) ⌝ }
 {
     let mut out = [0u8; wire::LARGEST];
-    let answer = command::write_command(codec, kind, imei, text, &mut out);
+    let answer = command::write_command(family, codec, kind, imei, text, &mut out);
     say_written(answer, &out)
 }

@@ -20,24 +20,24 @@ use wire::Refusal;
 use wire::Written;
 
 // All records; how many they are.
-pub fn say_records(udp: bool, codec: u8, p: &[u8]) -> usize
-    ensures { λ r. ⌜ r ≡ recordsSaid udp (now (p .entry)) ⌝ }
+pub fn say_records(family: usize, udp: bool, codec: u8, p: &[u8]) -> usize
+    ensures { λ r. ⌜ r ≡ recordsSaid family udp (now (p .entry)) ⌝ }
 {
     let mut table = [0u64; wire::LARGEST_CONTENTS];
-    match contents_at(udp, p, &mut table) {
+    match contents_at(family, udp, p, &mut table) {
         Written::Refused(_) => 0,
         Written::Bytes(_) => say_rows(codec, p, &table),
     }
 }
 
-fn contents_at(udp: bool, p: &[u8], table: &mut [u64]) -> Written
-    ensures answer { λ r. ⌜ writtenAs r ≡ writing (contentsHere udp (now (p .entry))) (now (table .entry)) ⌝ }
-    ensures buffer { λ r. ⌜ now (table .exit) ≡ leaving (contentsHere udp (now (p .entry))) (now (table .entry)) ⌝ }
+fn contents_at(family: usize, udp: bool, p: &[u8], table: &mut [u64]) -> Written
+    ensures answer { λ r. ⌜ writtenAs r ≡ writing (contentsHere family udp (now (p .entry))) (now (table .entry)) ⌝ }
+    ensures buffer { λ r. ⌜ now (table .exit) ≡ leaving (contentsHere family udp (now (p .entry))) (now (table .entry)) ⌝ }
 {
     if udp {
-        return contents::contents_of_datagram(p, table);
+        return contents::contents_of_datagram(family, p, table);
     }
-    contents::contents_of_packet(p, table)
+    contents::contents_of_packet(family, p, table)
 }
 
 // The records whose words stand behind the packet's two; how many they are.

@@ -8,7 +8,7 @@ ghost use lib.ListN.{length, getD, replicate};
 ghost use Rattle.say.specs.Page.{OnPage};
 ghost use Rattle.say.specs.Rendering.{padded, widthOf, shown, isMark, rendered, isPlain, quotable, quoted};
 ghost use Rattle.say.specs.Lines.{lineLength, lineOf};
-ghost use Rattle.wire.specs.Limits.{baseLimits};
+ghost use Rattle.wire.specs.Limits.{largestOfAll};
 use libc::STDOUT_FILENO;
 
 // ---- a page; each function answers where it goes on
@@ -237,7 +237,7 @@ pub fn say_quoted(s: &[u8]) -> usize
 
 // Bytes as hex text: at most as many as a TLV form has.
 pub fn say_hex(s: &[u8]) -> usize
-    ensures { λ r. ⌜ r ≡ min (2 * length (now (s .entry))) (8 * baseLimits .largest) ⌝ }
+    ensures { λ r. ⌜ r ≡ min (2 * length (now (s .entry))) (8 * largestOfAll) ⌝ }
 {
     let mut digits = [0u8; 2 * wire::LARGEST_FORM];
     let n = text::encode(s, &mut digits);

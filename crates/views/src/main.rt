@@ -1,7 +1,7 @@
 // Answers the calls that give views, one a line on standard input, with a line 'bytes HEX' for each; '-' is no bytes:
-//   view_in_packet HEX RECORD ELEMENT     view_in_datagram HEX RECORD ELEMENT
-//   id_view_in_packet HEX RECORD ID       id_view_in_datagram HEX RECORD ID
-//   last_known_view NEWER OLDER ID        command_text HEX
+//   view_in_packet FAMILY HEX RECORD ELEMENT     view_in_datagram FAMILY HEX RECORD ELEMENT
+//   id_view_in_packet FAMILY HEX RECORD ID       id_view_in_datagram FAMILY HEX RECORD ID
+//   last_known_view FAMILY NEWER OLDER ID        command_text FAMILY HEX
 // A line that cannot be read is answered with 'error', and standard error says why.
 mod words;
 
@@ -47,16 +47,24 @@ fn call_of(w: &[u8]) -> Call {
 // ---- one call
 
 // The view of the call; `older` is the last-known look-up's second packet.
-fn view<'a>(call: Call, p: &'a [u8], older: &'a [u8], n: usize, k: usize, id: u16) -> &'a [u8]
-    ensures { λ r. ⌜ now r ≡ viewAsked call (now (p .entry)) (now (older .entry)) n k id ⌝ }
+fn view<'a>(
+    call: Call,
+    family: usize,
+    p: &'a [u8],
+    older: &'a [u8],
+    n: usize,
+    k: usize,
+    id: u16,
+) -> &'a [u8]
+    ensures { λ r. ⌜ now r ≡ viewAsked call family (now (p .entry)) (now (older .entry)) n k id ⌝ }
 {
     match call {
-        Call::PacketView => lookup::view_in_packet(p, n, k),
-        Call::DatagramView => lookup::view_in_datagram(p, n, k),
-        Call::PacketIdView => lookup::id_view_in_packet(p, n, id),
-        Call::DatagramIdView => lookup::id_view_in_datagram(p, n, id),
-        Call::LastKnownView => lookup::last_known_view(p, older, id),
-        Call::CommandText => command::command_text(p),
+        Call::PacketView => lookup::view_in_packet(family, p, n, k),
+        Call::DatagramView => lookup::view_in_datagram(family, p, n, k),
+        Call::PacketIdView => lookup::id_view_in_packet(family, p, n, id),
+        Call::DatagramIdView => lookup::id_view_in_datagram(family, p, n, id),
+        Call::LastKnownView => lookup::last_known_view(family, p, older, id),
+        Call::CommandText => command::command_text(family, p),
         Call::Unknown => &p[0..0],
     }
 }
@@ -121,15 +129,15 @@ fn say_view(v: &[u8], place: u64) {
 fn words_of(call: Call) -> usize {
     match call {
         Call::Unknown => 0,
-        Call::CommandText => 2,
-        _ => 4,
+        Call::CommandText => 3,
+        _ => 5,
     }
 }
 
 // The second word that is bytes: the older packet; none for every other call.
 fn older_bytes(call: Call, line: &[u8], buf: &mut [u8]) -> Read {
     match call {
-        Call::LastKnownView => words::bytes_of(words::word(line, 2), buf),
+        Call::LastKnownView => words::bytes_of(words::word(line, 3), buf),
         _ => Read::Of(0),
     }
 }
@@ -138,7 +146,7 @@ fn older_bytes(call: Call, line: &[u8], buf: &mut [u8]) -> Read {
 fn record_number(call: Call, line: &[u8]) -> Read {
     match call {
         Call::LastKnownView | Call::CommandText => Read::Of(0),
-        _ => words::number_of(words::word(line, 2), usize::MAX),
+        _ => words::number_of(words::word(line, 3), usize::MAX),
     }
 }
 
@@ -147,9 +155,9 @@ fn last_number(call: Call, line: &[u8]) -> Read {
     match call {
         Call::CommandText => Read::Of(0),
         Call::PacketView | Call::DatagramView => {
-            words::number_of(words::word(line, 3), usize::MAX)
+            words::number_of(words::word(line, 4), usize::MAX)
         }
-        _ => words::number_of(words::word(line, 3), 65535),
+        _ => words::number_of(words::word(line, 4), 65535),
     }
 }
 
@@ -160,16 +168,16 @@ fn id_of(k: usize) -> u16 {
     0
 }
 
-fn answer_with(call: Call, line: &[u8], n: usize, k: usize, place: u64) {
+fn answer_with(call: Call, family: usize, line: &[u8], n: usize, k: usize, place: u64) {
     let mut first = [0u8; 69632];
     let mut second = [0u8; 69632];
-    let a = words::bytes_of(words::word(line, 1), &mut first);
+    let a = words::bytes_of(words::word(line, 2), &mut first);
     let b = older_bytes(call, line, &mut second);
     if let Read::Of(i) = a {
         if let Read::Of(j) = b {
             if i <= first.len() {
                 if j <= second.len() {
-                    let v = view(call, &first[0..i], &second[0..j], n, k, id_of(k));
+                    let v = view(call, family, &first[0..i], &second[0..j], n, k, id_of(k));
                     return say_view(v, place);
                 }
             }
@@ -190,13 +198,16 @@ fn answer_line(line: &[u8], place: u64) {
     if words::count(line) != words {
         return wrong(place, b": not the words of this call\n");
     }
+    let Read::Of(family) = words::number_of(words::word(line, 1), usize::MAX) else {
+        return wrong(place, b": not the number of a family\n");
+    };
     let Read::Of(n) = record_number(call, line) else {
         return wrong(place, b": not the number of a record\n");
     };
     let Read::Of(k) = last_number(call, line) else {
         return wrong(place, b": not the number of an element, or no ID\n");
     };
-    answer_with(call, line, n, k, place)
+    answer_with(call, family, line, n, k, place)
 }
 
 // ---- the input, line by line

@@ -25,15 +25,15 @@ slice-aggregate-say-rows c = search needs
 
 say-rows-requires : tie.Need-say-rows-requires
 unfolding writtenAs
-say-rows-requires c κs = let h = rows-listed (c .before .before .before .before .before .before .before .args .p .now) (getD-bytes (c .before .before .before .before .before .before .before .args .p .now) (λ k. c .before .before .before .before .before .before .shared-slice-known .given k .fits)) (c .before .before .before .before .before .before .before .args .udp) (replicate 640 0) (sym (ap writtenAs (c .before .enum-told2 .given .1)) ∙ c .before .before .before .before .contents-at .ensures .0) (c .before .before .before .before .contents-at .ensures .1) in (omega (arith, c .before .before .before .before .contents-at .kept .1 .1 .0), h .1)
+say-rows-requires c κs = let h = rows-listed (c .before .before .before .before .before .before .before .args .family) (c .before .before .before .before .before .before .before .args .p .now) (getD-bytes (c .before .before .before .before .before .before .before .args .p .now) (λ k. c .before .before .before .before .before .before .shared-slice-known .given k .fits)) (c .before .before .before .before .before .before .before .args .udp) (replicate 640 0) (sym (ap writtenAs (c .before .enum-told2 .given .1)) ∙ c .before .before .before .before .contents-at .ensures .0) (c .before .before .before .before .contents-at .ensures .1) in (omega (arith, c .before .before .before .before .contents-at .kept .1 .1 .1 .0), h .1)
 
 returns : tie.Need-returns
 unfolding writtenAs
-returns c = none-listed (c .before .before .before .before .before .before .args .p .now) (getD-bytes (c .before .before .before .before .before .before .args .p .now) (λ k. c .before .before .before .before .before .shared-slice-known .given k .fits)) (c .before .before .before .before .before .before .args .udp) (replicate 640 0) refl (sym (ap writtenAs (c .enum-told .given .1)) ∙ c .before .before .before .contents-at .ensures .0)
+returns c = none-listed (c .before .before .before .before .before .before .args .family) (c .before .before .before .before .before .before .args .p .now) (getD-bytes (c .before .before .before .before .before .before .args .p .now) (λ k. c .before .before .before .before .before .shared-slice-known .given k .fits)) (c .before .before .before .before .before .before .args .udp) (replicate 640 0) refl (sym (ap writtenAs (c .enum-told .given .1)) ∙ c .before .before .before .contents-at .ensures .0)
 
 returns-2 : tie.Need-returns-2
 unfolding writtenAs
-returns-2 c = let h = rows-listed (c .before .before .before .before .before .before .before .before .args .p .now) (getD-bytes (c .before .before .before .before .before .before .before .before .args .p .now) (λ k. c .before .before .before .before .before .before .before .shared-slice-known .given k .fits)) (c .before .before .before .before .before .before .before .before .args .udp) (replicate 640 0) (sym (ap writtenAs (c .before .before .enum-told2 .given .1)) ∙ c .before .before .before .before .before .contents-at .ensures .0) (c .before .before .before .before .before .contents-at .ensures .1) in c .say-rows .ensures ∙ h .0
+returns-2 c = let h = rows-listed (c .before .before .before .before .before .before .before .before .args .family) (c .before .before .before .before .before .before .before .before .args .p .now) (getD-bytes (c .before .before .before .before .before .before .before .before .args .p .now) (λ k. c .before .before .before .before .before .before .before .shared-slice-known .given k .fits)) (c .before .before .before .before .before .before .before .before .args .udp) (replicate 640 0) (sym (ap writtenAs (c .before .before .enum-told2 .given .1)) ∙ c .before .before .before .before .before .contents-at .ensures .0) (c .before .before .before .before .before .contents-at .ensures .1) in c .say-rows .ensures ∙ h .0
 
 pub say-records-spec : {M : Type 1} → statement M
 say-records-spec =
