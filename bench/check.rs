@@ -3,20 +3,23 @@
 use crate::hand::Connection;
 use crate::input::{self, Random};
 use crate::library::{Sum, Taken};
-use crate::{combinator, crcs, hand, library, CODECS, SIZES};
-use brundilope::Contents;
+use crate::{combinator, crcs, hand, library, CODECS, FAMILY, SIZES};
+use brundilope::{Contents, Family};
 use std::fmt::Debug;
+
+/// Packet sizes around the limit of family 1.
+const AROUND_512: (usize, usize) = (504, 516);
 
 #[derive(Default)]
 pub struct Check {
     pub compared: usize,
-    pub refusals: [usize; 21],
+    pub refusals: [usize; 22],
     room: Contents,
 }
 
 impl Check {
     fn note(&mut self, number: usize) {
-        self.refusals[number.min(20)] += 1;
+        self.refusals[number.min(21)] += 1;
     }
 
     /// Stops if an answer differs from the library's.
@@ -29,6 +32,14 @@ impl Check {
             }
             std::process::exit(1);
         }
+    }
+}
+
+/// A family, now and then an unknown one.
+fn any_family(random: &mut Random) -> usize {
+    match random.below(20) {
+        0 => [0, 3, 257, 258, usize::MAX][random.below(5)],
+        n => 1 + n % 2,
     }
 }
 
@@ -78,41 +89,42 @@ macro_rules! written {
 
 /// The lines of a packet or datagram, all or that of one record, in rooms that are long enough, and such as are not.
 macro_rules! check_lines {
-    ($c:expr, $random:expr, $p:expr, $record:expr, $one:ident, $all:ident) => {{
-        let (c, random, p, record) = (&mut *$c, &mut *$random, $p, $record);
-        let need = written!(c, $one(p, record), 6000, hand);
+    ($c:expr, $random:expr, $family:expr, $p:expr, $record:expr, $one:ident, $all:ident) => {{
+        let (c, random, family, p, record) = (&mut *$c, &mut *$random, $family, $p, $record);
+        let need = written!(c, $one(family, p, record), 6000, hand);
         if need > 0 {
-            written!(c, $one(p, record), random.range(need - 1, need + 1), hand);
+            written!(c, $one(family, p, record), random.range(need - 1, need + 1), hand);
         }
-        let need = written!(c, $all(p), 6000, hand);
+        let need = written!(c, $all(family, p), 6000, hand);
         if need > 0 {
-            written!(c, $all(p), random.range(need - 1, need + 1), hand);
-            written!(c, $all(p), random.below(need), hand);
+            written!(c, $all(family, p), random.range(need - 1, need + 1), hand);
+            written!(c, $all(family, p), random.below(need), hand);
         }
     }};
 }
 
-/// All calls on one TCP input.
+/// All calls on one TCP input, in some family.
 fn check_tcp(c: &mut Check, random: &mut Random, p: &[u8]) {
-    same!(c, read_packet(p));
-    same!(c, read_command(p));
-    same!(c, sum_of_packet(p), Sum::from(library::sum_of_packet(p, &mut c.room)));
-    written!(c, acknowledge_packet(p), random.below(9), hand);
+    let family = any_family(random);
+    same!(c, read_packet(family, p));
+    same!(c, read_command(family, p));
+    same!(c, sum_of_packet(family, p), Sum::from(library::sum_of_packet(family, p, &mut c.room)));
+    written!(c, acknowledge_packet(family, p), random.below(9), hand);
     let record = random.below(6).wrapping_sub(random.below(20) / 19);
     let element = random.below(30).wrapping_sub(random.below(20) / 19);
     let id = random.below(260) as u16;
-    same!(c, record_in_packet(p, record));
-    same!(c, value_in_packet(p, record, element));
-    same!(c, id_in_packet(p, record, id));
+    same!(c, record_in_packet(family, p, record));
+    same!(c, value_in_packet(family, p, record, element));
+    same!(c, id_in_packet(family, p, record, id));
     // an ID that is there, if there is one
-    if let Ok(v) = hand::value_in_packet(p, record, element) {
-        same!(c, id_in_packet(p, record, v.id));
+    if let Ok(v) = hand::value_in_packet(family, p, record, element) {
+        same!(c, id_in_packet(family, p, record, v.id));
     }
-    check_lines!(c, random, p, record, line_of_packet, lines_of_packet);
-    let need = written!(c, form_of_packet(p), 6000, hand, combinator);
+    check_lines!(c, random, family, p, record, line_of_packet, lines_of_packet);
+    let need = written!(c, form_of_packet(family, p), 6000, hand, combinator);
     if need > 0 {
-        written!(c, form_of_packet(p), random.range(need - 1, need + 1), hand, combinator);
-        written!(c, form_of_packet(p), random.below(need), hand, combinator);
+        written!(c, form_of_packet(family, p), random.range(need - 1, need + 1), hand, combinator);
+        written!(c, form_of_packet(family, p), random.below(need), hand, combinator);
     }
 }
 
@@ -133,7 +145,7 @@ fn check_line(c: &mut Check, random: &mut Random, line: &[u8]) {
 /// The lines of a packet: written by both, and again without judging; each read.
 fn check_read(c: &mut Check, random: &mut Random, packet: &[u8]) {
     let (mut a, mut b) = ([0xA5u8; 6000], [0xA5u8; 6000]);
-    let library = library::lines_of_packet(packet, &mut a);
+    let library = library::lines_of_packet(FAMILY, packet, &mut a);
     if library.number != 0 {
         return;
     }
@@ -144,40 +156,42 @@ fn check_read(c: &mut Check, random: &mut Random, packet: &[u8]) {
     }
 }
 
-/// All calls on one datagram.
+/// All calls on one datagram, in some family.
 fn check_udp(c: &mut Check, random: &mut Random, p: &[u8]) {
-    same!(c, read_datagram(p));
-    same!(c, sum_of_datagram(p), Sum::from(library::sum_of_datagram(p, &mut c.room)));
-    written!(c, acknowledge_datagram(p), random.below(12), hand);
+    let family = any_family(random);
+    same!(c, read_datagram(family, p));
+    same!(c, sum_of_datagram(family, p), Sum::from(library::sum_of_datagram(family, p, &mut c.room)));
+    written!(c, acknowledge_datagram(family, p), random.below(12), hand);
     let (record, element) = (random.below(6), random.below(30));
     let id = random.below(260) as u16;
-    same!(c, record_in_datagram(p, record));
-    same!(c, value_in_datagram(p, record, element));
-    same!(c, id_in_datagram(p, record, id));
-    if let Ok(v) = hand::value_in_datagram(p, record, element) {
-        same!(c, id_in_datagram(p, record, v.id));
+    same!(c, record_in_datagram(family, p, record));
+    same!(c, value_in_datagram(family, p, record, element));
+    same!(c, id_in_datagram(family, p, record, id));
+    if let Ok(v) = hand::value_in_datagram(family, p, record, element) {
+        same!(c, id_in_datagram(family, p, record, v.id));
     }
-    check_lines!(c, random, p, record, line_of_datagram, lines_of_datagram);
-    let need = written!(c, form_of_datagram(p), 6000, hand, combinator);
+    check_lines!(c, random, family, p, record, line_of_datagram, lines_of_datagram);
+    let need = written!(c, form_of_datagram(family, p), 6000, hand, combinator);
     if need > 0 {
-        written!(c, form_of_datagram(p), random.range(need - 1, need + 1), hand, combinator);
+        written!(c, form_of_datagram(family, p), random.range(need - 1, need + 1), hand, combinator);
     }
 }
 
 fn check_form(c: &mut Check, random: &mut Random, form: &[u8]) {
-    let need = written!(c, packet_of_form(form), 1400, hand, combinator);
+    let family = any_family(random);
+    let need = written!(c, packet_of_form(family, form), 1400, hand, combinator);
     if need > 0 {
-        written!(c, packet_of_form(form), random.range(need - 1, need + 1), hand, combinator);
+        written!(c, packet_of_form(family, form), random.range(need - 1, need + 1), hand, combinator);
     }
 }
 
 /// The form of a packet, back into the packet, and damaged.
 fn check_forms(c: &mut Check, random: &mut Random, packet: &[u8]) {
     let mut form = vec![0; 6000];
-    let Ok(n) = hand::form_of_packet(packet, &mut form) else { return };
+    let Ok(n) = hand::form_of_packet(FAMILY, packet, &mut form) else { return };
     form.truncate(n);
     let mut back = vec![0; 1400];
-    let n = hand::packet_of_form(&form, &mut back).unwrap_or(0);
+    let n = hand::packet_of_form(FAMILY, &form, &mut back).unwrap_or(0);
     c.same("packet_of_form", "the packet", &&back[..n], &packet, &[&form]);
     check_form(c, random, &form);
     for _ in 0..120 {
@@ -190,20 +204,21 @@ fn check_forms(c: &mut Check, random: &mut Random, packet: &[u8]) {
 fn check_last_known(c: &mut Check, random: &mut Random, newer: &[u8], codec: u8) {
     let mut older = input::tcp(&input::data(random, codec, 60, 600, 160).bytes);
     for _ in 0..30 {
-        let id = random.below(260) as u16;
-        same!(c, last_known(newer, &older, id));
-        same!(c, last_known(&older, newer, id));
+        let (family, id) = (any_family(random), random.below(260) as u16);
+        same!(c, last_known(family, newer, &older, id));
+        same!(c, last_known(family, &older, newer, id));
     }
     input::damage(random, &mut older);
-    same!(c, last_known(newer, &older, 300));
-    same!(c, last_known(&older, newer, 300));
+    let family = any_family(random);
+    same!(c, last_known(family, newer, &older, 300));
+    same!(c, last_known(family, &older, newer, 300));
 }
 
 /// A data field as packet and datagram, whole and damaged; records of up to `most` bytes.
 fn check_data(c: &mut Check, random: &mut Random, codec: u8, (from, to): (usize, usize), most: usize) {
     let data = input::data(random, codec, from - 12, to - 12, most).bytes;
     let whole = input::tcp(&data);
-    assert!(most > 255 || hand::read_packet(&whole).is_ok());
+    assert!(hand::read_packet(FAMILY, &whole).is_ok());
     check_tcp(c, random, &whole);
     let small = if data.len() <= 1257 { data.clone() } else { input::data(random, codec, 1250, 1257, most).bytes };
     let gram = input::udp(random, &small);
@@ -256,15 +271,17 @@ fn check_write(c: &mut Check, random: &mut Random) {
         let at = random.below(size);
         imei[at] = [b'/', b':', 0, 255][random.below(4)];
     }
+    let family = any_family(random);
     let size = match random.below(4) {
         0 => 0,
         1 => random.range(1250, 1265),
+        2 => random.range(482, 497),
         _ => random.below(1300),
     };
     let text = random.bytes(size);
-    let need = written!(c, write_command(codec, kind, &imei, &text), 1400, hand);
+    let need = written!(c, write_command(family, codec, kind, &imei, &text), 1400, hand);
     if need > 0 {
-        written!(c, write_command(codec, kind, &imei, &text), random.range(need - 1, need + 1), hand);
+        written!(c, write_command(family, codec, kind, &imei, &text), random.range(need - 1, need + 1), hand);
     }
 }
 
@@ -278,8 +295,8 @@ fn check_login(c: &mut Check, random: &mut Random, damaged: bool, known: bool) {
 }
 
 /// A connection fed in pieces of at most so many bytes, until it is closed: answers, packets and what is held.
-fn check_feeds(c: &mut Check, random: &mut Random, mut stream: &[u8], most: usize) {
-    let (mut value, mut lent, mut hand) = (Connection::FRESH, Connection::FRESH, Connection::FRESH);
+fn check_feeds(c: &mut Check, random: &mut Random, family: u8, mut stream: &[u8], most: usize) {
+    let [mut value, mut lent, mut hand] = [Connection::fresh(family); 3];
     let mut number = 0;
     while number != 19 && !stream.is_empty() {
         let piece = &stream[..random.below(most + 1).min(stream.len())];
@@ -294,6 +311,7 @@ fn check_feeds(c: &mut Check, random: &mut Random, mut stream: &[u8], most: usiz
         c.same("feed_lent", "by value", &library, &Taken::from(&fed), &[&piece]);
         c.same("feed_lent", "by value, packet", &&a[..library.size], &&fed.packet[..fed.size], &[&piece]);
         c.same("feed_lent", "by value, held", &lent.held, &fed.state.held, &[&piece]);
+        c.same("feed", "family", &fed.state.family, &family, &[&piece]);
         c.same("feed", "bytes behind", &fed.packet[fed.size..].iter().all(|&x| x == 0), &true, &[&piece]);
         value = fed.state;
         number = library.number;
@@ -319,16 +337,18 @@ fn check_connection(c: &mut Check, random: &mut Random, damaged: usize) {
         input::damage(random, &mut stream);
     }
     let most = [1, 7, 100, 1500, 9000][random.below(5)];
-    check_feeds(c, random, &stream, most);
-    let library = Sum::from(library::sum_of_stream(&stream, most, &mut brundilope::Connection::new()));
-    let mut state = Connection::FRESH;
+    let family = any_family(random) as u8;
+    check_feeds(c, random, family, &stream, most);
+    let Ok(known) = Family::try_from(family) else { return };
+    let library = Sum::from(library::sum_of_stream(&stream, most, &mut brundilope::Connection::new(known)));
+    let mut state = Connection::fresh(family);
     let other = hand::sum_of_stream(&stream, most, &mut state, &mut [0; 1280]);
     c.same("sum_of_stream", "hand", &library, &other.into(), &[&stream]);
 }
 
 /// Inputs of a few bytes, and heads alone.
 fn check_short(c: &mut Check, random: &mut Random, size: usize) {
-    for length in [0, 2, 3, 4, 1267, 1268, 1269, 1 << 24] {
+    for length in [0, 2, 3, 4, 500, 501, 1267, 1268, 1269, 1 << 24] {
         let mut p = vec![0; 4];
         p.extend((length as u32).to_be_bytes());
         p.resize(size, 0);
@@ -376,10 +396,10 @@ pub fn check(random: &mut Random) -> Check {
     let mut c = Check::default();
     check_crcs(&mut c, &mut Random(1));
     for (codec, _) in CODECS {
-        for size in SIZES {
+        for size in SIZES.into_iter().chain([AROUND_512]) {
             for round in 0..40 {
                 // with and without records over 255 bytes
-                check_data(&mut c, random, codec, size, [160, 255, 255, 270][round % 4]);
+                check_data(&mut c, random, codec, size, [160, 255, 270, 600][round % 4]);
             }
         }
     }

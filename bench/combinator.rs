@@ -3,8 +3,8 @@
 //! into owned records, as nom's users write it.
 
 use crate::hand::{
-    crc, fixed_entries, no, record_entry, sum_of_bytes, sum_of_fields, variable_entry, write_packet, Answer, Codec,
-    Codec16, Codec8, Codec8E, Command, Datagram, FormSums, Packet, Record, Refusal, Value,
+    crc, fixed_entries, limits_of, no, record_entry, sum_of_bytes, sum_of_fields, variable_entry, write_packet, Answer,
+    Codec, Codec16, Codec8, Codec8E, Command, Datagram, FormSums, Limits, Packet, Record, Refusal, Value,
 };
 use nom::bytes::complete::{tag, take};
 use nom::combinator::{all_consuming, iterator, map, recognize, verify};
@@ -64,10 +64,10 @@ fn number<'a>(width: usize) -> impl Fn(&'a [u8]) -> Read<'a, u16> {
 // ---- heads
 
 /// The data field of a TCP packet.
-fn frame(p: &[u8]) -> Read<'_, &[u8]> {
+fn frame(limits: Limits, p: &[u8]) -> Read<'_, &[u8]> {
     let (rest, head) = refused(1, take(8usize))(p)?;
     let (length, _) = refused(2, tag([0; 4]))(head)?;
-    let (_, length) = refused(3, verify(be_u32, |n| (3..=1268).contains(n)))(length)?;
+    let (_, length) = refused(3, verify(be_u32, |&n| (3..=limits.packet - 12).contains(&(n as usize))))(length)?;
     let (_, (data, field)) = refused(4, all_consuming(pair(take(length), be_u32)))(rest)?;
     if field != u32::from(crc(data)) {
         return Err(Err::Error(no(5)));
@@ -85,9 +85,9 @@ fn imei(i: &[u8]) -> Read<'_, u64> {
 }
 
 /// The head of a datagram, and its data field.
-fn datagram(p: &[u8]) -> Read<'_, Datagram> {
+fn datagram(limits: Limits, p: &[u8]) -> Read<'_, Datagram> {
     refused(1, take(26usize))(p)?;
-    if p.len() > 1280 {
+    if p.len() > limits.datagram {
         return Err(Err::Error(no(3)));
     }
     let size = p.len() - 2;
@@ -155,7 +155,7 @@ fn variable<'a, C: Codec>(i: &'a [u8]) -> Read<'a, Group<'a>> {
     map(recognize(elements), move |bytes| Group { count, bytes })(rest)
 }
 
-fn record<C: Codec>(i: &[u8]) -> Read<'_, Judged<'_>> {
+fn record<C: Codec>(limits: Limits, i: &[u8]) -> Read<'_, Judged<'_>> {
     let (rest, mut fields) = fields::<C>(i)?;
     let (rest, total) = map(number(C::COUNT), usize::from)(rest)?;
     let groups = tuple((group::<C>(1), group::<C>(2), group::<C>(4), group::<C>(8)));
@@ -163,16 +163,16 @@ fn record<C: Codec>(i: &[u8]) -> Read<'_, Judged<'_>> {
     let none = Group { count: 0, bytes: &[] };
     let (rest, variable) = if C::VARIABLE { variable::<C>(rest)? } else { (rest, none) };
     fields.elements = fixed.iter().map(|g| g.count).sum::<usize>() + variable.count;
-    ended(i.offset(rest), fields.elements, total)?;
+    ended(limits, i.offset(rest), fields.elements, total)?;
     Ok((rest, Judged { fields, fixed, variable, id: C::ID }))
 }
 
 /// The rules at a record's end: so many bytes, so many elements, and so many by its total.
-fn ended(size: usize, elements: usize, total: usize) -> Result<(), Err<Refusal>> {
+fn ended(limits: Limits, size: usize, elements: usize, total: usize) -> Result<(), Err<Refusal>> {
     if elements != total {
         return Err(Err::Error(no(9)));
     }
-    if size > 255 {
+    if size > limits.record {
         return Err(Err::Error(no(12)));
     }
     Ok(())
@@ -180,20 +180,25 @@ fn ended(size: usize, elements: usize, total: usize) -> Result<(), Err<Refusal>>
 
 /// What a record is parsed into.
 trait Parsed<'a>: Sized {
-    fn parse<C: Codec>(i: &'a [u8]) -> Read<'a, Self>;
+    fn parse<C: Codec>(limits: Limits, i: &'a [u8]) -> Read<'a, Self>;
 }
 
 impl<'a> Parsed<'a> for Judged<'a> {
     #[inline]
-    fn parse<C: Codec>(i: &'a [u8]) -> Read<'a, Self> {
-        record::<C>(i)
+    fn parse<C: Codec>(limits: Limits, i: &'a [u8]) -> Read<'a, Self> {
+        record::<C>(limits, i)
     }
 }
 
-fn records<'a, C: Codec, R: Parsed<'a>>(body: &'a [u8], count: u8, mut visit: impl FnMut(usize, R)) -> Answer<()> {
+fn records<'a, C: Codec, R: Parsed<'a>>(
+    limits: Limits,
+    body: &'a [u8],
+    count: u8,
+    mut visit: impl FnMut(usize, R),
+) -> Answer<()> {
     let mut rest = body;
     for index in 0..usize::from(count) {
-        let (after, record) = R::parse::<C>(rest).map_err(|e| Refusal { index, ..e.into() })?;
+        let (after, record) = R::parse::<C>(limits, rest).map_err(|e| Refusal { index, ..e.into() })?;
         visit(index, record);
         rest = after;
     }
@@ -204,15 +209,15 @@ fn records<'a, C: Codec, R: Parsed<'a>>(body: &'a [u8], count: u8, mut visit: im
 }
 
 /// Judges a data field of at least three bytes.
-fn judge<'a, R: Parsed<'a>>(data: &'a [u8], visit: impl FnMut(usize, R)) -> Answer<Packet> {
+fn judge<'a, R: Parsed<'a>>(limits: Limits, data: &'a [u8], visit: impl FnMut(usize, R)) -> Answer<Packet> {
     let (rest, codec) = ruled(6, be_u8, |c| matches!(c, 0x08 | 0x8E | 0x10))(data)?;
     let (rest, count): (_, u8) = ruled(7, be_u8, |&n| n != 0)(rest)?;
     let (last, body) = take::<_, _, Refusal>(rest.len() - 1)(rest)?;
     ruled(7, be_u8, |&n| n == count)(last)?;
     match codec {
-        0x08 => records::<Codec8, R>(body, count, visit)?,
-        0x8E => records::<Codec8E, R>(body, count, visit)?,
-        _ => records::<Codec16, R>(body, count, visit)?,
+        0x08 => records::<Codec8, R>(limits, body, count, visit)?,
+        0x8E => records::<Codec8E, R>(limits, body, count, visit)?,
+        _ => records::<Codec16, R>(limits, body, count, visit)?,
     }
     Ok(Packet { codec, count })
 }
@@ -220,14 +225,16 @@ fn judge<'a, R: Parsed<'a>>(data: &'a [u8], visit: impl FnMut(usize, R)) -> Answ
 // ---- reading
 
 #[inline(never)]
-pub fn read_packet(p: &[u8]) -> Answer<Packet> {
-    judge::<Judged>(frame(p)?.1, |_, _| {})
+pub fn read_packet(family: usize, p: &[u8]) -> Answer<Packet> {
+    let limits = limits_of(family)?;
+    judge::<Judged>(limits, frame(limits, p)?.1, |_, _| {})
 }
 
 #[inline(never)]
-pub fn read_datagram(p: &[u8]) -> Answer<Datagram> {
-    let (data, head) = datagram(p)?;
-    let Packet { codec, count } = judge::<Judged>(data, |_, _| {})?;
+pub fn read_datagram(family: usize, p: &[u8]) -> Answer<Datagram> {
+    let limits = limits_of(family)?;
+    let (data, head) = datagram(limits, p)?;
+    let Packet { codec, count } = judge::<Judged>(limits, data, |_, _| {})?;
     Ok(Datagram { codec, count, ..head })
 }
 
@@ -247,8 +254,8 @@ fn two_digits(i: &[u8]) -> Read<'_, u64> {
 }
 
 #[inline(never)]
-pub fn read_command(p: &[u8]) -> Answer<Command> {
-    let (_, data) = frame(p)?;
+pub fn read_command(family: usize, p: &[u8]) -> Answer<Command> {
+    let (_, data) = frame(limits_of(family)?, p)?;
     let (rest, codec) = ruled(6, be_u8, |&c| c == 0x0C || c == 0x0E)(data)?;
     let (rest, _) = refused(7, tag([1]))(rest)?;
     let (last, body) = take::<_, _, Refusal>(rest.len() - 1)(rest)?;
@@ -271,9 +278,9 @@ pub fn read_command(p: &[u8]) -> Answer<Command> {
 // ---- looking up
 
 /// Judges the data field, and gives the wanted record.
-fn find(data: &[u8], record: usize) -> Answer<Judged<'_>> {
+fn find(limits: Limits, data: &[u8], record: usize) -> Answer<Judged<'_>> {
     let mut found = None;
-    judge(data, |index, judged| {
+    judge(limits, data, |index, judged| {
         if index == record {
             found = Some(judged);
         }
@@ -319,48 +326,55 @@ fn placed(p: &[u8], (id, kind, value): Element) -> Value {
 }
 
 #[inline(never)]
-pub fn record_in_packet(p: &[u8], record: usize) -> Answer<Record> {
-    Ok(find(frame(p)?.1, record)?.fields)
+pub fn record_in_packet(family: usize, p: &[u8], record: usize) -> Answer<Record> {
+    let limits = limits_of(family)?;
+    Ok(find(limits, frame(limits, p)?.1, record)?.fields)
 }
 
 #[inline(never)]
-pub fn record_in_datagram(p: &[u8], record: usize) -> Answer<Record> {
-    Ok(find(datagram(p)?.0, record)?.fields)
+pub fn record_in_datagram(family: usize, p: &[u8], record: usize) -> Answer<Record> {
+    let limits = limits_of(family)?;
+    Ok(find(limits, datagram(limits, p)?.0, record)?.fields)
 }
 
 #[inline(never)]
-pub fn value_in_packet(p: &[u8], record: usize, element: usize) -> Answer<Value> {
-    Ok(placed(p, by_number(&find(frame(p)?.1, record)?, element)?))
+pub fn value_in_packet(family: usize, p: &[u8], record: usize, element: usize) -> Answer<Value> {
+    let limits = limits_of(family)?;
+    Ok(placed(p, by_number(&find(limits, frame(limits, p)?.1, record)?, element)?))
 }
 
 #[inline(never)]
-pub fn value_in_datagram(p: &[u8], record: usize, element: usize) -> Answer<Value> {
-    Ok(placed(p, by_number(&find(datagram(p)?.0, record)?, element)?))
+pub fn value_in_datagram(family: usize, p: &[u8], record: usize, element: usize) -> Answer<Value> {
+    let limits = limits_of(family)?;
+    Ok(placed(p, by_number(&find(limits, datagram(limits, p)?.0, record)?, element)?))
 }
 
 #[inline(never)]
-pub fn id_in_packet(p: &[u8], record: usize, id: u16) -> Answer<Value> {
-    Ok(placed(p, by_id(&find(frame(p)?.1, record)?, id)?))
+pub fn id_in_packet(family: usize, p: &[u8], record: usize, id: u16) -> Answer<Value> {
+    let limits = limits_of(family)?;
+    Ok(placed(p, by_id(&find(limits, frame(limits, p)?.1, record)?, id)?))
 }
 
 #[inline(never)]
-pub fn id_in_datagram(p: &[u8], record: usize, id: u16) -> Answer<Value> {
-    Ok(placed(p, by_id(&find(datagram(p)?.0, record)?, id)?))
+pub fn id_in_datagram(family: usize, p: &[u8], record: usize, id: u16) -> Answer<Value> {
+    let limits = limits_of(family)?;
+    Ok(placed(p, by_id(&find(limits, datagram(limits, p)?.0, record)?, id)?))
 }
 
 /// The last record of a TCP data packet.
-fn last(p: &[u8]) -> Answer<Judged<'_>> {
+fn last(limits: Limits, p: &[u8]) -> Answer<Judged<'_>> {
     let mut found = None;
-    judge(frame(p)?.1, |_, judged| found = Some(judged))?;
+    judge(limits, frame(limits, p)?.1, |_, judged| found = Some(judged))?;
     found.ok_or(no(16))
 }
 
 #[inline(never)]
-pub fn last_known(newer: &[u8], older: &[u8], id: u16) -> Answer<(bool, Value)> {
-    if let Ok(element) = by_id(&last(newer)?, id) {
+pub fn last_known(family: usize, newer: &[u8], older: &[u8], id: u16) -> Answer<(bool, Value)> {
+    let limits = limits_of(family)?;
+    if let Ok(element) = by_id(&last(limits, newer)?, id) {
         return Ok((false, placed(newer, element)));
     }
-    Ok((true, placed(older, by_id(&last(older)?, id)?)))
+    Ok((true, placed(older, by_id(&last(limits, older)?, id)?)))
 }
 
 // ---- all values, in owned records
@@ -394,7 +408,7 @@ fn owned_variable<C: Codec>(i: &[u8]) -> Read<'_, Vec<OwnedElement>> {
 }
 
 impl<'a> Parsed<'a> for OwnedRecord {
-    fn parse<C: Codec>(i: &'a [u8]) -> Read<'a, Self> {
+    fn parse<C: Codec>(limits: Limits, i: &'a [u8]) -> Read<'a, Self> {
         let (rest, fields) = fields::<C>(i)?;
         let (rest, total) = map(number(C::COUNT), usize::from)(rest)?;
         let (rest, (one, two, four, eight)) = tuple((
@@ -405,14 +419,14 @@ impl<'a> Parsed<'a> for OwnedRecord {
         ))(rest)?;
         let (rest, variable) = if C::VARIABLE { owned_variable::<C>(rest)? } else { (rest, vec![]) };
         let elements: Vec<_> = [one, two, four, eight, variable].into_iter().flatten().collect();
-        ended(i.offset(rest), elements.len(), total)?;
+        ended(limits, i.offset(rest), elements.len(), total)?;
         Ok((rest, OwnedRecord { fields, elements }))
     }
 }
 
-fn sum_of(data: &[u8]) -> Answer<u64> {
+fn sum_of(limits: Limits, data: &[u8]) -> Answer<u64> {
     let mut records: Vec<OwnedRecord> = vec![];
-    judge(data, |_, r| records.push(r))?;
+    judge(limits, data, |_, r| records.push(r))?;
     let mut sum = 0u64;
     for r in &records {
         sum = sum.wrapping_add(sum_of_fields(r.fields.timestamp, r.fields.longitude, r.fields.latitude));
@@ -428,13 +442,15 @@ fn sum_of(data: &[u8]) -> Answer<u64> {
 }
 
 #[inline(never)]
-pub fn sum_of_packet(p: &[u8]) -> Answer<u64> {
-    sum_of(frame(p)?.1)
+pub fn sum_of_packet(family: usize, p: &[u8]) -> Answer<u64> {
+    let limits = limits_of(family)?;
+    sum_of(limits, frame(limits, p)?.1)
 }
 
 #[inline(never)]
-pub fn sum_of_datagram(p: &[u8]) -> Answer<u64> {
-    sum_of(datagram(p)?.0)
+pub fn sum_of_datagram(family: usize, p: &[u8]) -> Answer<u64> {
+    let limits = limits_of(family)?;
+    sum_of(limits, datagram(limits, p)?.0)
 }
 
 // ---- TLV forms
@@ -462,26 +478,28 @@ fn write_entries<'o>(r: &Judged, out: &'o mut [u8]) -> Option<&'o mut [u8]> {
     Some(rest)
 }
 
-fn form_of(data: &[u8], out: &mut [u8]) -> Answer<usize> {
+fn form_of(limits: Limits, data: &[u8], out: &mut [u8]) -> Answer<usize> {
     let mut need = 5;
-    let packet = judge(data, |_, r| need += form_size(&r))?;
+    let packet = judge(limits, data, |_, r| need += form_size(&r))?;
     let Some(out) = out.get_mut(..need) else {
         return Err(no(18));
     };
     out[..5].copy_from_slice(&[1, 0, 100, 0, packet.codec]);
     let mut rest = Some(&mut out[5..]);
-    judge(data, |_, r| rest = rest.take().and_then(|space| write_entries(&r, space)))?;
+    judge(limits, data, |_, r| rest = rest.take().and_then(|space| write_entries(&r, space)))?;
     Ok(need)
 }
 
 #[inline(never)]
-pub fn form_of_packet(p: &[u8], out: &mut [u8]) -> Answer<usize> {
-    form_of(frame(p)?.1, out)
+pub fn form_of_packet(family: usize, p: &[u8], out: &mut [u8]) -> Answer<usize> {
+    let limits = limits_of(family)?;
+    form_of(limits, frame(limits, p)?.1, out)
 }
 
 #[inline(never)]
-pub fn form_of_datagram(p: &[u8], out: &mut [u8]) -> Answer<usize> {
-    form_of(datagram(p)?.0, out)
+pub fn form_of_datagram(family: usize, p: &[u8], out: &mut [u8]) -> Answer<usize> {
+    let limits = limits_of(family)?;
+    form_of(limits, datagram(limits, p)?.0, out)
 }
 
 /// An entry of a form: its kind and body.
@@ -490,20 +508,22 @@ fn entry(i: &[u8]) -> Read<'_, (u16, &[u8])> {
     pair(le_u16, take(length))(rest)
 }
 
-fn judge_form<C: Codec>(entries: &[u8]) -> Option<(u8, usize)> {
+fn judge_form<C: Codec>(limits: Limits, entries: &[u8]) -> Option<(u8, usize)> {
     let mut all = iterator(entries, entry);
-    let sums = (&mut all).try_fold(FormSums::START, |sums, (kind, body)| sums.with::<C>(usize::from(kind), body))?;
+    let with = |sums: FormSums, (kind, body): (u16, &[u8])| sums.with::<C>(limits, usize::from(kind), body);
+    let sums = (&mut all).try_fold(FormSums::START, with)?;
     let (rest, ()) = all.finish().ok()?;
     sums.packet().filter(|_| rest.is_empty())
 }
 
 #[inline(never)]
-pub fn packet_of_form(form: &[u8], out: &mut [u8]) -> Answer<usize> {
+pub fn packet_of_form(family: usize, form: &[u8], out: &mut [u8]) -> Answer<usize> {
+    let limits = limits_of(family)?;
     let (entries, codec) = refused(17, preceded(tag([1, 0, 100, 0]), be_u8))(form)?;
     let judged = match codec {
-        0x08 => judge_form::<Codec8>(entries),
-        0x8E => judge_form::<Codec8E>(entries),
-        0x10 => judge_form::<Codec16>(entries),
+        0x08 => judge_form::<Codec8>(limits, entries),
+        0x8E => judge_form::<Codec8E>(limits, entries),
+        0x10 => judge_form::<Codec16>(limits, entries),
         _ => None,
     };
     let (records, length) = judged.ok_or(no(17))?;

@@ -19,6 +19,24 @@ pub const fn no(number: u8) -> Refusal {
     Refusal { number, index: 0 }
 }
 
+/// The most bytes of a family's TCP packets, datagrams and records.
+#[derive(Clone, Copy)]
+pub struct Limits {
+    pub packet: usize,
+    pub datagram: usize,
+    pub record: usize,
+}
+
+/// The limits of the family of this number.
+#[inline]
+pub fn limits_of(family: usize) -> Answer<Limits> {
+    match family {
+        1 => Ok(Limits { packet: 512, datagram: 512, record: 255 }),
+        2 => Ok(Limits { packet: 1280, datagram: 1280, record: usize::MAX }),
+        _ => Err(no(21)),
+    }
+}
+
 pub struct Packet {
     pub codec: u8,
     pub count: u8,
@@ -76,6 +94,8 @@ pub trait Codec {
     const GROUPS: usize = 24 + Self::EVENT + Self::GENERATION + Self::COUNT;
     /// A record without elements.
     const LEAST: usize = Self::GROUPS + Self::COUNT * (4 + Self::VARIABLE as usize);
+    /// The most elements that a total can say.
+    const MOST: usize = (1 << (8 * Self::COUNT)) - 1;
 }
 
 pub struct Codec8;
@@ -119,23 +139,23 @@ fn number(b: &[u8], at: usize, width: usize) -> Option<usize> {
 // ---- frame
 
 /// The length of the data field, by the eight bytes before it.
-fn length(head: &[u8; 8]) -> Answer<usize> {
+fn length(limits: Limits, head: &[u8; 8]) -> Answer<usize> {
     if head[..4] != [0; 4] {
         return Err(no(2));
     }
     let length = u32::from_be_bytes([head[4], head[5], head[6], head[7]]) as usize;
-    if !(3..=1268).contains(&length) {
+    if !(3..=limits.packet - 12).contains(&length) {
         return Err(no(3));
     }
     Ok(length)
 }
 
 /// The data field of a TCP packet.
-fn frame(p: &[u8]) -> Answer<&[u8]> {
+fn frame(limits: Limits, p: &[u8]) -> Answer<&[u8]> {
     let Some((head, rest)) = p.split_first_chunk::<8>() else {
         return Err(no(1));
     };
-    let length = length(head)?;
+    let length = length(limits, head)?;
     if rest.len() != length + 4 {
         return Err(no(4));
     }
@@ -158,11 +178,11 @@ fn imei_of_digits(digits: &[u8]) -> Option<u64> {
 }
 
 /// The head of a datagram, and its data field.
-fn datagram(p: &[u8]) -> Answer<(Datagram, &[u8])> {
+fn datagram(limits: Limits, p: &[u8]) -> Answer<(Datagram, &[u8])> {
     if p.len() < 26 {
         return Err(no(1));
     }
-    if p.len() > 1280 {
+    if p.len() > limits.datagram {
         return Err(no(3));
     }
     let (head, data) = p.split_at(23);
@@ -217,7 +237,7 @@ impl Elements for Skip {}
 
 /// Judges the record at the start of `b`.
 #[inline]
-fn step<C: Codec>(b: &[u8], elements: &mut impl Elements) -> Result<Span, u8> {
+fn step<C: Codec>(limits: Limits, b: &[u8], elements: &mut impl Elements) -> Result<Span, u8> {
     if *b.get(8).ok_or(8)? > 2 {
         return Err(10);
     }
@@ -250,13 +270,14 @@ fn step<C: Codec>(b: &[u8], elements: &mut impl Elements) -> Result<Span, u8> {
     if sum != total {
         return Err(9);
     }
-    if at > 255 {
+    if at > limits.record {
         return Err(12);
     }
     Ok(Span { start: 0, len: at, elements: sum, variable })
 }
 
 fn walk<C: Codec>(
+    limits: Limits,
     data: &[u8],
     count: u8,
     elements: &mut impl Elements,
@@ -265,7 +286,7 @@ fn walk<C: Codec>(
     let body = &data[..data.len() - 1];
     let mut at = 2;
     for index in 0..usize::from(count) {
-        match step::<C>(&body[at..], elements) {
+        match step::<C>(limits, &body[at..], elements) {
             Ok(span) => {
                 visit(index, Span { start: at, ..span });
                 at += span.len;
@@ -280,11 +301,16 @@ fn walk<C: Codec>(
 }
 
 /// Judges a data field of at least three bytes.
-fn judge(data: &[u8], visit: impl FnMut(usize, Span)) -> Answer<Packet> {
-    judge_with(data, &mut Skip, visit)
+fn judge(limits: Limits, data: &[u8], visit: impl FnMut(usize, Span)) -> Answer<Packet> {
+    judge_with(limits, data, &mut Skip, visit)
 }
 
-fn judge_with(data: &[u8], elements: &mut impl Elements, visit: impl FnMut(usize, Span)) -> Answer<Packet> {
+fn judge_with(
+    limits: Limits,
+    data: &[u8],
+    elements: &mut impl Elements,
+    visit: impl FnMut(usize, Span),
+) -> Answer<Packet> {
     let (codec, count) = (data[0], data[1]);
     if !matches!(codec, 0x08 | 0x8E | 0x10) {
         return Err(no(6));
@@ -293,24 +319,29 @@ fn judge_with(data: &[u8], elements: &mut impl Elements, visit: impl FnMut(usize
         return Err(no(7));
     }
     match codec {
-        0x08 => walk::<Codec8>(data, count, elements, visit)?,
-        0x8E => walk::<Codec8E>(data, count, elements, visit)?,
-        _ => walk::<Codec16>(data, count, elements, visit)?,
+        0x08 => walk::<Codec8>(limits, data, count, elements, visit)?,
+        0x8E => walk::<Codec8E>(limits, data, count, elements, visit)?,
+        _ => walk::<Codec16>(limits, data, count, elements, visit)?,
     }
     Ok(Packet { codec, count })
 }
 
 // ---- reading and answering
 
-#[inline(never)]
-pub fn read_packet(p: &[u8]) -> Answer<Packet> {
-    judge(frame(p)?, |_, _| {})
+fn packet_within(limits: Limits, p: &[u8]) -> Answer<Packet> {
+    judge(limits, frame(limits, p)?, |_, _| {})
 }
 
 #[inline(never)]
-pub fn read_datagram(p: &[u8]) -> Answer<Datagram> {
-    let (head, data) = datagram(p)?;
-    let Packet { codec, count } = judge(data, |_, _| {})?;
+pub fn read_packet(family: usize, p: &[u8]) -> Answer<Packet> {
+    packet_within(limits_of(family)?, p)
+}
+
+#[inline(never)]
+pub fn read_datagram(family: usize, p: &[u8]) -> Answer<Datagram> {
+    let limits = limits_of(family)?;
+    let (head, data) = datagram(limits, p)?;
+    let Packet { codec, count } = judge(limits, data, |_, _| {})?;
     Ok(Datagram { codec, count, ..head })
 }
 
@@ -338,8 +369,9 @@ pub fn answer_login(p: &[u8], known: bool, out: &mut [u8]) -> Answer<usize> {
 }
 
 #[inline(never)]
-pub fn acknowledge_packet(p: &[u8], out: &mut [u8]) -> Answer<usize> {
-    let count = read_packet(p).map_or(0, |a| a.count);
+pub fn acknowledge_packet(family: usize, p: &[u8], out: &mut [u8]) -> Answer<usize> {
+    let limits = limits_of(family)?;
+    let count = packet_within(limits, p).map_or(0, |a| a.count);
     let Some(out) = out.first_chunk_mut::<4>() else {
         return Err(no(18));
     };
@@ -348,8 +380,8 @@ pub fn acknowledge_packet(p: &[u8], out: &mut [u8]) -> Answer<usize> {
 }
 
 #[inline(never)]
-pub fn acknowledge_datagram(p: &[u8], out: &mut [u8]) -> Answer<usize> {
-    let d = read_datagram(p)?;
+pub fn acknowledge_datagram(family: usize, p: &[u8], out: &mut [u8]) -> Answer<usize> {
+    let d = read_datagram(family, p)?;
     let Some(out) = out.first_chunk_mut::<7>() else {
         return Err(no(18));
     };
@@ -389,8 +421,12 @@ fn packed_of_digits(imei: &[u8]) -> Option<[u8; 8]> {
 }
 
 #[inline(never)]
-pub fn read_command(p: &[u8]) -> Answer<Command> {
-    let data = frame(p)?;
+pub fn read_command(family: usize, p: &[u8]) -> Answer<Command> {
+    command_within(limits_of(family)?, p)
+}
+
+fn command_within(limits: Limits, p: &[u8]) -> Answer<Command> {
+    let data = frame(limits, p)?;
     let codec = data[0];
     if codec != 0x0C && codec != 0x0E {
         return Err(no(6));
@@ -427,7 +463,15 @@ pub fn read_command(p: &[u8]) -> Answer<Command> {
 }
 
 #[inline(never)]
-pub fn write_command(codec: u8, kind: u8, imei: &[u8], text: &[u8], out: &mut [u8]) -> Answer<usize> {
+pub fn write_command(
+    family: usize,
+    codec: u8,
+    kind: u8,
+    imei: &[u8],
+    text: &[u8],
+    out: &mut [u8],
+) -> Answer<usize> {
+    let limits = limits_of(family)?;
     if codec != 0x0C && codec != 0x0E {
         return Err(no(6));
     }
@@ -439,7 +483,7 @@ pub fn write_command(codec: u8, kind: u8, imei: &[u8], text: &[u8], out: &mut [u
         return Err(no(15));
     };
     let imei_bytes = if codec == 0x0E { &packed[..] } else { &[] };
-    if text.len() > 1260 - imei_bytes.len() || kind == 0x11 && !text.is_empty() {
+    if text.len() > limits.packet - 20 - imei_bytes.len() || kind == 0x11 && !text.is_empty() {
         return Err(no(14));
     }
     let size = imei_bytes.len() + text.len();
@@ -467,6 +511,7 @@ pub struct Connection {
     pub held: [u8; 1280],
     pub fill: usize,
     pub phase: u8,
+    pub family: u8,
 }
 
 pub enum Item {
@@ -476,12 +521,17 @@ pub enum Item {
 }
 
 impl Connection {
-    pub const FRESH: Connection = Connection { held: [0; 1280], fill: 0, phase: 0 };
-    pub const LOGGED_IN: Connection = Connection { phase: 1, ..Connection::FRESH };
+    pub const fn fresh(family: u8) -> Self {
+        Connection { held: [0; 1280], fill: 0, phase: 0, family }
+    }
+
+    pub const fn logged_in(family: u8) -> Self {
+        Connection { phase: 1, ..Connection::fresh(family) }
+    }
 
     /// The length of the next item; one that is not there yet, where its head is not there yet.
     #[inline]
-    fn size(&self, bytes: &[u8]) -> Answer<usize> {
+    fn size(&self, limits: Limits, bytes: &[u8]) -> Answer<usize> {
         let mut head = [0; 8];
         match (self.phase, self.fill, bytes.first_chunk::<8>()) {
             (0, ..) => return Ok(17),
@@ -493,16 +543,17 @@ impl Connection {
                 head[held..].copy_from_slice(new);
             }
         }
-        Ok(length(&head)? + 12)
+        Ok(length(limits, &head)? + 12)
     }
 
     /// Takes the bytes of one item or a part of it, and gives their number; a packet goes to the start of `out`.
     #[inline(never)]
     pub fn feed(&mut self, bytes: &[u8], out: &mut [u8]) -> (usize, Answer<Item>) {
+        let Ok(limits) = limits_of(self.family.into()) else { return (0, Err(no(19))) };
         if self.phase > 1 {
             return (0, Err(no(19)));
         }
-        let size = match self.size(bytes) {
+        let size = match self.size(limits, bytes) {
             Ok(size) => size,
             Err(r) => {
                 let used = 8 - self.fill;
@@ -520,18 +571,18 @@ impl Connection {
             self.held[self.fill..size].copy_from_slice(new);
             item = &self.held[..size];
         }
-        let judged = if self.phase == 0 { read_login(item).map(Item::Login) } else { received(item, out) };
+        let judged = if self.phase == 0 { read_login(item).map(Item::Login) } else { received(limits, item, out) };
         (self.fill, self.phase) = (0, if judged.is_ok() { 1 } else { 2 });
         (new.len(), judged)
     }
 }
 
 /// Judges a packet that is whole, and copies it.
-fn received(p: &[u8], out: &mut [u8]) -> Answer<Item> {
+fn received(limits: Limits, p: &[u8], out: &mut [u8]) -> Answer<Item> {
     if matches!(p[8], 0x0C | 0x0E) {
-        read_command(p)?;
+        command_within(limits, p)?;
     } else {
-        read_packet(p)?;
+        packet_within(limits, p)?;
     }
     out[..p.len()].copy_from_slice(p);
     Ok(Item::Packet(p.len()))
@@ -563,9 +614,9 @@ pub fn sum_of_stream(stream: &[u8], most: usize, connection: &mut Connection, ou
 // ---- looking up
 
 /// Judges the data field, and gives its codec and the wanted record.
-fn find(data: &[u8], record: usize) -> Answer<(u8, Span)> {
+fn find(limits: Limits, data: &[u8], record: usize) -> Answer<(u8, Span)> {
     let mut found = None;
-    let packet = judge(data, |index, span| {
+    let packet = judge(limits, data, |index, span| {
         if index == record {
             found = Some(span);
         }
@@ -577,9 +628,9 @@ fn find(data: &[u8], record: usize) -> Answer<(u8, Span)> {
 }
 
 /// The same for the last record.
-fn find_last(data: &[u8]) -> Answer<(u8, Span)> {
+fn find_last(limits: Limits, data: &[u8]) -> Answer<(u8, Span)> {
     let mut found = Span { start: 0, len: 0, elements: 0, variable: 0 };
-    let packet = judge(data, |_, span| found = span)?;
+    let packet = judge(limits, data, |_, span| found = span)?;
     Ok((packet.codec, found))
 }
 
@@ -601,8 +652,8 @@ fn fields<C: Codec>(r: &[u8], elements: usize) -> Option<Record> {
     })
 }
 
-fn record_of(data: &[u8], record: usize) -> Answer<Record> {
-    let (codec, span) = find(data, record)?;
+fn record_of(limits: Limits, data: &[u8], record: usize) -> Answer<Record> {
+    let (codec, span) = find(limits, data, record)?;
     let r = &data[span.start..span.start + span.len];
     match codec {
         0x08 => fields::<Codec8>(r, span.elements),
@@ -673,8 +724,8 @@ fn placed(value: Option<Value>, base: usize, span: Span) -> Answer<Value> {
     }
 }
 
-fn value_of(data: &[u8], base: usize, record: usize, element: usize) -> Answer<Value> {
-    let (codec, span) = find(data, record)?;
+fn value_of(limits: Limits, data: &[u8], base: usize, record: usize, element: usize) -> Answer<Value> {
+    let (codec, span) = find(limits, data, record)?;
     if element >= span.elements {
         return Err(no(16));
     }
@@ -698,48 +749,55 @@ fn id_in(data: &[u8], base: usize, codec: u8, span: Span, id: u16) -> Answer<Val
 }
 
 #[inline(never)]
-pub fn record_in_packet(p: &[u8], record: usize) -> Answer<Record> {
-    record_of(frame(p)?, record)
+pub fn record_in_packet(family: usize, p: &[u8], record: usize) -> Answer<Record> {
+    let limits = limits_of(family)?;
+    record_of(limits, frame(limits, p)?, record)
 }
 
 #[inline(never)]
-pub fn record_in_datagram(p: &[u8], record: usize) -> Answer<Record> {
-    record_of(datagram(p)?.1, record)
+pub fn record_in_datagram(family: usize, p: &[u8], record: usize) -> Answer<Record> {
+    let limits = limits_of(family)?;
+    record_of(limits, datagram(limits, p)?.1, record)
 }
 
 #[inline(never)]
-pub fn value_in_packet(p: &[u8], record: usize, element: usize) -> Answer<Value> {
-    value_of(frame(p)?, 8, record, element)
+pub fn value_in_packet(family: usize, p: &[u8], record: usize, element: usize) -> Answer<Value> {
+    let limits = limits_of(family)?;
+    value_of(limits, frame(limits, p)?, 8, record, element)
 }
 
 #[inline(never)]
-pub fn value_in_datagram(p: &[u8], record: usize, element: usize) -> Answer<Value> {
-    value_of(datagram(p)?.1, 23, record, element)
+pub fn value_in_datagram(family: usize, p: &[u8], record: usize, element: usize) -> Answer<Value> {
+    let limits = limits_of(family)?;
+    value_of(limits, datagram(limits, p)?.1, 23, record, element)
 }
 
 #[inline(never)]
-pub fn id_in_packet(p: &[u8], record: usize, id: u16) -> Answer<Value> {
-    let data = frame(p)?;
-    let (codec, span) = find(data, record)?;
+pub fn id_in_packet(family: usize, p: &[u8], record: usize, id: u16) -> Answer<Value> {
+    let limits = limits_of(family)?;
+    let data = frame(limits, p)?;
+    let (codec, span) = find(limits, data, record)?;
     id_in(data, 8, codec, span, id)
 }
 
 #[inline(never)]
-pub fn id_in_datagram(p: &[u8], record: usize, id: u16) -> Answer<Value> {
-    let data = datagram(p)?.1;
-    let (codec, span) = find(data, record)?;
+pub fn id_in_datagram(family: usize, p: &[u8], record: usize, id: u16) -> Answer<Value> {
+    let limits = limits_of(family)?;
+    let data = datagram(limits, p)?.1;
+    let (codec, span) = find(limits, data, record)?;
     id_in(data, 23, codec, span, id)
 }
 
 #[inline(never)]
-pub fn last_known(newer: &[u8], older: &[u8], id: u16) -> Answer<(bool, Value)> {
-    let data = frame(newer)?;
-    let (codec, span) = find_last(data)?;
+pub fn last_known(family: usize, newer: &[u8], older: &[u8], id: u16) -> Answer<(bool, Value)> {
+    let limits = limits_of(family)?;
+    let data = frame(limits, newer)?;
+    let (codec, span) = find_last(limits, data)?;
     if let Ok(v) = id_in(data, 8, codec, span, id) {
         return Ok((false, v));
     }
-    let data = frame(older)?;
-    let (codec, span) = find_last(data)?;
+    let data = frame(limits, older)?;
+    let (codec, span) = find_last(limits, data)?;
     Ok((true, id_in(data, 8, codec, span, id)?))
 }
 
@@ -793,9 +851,9 @@ fn sum_of_pairs<C: Codec, const SIZE: usize>(pairs: &[u8]) -> u64 {
 }
 
 /// Judges the data field, and adds up what is in it.
-fn sum_of(data: &[u8]) -> Answer<u64> {
+fn sum_of(limits: Limits, data: &[u8]) -> Answer<u64> {
     let (mut sum, mut elements) = (0u64, Sum(0));
-    judge_with(data, &mut elements, |_, span| {
+    judge_with(limits, data, &mut elements, |_, span| {
         // time and place stand alike in every codec
         if let Some(r) = fields::<Codec8>(&data[span.start..], 0) {
             sum = sum.wrapping_add(sum_of_fields(r.timestamp, r.longitude, r.latitude));
@@ -805,13 +863,15 @@ fn sum_of(data: &[u8]) -> Answer<u64> {
 }
 
 #[inline(never)]
-pub fn sum_of_packet(p: &[u8]) -> Answer<u64> {
-    sum_of(frame(p)?)
+pub fn sum_of_packet(family: usize, p: &[u8]) -> Answer<u64> {
+    let limits = limits_of(family)?;
+    sum_of(limits, frame(limits, p)?)
 }
 
 #[inline(never)]
-pub fn sum_of_datagram(p: &[u8]) -> Answer<u64> {
-    sum_of(datagram(p)?.1)
+pub fn sum_of_datagram(family: usize, p: &[u8]) -> Answer<u64> {
+    let limits = limits_of(family)?;
+    sum_of(limits, datagram(limits, p)?.1)
 }
 
 // ---- TLV forms
@@ -916,9 +976,9 @@ fn form_write<C: Codec>(data: &[u8], sum: Span, out: &mut [u8]) -> Answer<usize>
     Ok(total)
 }
 
-fn form_of(data: &[u8], out: &mut [u8]) -> Answer<usize> {
+fn form_of(limits: Limits, data: &[u8], out: &mut [u8]) -> Answer<usize> {
     let mut sum = Span { start: 0, len: 0, elements: 0, variable: 0 };
-    let packet = judge(data, |_, s| {
+    let packet = judge(limits, data, |_, s| {
         sum.len += s.len;
         sum.elements += s.elements;
         sum.variable += s.variable;
@@ -931,13 +991,15 @@ fn form_of(data: &[u8], out: &mut [u8]) -> Answer<usize> {
 }
 
 #[inline(never)]
-pub fn form_of_packet(p: &[u8], out: &mut [u8]) -> Answer<usize> {
-    form_of(frame(p)?, out)
+pub fn form_of_packet(family: usize, p: &[u8], out: &mut [u8]) -> Answer<usize> {
+    let limits = limits_of(family)?;
+    form_of(limits, frame(limits, p)?, out)
 }
 
 #[inline(never)]
-pub fn form_of_datagram(p: &[u8], out: &mut [u8]) -> Answer<usize> {
-    form_of(datagram(p)?.1, out)
+pub fn form_of_datagram(family: usize, p: &[u8], out: &mut [u8]) -> Answer<usize> {
+    let limits = limits_of(family)?;
+    form_of(limits, datagram(limits, p)?.1, out)
 }
 
 fn le16(b: &[u8], at: usize) -> Option<usize> {
@@ -952,27 +1014,30 @@ fn entry(form: &[u8]) -> Option<(usize, &[u8], &[u8])> {
     Some((usize::from(u16::from_le_bytes([c, d])), body, rest))
 }
 
-/// What the entries of a form have come to: records, the data field without its last record, that record, its last kind.
+/// What the entries of a form have come to: records, the data field without its last record, that record, its elements
+/// and their last kind.
 #[derive(Clone, Copy)]
 pub struct FormSums {
     records: usize,
     length: usize,
     record: usize,
+    elements: usize,
     kind: usize,
 }
 
 impl FormSums {
-    pub const START: FormSums = FormSums { records: 0, length: 3, record: 0, kind: 0 };
+    pub const START: FormSums = FormSums { records: 0, length: 3, record: 0, elements: 0, kind: 0 };
 
     /// One entry more, if it may stand here.
     #[inline]
-    pub fn with<C: Codec>(mut self, kind: usize, body: &[u8]) -> Option<Self> {
+    pub fn with<C: Codec>(mut self, limits: Limits, kind: usize, body: &[u8]) -> Option<Self> {
         if kind == 101 {
             let body: &[u8; 27] = body.try_into().ok()?;
             if body[8] > 2 || C::EVENT == 1 && body[25] != 0 || body[26] > if C::GENERATION == 1 { 7 } else { 0 } {
                 return None;
             }
-            self = FormSums { records: self.records + 1, length: self.length + self.record, record: C::LEAST, kind: 1 };
+            let (records, length) = (self.records + 1, self.length + self.record);
+            self = FormSums { records, length, record: C::LEAST, elements: 0, kind: 1 };
         } else {
             if kind < self.kind || self.kind == 0 || C::ID == 1 && *body.get(1)? != 0 {
                 return None;
@@ -982,9 +1047,11 @@ impl FormSums {
                 9 if C::VARIABLE && body.len() >= 2 => self.record += C::ID + body.len(),
                 _ => return None,
             }
+            self.elements += 1;
             self.kind = kind;
         }
-        (self.record <= 255 && self.length + self.record <= 1268).then_some(self)
+        let fits = self.record <= limits.record && self.length + self.record <= limits.packet - 12;
+        (fits && self.elements <= C::MOST).then_some(self)
     }
 
     /// The number of records and the length of the data field. A record has at least 30 bytes, so there are at most 42.
@@ -994,11 +1061,11 @@ impl FormSums {
 }
 
 /// Judges the entries after the first; gives the number of records and the length of the data field.
-fn judge_form<C: Codec>(mut entries: &[u8]) -> Option<(u8, usize)> {
+fn judge_form<C: Codec>(limits: Limits, mut entries: &[u8]) -> Option<(u8, usize)> {
     let mut sums = FormSums::START;
     while !entries.is_empty() {
         let (kind, body, rest) = entry(entries)?;
-        sums = sums.with::<C>(kind, body)?;
+        sums = sums.with::<C>(limits, kind, body)?;
         entries = rest;
     }
     sums.packet()
@@ -1098,14 +1165,15 @@ fn packet_write<C: Codec>(form: &[u8], out: &mut [u8]) -> Option<()> {
 }
 
 #[inline(never)]
-pub fn packet_of_form(form: &[u8], out: &mut [u8]) -> Answer<usize> {
+pub fn packet_of_form(family: usize, form: &[u8], out: &mut [u8]) -> Answer<usize> {
+    let limits = limits_of(family)?;
     let Some((&[1, 0, 100, 0, codec], entries)) = form.split_first_chunk::<5>() else {
         return Err(no(17));
     };
     let judged = match codec {
-        0x08 => judge_form::<Codec8>(entries),
-        0x8E => judge_form::<Codec8E>(entries),
-        0x10 => judge_form::<Codec16>(entries),
+        0x08 => judge_form::<Codec8>(limits, entries),
+        0x8E => judge_form::<Codec8E>(limits, entries),
+        0x10 => judge_form::<Codec16>(limits, entries),
         _ => None,
     };
     let Some((records, length)) = judged else {

@@ -1,7 +1,8 @@
 //! Billing lines by hand: decimal digits into a small array from its end, one pass to read a line.
 
 use super::{
-    datagram, fields, find, frame, judge, no, number, Answer, Codec, Codec16, Codec8, Codec8E, Record, Span,
+    datagram, fields, find, frame, judge, limits_of, no, number, Answer, Codec, Codec16, Codec8, Codec8E, Limits,
+    Record, Span,
 };
 
 /// All lines of a packet have at most four times its bytes, and so has one line of its record.
@@ -161,34 +162,38 @@ fn lines_into(codec: u8, records: &[u8], count: usize, out: &mut [u8]) -> Answer
     Ok(written)
 }
 
-fn line_of(data: &[u8], record: usize, out: &mut [u8]) -> Answer<usize> {
-    let (codec, Span { start, len, .. }) = find(data, record)?;
+fn line_of(limits: Limits, data: &[u8], record: usize, out: &mut [u8]) -> Answer<usize> {
+    let (codec, Span { start, len, .. }) = find(limits, data, record)?;
     lines_into(codec, &data[start..start + len], 1, out)
 }
 
-fn lines_of(data: &[u8], out: &mut [u8]) -> Answer<usize> {
-    let packet = judge(data, |_, _| {})?;
+fn lines_of(limits: Limits, data: &[u8], out: &mut [u8]) -> Answer<usize> {
+    let packet = judge(limits, data, |_, _| {})?;
     lines_into(packet.codec, &data[2..data.len() - 1], usize::from(packet.count), out)
 }
 
 #[inline(never)]
-pub fn line_of_packet(p: &[u8], record: usize, out: &mut [u8]) -> Answer<usize> {
-    line_of(frame(p)?, record, out)
+pub fn line_of_packet(family: usize, p: &[u8], record: usize, out: &mut [u8]) -> Answer<usize> {
+    let limits = limits_of(family)?;
+    line_of(limits, frame(limits, p)?, record, out)
 }
 
 #[inline(never)]
-pub fn line_of_datagram(p: &[u8], record: usize, out: &mut [u8]) -> Answer<usize> {
-    line_of(datagram(p)?.1, record, out)
+pub fn line_of_datagram(family: usize, p: &[u8], record: usize, out: &mut [u8]) -> Answer<usize> {
+    let limits = limits_of(family)?;
+    line_of(limits, datagram(limits, p)?.1, record, out)
 }
 
 #[inline(never)]
-pub fn lines_of_packet(p: &[u8], out: &mut [u8]) -> Answer<usize> {
-    lines_of(frame(p)?, out)
+pub fn lines_of_packet(family: usize, p: &[u8], out: &mut [u8]) -> Answer<usize> {
+    let limits = limits_of(family)?;
+    lines_of(limits, frame(limits, p)?, out)
 }
 
 #[inline(never)]
-pub fn lines_of_datagram(p: &[u8], out: &mut [u8]) -> Answer<usize> {
-    lines_of(datagram(p)?.1, out)
+pub fn lines_of_datagram(family: usize, p: &[u8], out: &mut [u8]) -> Answer<usize> {
+    let limits = limits_of(family)?;
+    lines_of(limits, datagram(limits, p)?.1, out)
 }
 
 /// The lines of a TCP packet that was judged before: the writing alone.

@@ -2,7 +2,7 @@
 //! hand-written answers in the same shape.
 
 use crate::hand::{self, sum_of_bytes, sum_of_fields, sum_of_received, Answer, Connection};
-use brundilope::{Contents, DataDatagram, DataPacket, Item, Records};
+use brundilope::{Contents, DataDatagram, DataPacket, Family, Item, Records};
 
 macro_rules! answer {
     ($name:ident { $($field:ident: $type:ty),* }) => {
@@ -82,32 +82,34 @@ macro_rules! calls {
 
 calls! {
     crc = bench_crc16(data: bytes) -> u16;
-    read_packet = brundilope_read_packet(p: bytes) -> Packet;
-    read_datagram = brundilope_read_datagram(p: bytes) -> Datagram;
+    read_packet = brundilope_read_packet(family: usize, p: bytes) -> Packet;
+    read_datagram = brundilope_read_datagram(family: usize, p: bytes) -> Datagram;
     read_login = brundilope_read_login(p: bytes) -> Login;
-    read_command = brundilope_read_command(p: bytes) -> Command;
+    read_command = brundilope_read_command(family: usize, p: bytes) -> Command;
     answer_login = brundilope_answer_login(p: bytes, known: bool, out: buffer) -> Written;
-    acknowledge_packet = brundilope_acknowledge_packet(p: bytes, out: buffer) -> Written;
-    acknowledge_datagram = brundilope_acknowledge_datagram(p: bytes, out: buffer) -> Written;
-    write_command = brundilope_write_command(codec: u8, kind: u8, imei: bytes, text: bytes, out: buffer) -> Written;
-    record_in_packet = brundilope_record_in_packet(p: bytes, record: usize) -> Record;
-    record_in_datagram = brundilope_record_in_datagram(p: bytes, record: usize) -> Record;
-    value_in_packet = brundilope_value_in_packet(p: bytes, record: usize, element: usize) -> Value;
-    value_in_datagram = brundilope_value_in_datagram(p: bytes, record: usize, element: usize) -> Value;
-    id_in_packet = brundilope_id_in_packet(p: bytes, record: usize, id: u16) -> Value;
-    id_in_datagram = brundilope_id_in_datagram(p: bytes, record: usize, id: u16) -> Value;
-    last_known = brundilope_last_known(newer: bytes, older: bytes, id: u16) -> Known;
-    form_of_packet = brundilope_form_of_packet(p: bytes, out: buffer) -> Written;
-    form_of_datagram = brundilope_form_of_datagram(p: bytes, out: buffer) -> Written;
-    packet_of_form = brundilope_packet_of_form(form: bytes, out: buffer) -> Written;
-    line_of_packet = brundilope_line_of_packet(p: bytes, record: usize, out: buffer) -> Written;
-    line_of_datagram = brundilope_line_of_datagram(p: bytes, record: usize, out: buffer) -> Written;
-    lines_of_packet = brundilope_lines_of_packet(p: bytes, out: buffer) -> Written;
-    lines_of_datagram = brundilope_lines_of_datagram(p: bytes, out: buffer) -> Written;
+    acknowledge_packet = brundilope_acknowledge_packet(family: usize, p: bytes, out: buffer) -> Written;
+    acknowledge_datagram = brundilope_acknowledge_datagram(family: usize, p: bytes, out: buffer) -> Written;
+    write_command = brundilope_write_command(family: usize, codec: u8, kind: u8, imei: bytes, text: bytes, out: buffer)
+        -> Written;
+    record_in_packet = brundilope_record_in_packet(family: usize, p: bytes, record: usize) -> Record;
+    record_in_datagram = brundilope_record_in_datagram(family: usize, p: bytes, record: usize) -> Record;
+    value_in_packet = brundilope_value_in_packet(family: usize, p: bytes, record: usize, element: usize) -> Value;
+    value_in_datagram = brundilope_value_in_datagram(family: usize, p: bytes, record: usize, element: usize) -> Value;
+    id_in_packet = brundilope_id_in_packet(family: usize, p: bytes, record: usize, id: u16) -> Value;
+    id_in_datagram = brundilope_id_in_datagram(family: usize, p: bytes, record: usize, id: u16) -> Value;
+    last_known = brundilope_last_known(family: usize, newer: bytes, older: bytes, id: u16) -> Known;
+    form_of_packet = brundilope_form_of_packet(family: usize, p: bytes, out: buffer) -> Written;
+    form_of_datagram = brundilope_form_of_datagram(family: usize, p: bytes, out: buffer) -> Written;
+    packet_of_form = brundilope_packet_of_form(family: usize, form: bytes, out: buffer) -> Written;
+    line_of_packet = brundilope_line_of_packet(family: usize, p: bytes, record: usize, out: buffer) -> Written;
+    line_of_datagram = brundilope_line_of_datagram(family: usize, p: bytes, record: usize, out: buffer) -> Written;
+    lines_of_packet = brundilope_lines_of_packet(family: usize, p: bytes, out: buffer) -> Written;
+    lines_of_datagram = brundilope_lines_of_datagram(family: usize, p: bytes, out: buffer) -> Written;
     read_line = brundilope_read_line(s: bytes) -> Line;
     element_at = brundilope_element_at(s: bytes, at: usize, out: buffer) -> LineElement;
     feed = brundilope_feed(state: Connection, p: bytes) -> Fed;
-    feed_parts = brundilope_feed_lent(phase: u8, fill: usize, held: buffer, p: bytes, out: buffer) -> Taken;
+    feed_parts = brundilope_feed_lent(family: usize, phase: u8, fill: usize, held: buffer, p: bytes, out: buffer)
+        -> Taken;
 }
 
 // ---- a connection
@@ -115,7 +117,7 @@ calls! {
 /// Feeds a state where it stands.
 #[inline(always)]
 pub fn feed_lent(state: &mut Connection, p: &[u8], out: &mut [u8]) -> Taken {
-    let taken = feed_parts(state.phase, state.fill, &mut state.held, p, out);
+    let taken = feed_parts(state.family.into(), state.phase, state.fill, &mut state.held, p, out);
     (state.fill, state.phase) = (taken.fill, taken.phase);
     taken
 }
@@ -160,10 +162,10 @@ pub fn pieces_lent(p: &[u8], pieces: usize, state: &mut Connection, out: &mut [u
 
 /// What a packet takes that comes whole: it is read, and copied once.
 #[inline(never)]
-pub fn read_and_copy(p: &[u8], out: &mut [u8]) -> Packet {
+pub fn read_and_copy(family: usize, p: &[u8], out: &mut [u8]) -> Packet {
     apart();
     out[..p.len()].copy_from_slice(p);
-    read_packet(p)
+    read_packet(family, p)
 }
 
 /// The sum of what comes on a connection, so many bytes at a time, by the Rust crate.
@@ -204,14 +206,21 @@ fn sum_of(records: Records) -> u64 {
     sum
 }
 
-#[inline(never)]
-pub fn sum_of_packet(p: &[u8], room: &mut Contents) -> Answer<u64> {
-    Ok(sum_of(DataPacket::read(p, room)?.records()))
+/// The crate's family of this number.
+#[inline]
+pub fn family_of(number: usize) -> Answer<Family> {
+    let number = u8::try_from(number).map_err(|_| hand::no(21))?;
+    Ok(Family::try_from(number)?)
 }
 
 #[inline(never)]
-pub fn sum_of_datagram(p: &[u8], room: &mut Contents) -> Answer<u64> {
-    Ok(sum_of(DataDatagram::read(p, room)?.records()))
+pub fn sum_of_packet(family: usize, p: &[u8], room: &mut Contents) -> Answer<u64> {
+    Ok(sum_of(DataPacket::read(family_of(family)?, p, room)?.records()))
+}
+
+#[inline(never)]
+pub fn sum_of_datagram(family: usize, p: &[u8], room: &mut Contents) -> Answer<u64> {
+    Ok(sum_of(DataDatagram::read(family_of(family)?, p, room)?.records()))
 }
 
 // ---- billing lines

@@ -2,7 +2,7 @@
 
 use crate::input::{self, Random};
 use crate::measure::{times, Side, POOL};
-use crate::{hand, library};
+use crate::{hand, library, FAMILY};
 use std::cell::RefCell;
 use std::hint::black_box;
 use std::ops::Range;
@@ -55,7 +55,7 @@ fn packets(random: &mut Random, codec: u8, records: usize, kinds: &[usize]) -> V
 fn lines(tcp: &[Vec<u8>]) -> Vec<Vec<u8>> {
     let written = |p: &Vec<u8>| {
         let mut out = vec![0; 6000];
-        let n = hand::lines_of_packet(p, &mut out).unwrap_or_default();
+        let n = hand::lines_of_packet(FAMILY, p, &mut out).unwrap_or_default();
         out.truncate(n);
         out
     };
@@ -66,22 +66,23 @@ fn lines(tcp: &[Vec<u8>]) -> Vec<Vec<u8>> {
 fn written_row(budget: Duration, name: &str, codec: &str, tcp: &[Vec<u8>], all: bool) {
     let out = RefCell::new([0; 6000]);
     let (p, out) = (|i: usize| black_box(&tcp[i][..]), || out.borrow_mut());
+    let family = || black_box(FAMILY);
     let [by_hand, by_library] = if all {
         [
-            side(|i| hand::lines_of_packet(p(i), &mut out()[..])),
-            side(|i| library::lines_of_packet(p(i), &mut out()[..])),
+            side(|i| hand::lines_of_packet(family(), p(i), &mut out()[..])),
+            side(|i| library::lines_of_packet(family(), p(i), &mut out()[..])),
         ]
     } else {
         [
-            side(|i| hand::line_of_packet(p(i), 0, &mut out()[..])),
-            side(|i| library::line_of_packet(p(i), 0, &mut out()[..])),
+            side(|i| hand::line_of_packet(family(), p(i), 0, &mut out()[..])),
+            side(|i| library::line_of_packet(family(), p(i), 0, &mut out()[..])),
         ]
     };
     let sides = [
         by_hand,
         by_library,
-        side(|i| hand::read_packet(p(i))),
-        side(|i| library::read_packet(p(i))),
+        side(|i| hand::read_packet(family(), p(i))),
+        side(|i| library::read_packet(family(), p(i))),
         side(|i| hand::lines_alone(p(i), &mut out()[..])),
     ];
     let t: Vec<_> = times(budget, tcp, &sides).into_iter().flatten().collect();
@@ -121,7 +122,8 @@ fn growth(budget: Duration, random: &mut Random) {
     for records in [6, 12] {
         let tcp = packets(random, 0x08, records, &TWENTY);
         let out = RefCell::new([0; 6000]);
-        let sides = [side(|i| library::lines_of_packet(black_box(&tcp[i][..]), &mut out.borrow_mut()[..]))];
+        let p = |i: usize| black_box(&tcp[i][..]);
+        let sides = [side(|i| library::lines_of_packet(black_box(FAMILY), p(i), &mut out.borrow_mut()[..]))];
         for t in times(budget, &tcp, &sides).into_iter().flatten() {
             let size = mean(&tcp) as f64;
             println!(

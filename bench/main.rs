@@ -26,7 +26,7 @@ by_hand!(hand, folded, warn);
 by_hand!(sliced, sliced, allow);
 by_hand!(floor, multiplied, allow);
 
-use brundilope::Contents;
+use brundilope::{Contents, Family};
 use hand::Connection;
 use input::{Data, Random};
 use measure::{line, time, Side, FEED_HEAD, HEAD, POOL};
@@ -36,6 +36,9 @@ use std::ops::Range;
 use std::time::Duration;
 
 const CODECS: [(u8, &str); 3] = [(0x08, "8"), (0x8E, "8E"), (0x10, "16")];
+/// The family that calls name, and a connection.
+const FAMILY: usize = 2;
+const CONNECTION: Connection = Connection::logged_in(FAMILY as u8);
 /// Packet sizes, from and to.
 const SIZES: [(usize, usize); 3] = [(58, 66), (590, 610), (1268, 1280)];
 /// What a connection brings in one line's call, at least, and how much of it in one feed.
@@ -112,37 +115,37 @@ impl Table {
     /// Look-ups of any record, and of each packet's last value.
     fn lookup_rows(&mut self, codecs: &str, data: &[Data], tcp: &[Vec<u8>]) {
         let any: Vec<_> = data.iter().map(|d| self.random.below(d.records)).collect();
-        self.row("record_in_packet", codecs, tcp, &crc_sides!(record_in_packet(|i| &tcp[i][..], any[i])));
+        self.row("record_in_packet", codecs, tcp, &crc_sides!(record_in_packet(|i| FAMILY, &tcp[i][..], any[i])));
         let last = |i: usize| (data[i].records - 1, data[i].elements - 1, data[i].last_id);
-        let sides = crc_sides!(value_in_packet(|i| &tcp[i][..], last(i).0, last(i).1));
+        let sides = crc_sides!(value_in_packet(|i| FAMILY, &tcp[i][..], last(i).0, last(i).1));
         self.row("value_in_packet", codecs, tcp, &sides);
-        let sides = crc_sides!(id_in_packet(|i| &tcp[i][..], last(i).0, last(i).2));
+        let sides = crc_sides!(id_in_packet(|i| FAMILY, &tcp[i][..], last(i).0, last(i).2));
         self.row("id_in_packet", codecs, tcp, &sides);
         // the newer packet is another of the pool and in most cases lacks the ID
-        let sides = crc_sides!(last_known(|i| &tcp[(i + 1) % POOL][..], &tcp[i][..], last(i).2));
+        let sides = crc_sides!(last_known(|i| FAMILY, &tcp[(i + 1) % POOL][..], &tcp[i][..], last(i).2));
         self.row("last_known (two packets)", codecs, tcp, &sides);
     }
 
     fn form_rows(&self, codecs: &str, tcp: &[Vec<u8>]) {
         let form = |p: &Vec<u8>| {
             let mut f = vec![0; 6000];
-            let n = hand::form_of_packet(p, &mut f).unwrap_or_default();
+            let n = hand::form_of_packet(FAMILY, p, &mut f).unwrap_or_default();
             f.truncate(n);
             f
         };
         let forms: Vec<_> = tcp.iter().map(form).collect();
         let out = &self.out;
-        let sides = crc_sides!(form_of_packet(|i| &tcp[i][..], &mut out.borrow_mut()[..]));
+        let sides = crc_sides!(form_of_packet(|i| FAMILY, &tcp[i][..], &mut out.borrow_mut()[..]));
         self.row("form_of_packet", codecs, tcp, &sides);
-        let sides = crc_sides!(packet_of_form(|i| &forms[i][..], &mut out.borrow_mut()[..]));
+        let sides = crc_sides!(packet_of_form(|i| FAMILY, &forms[i][..], &mut out.borrow_mut()[..]));
         self.row("packet_of_form", codecs, &forms, &sides);
     }
 
     /// The lines of everything in a packet or datagram: all records, all values.
     fn sum_rows(&self, codecs: &str, tcp: &[Vec<u8>], udp: &[Vec<u8>]) {
         let room = &self.room;
-        self.row("all values of a packet", codecs, tcp, &crc_sides!(sum_of_packet(|i| &tcp[i][..]), room));
-        let sides = sides!(sum_of_datagram(|i| &udp[i][..]), room);
+        self.row("all values of a packet", codecs, tcp, &crc_sides!(sum_of_packet(|i| FAMILY, &tcp[i][..]), room));
+        let sides = sides!(sum_of_datagram(|i| FAMILY, &udp[i][..]), room);
         self.row("all values of a datagram (no CRC)", codecs, udp, &sides);
     }
 
@@ -152,7 +155,7 @@ impl Table {
             let random = &mut self.random;
             let data: Vec<_> = (0..POOL).map(|_| input::alike(random, records, 10)).collect();
             let udp: Vec<_> = data.iter().map(|d| input::udp(random, d)).collect();
-            let side = side!(library::sum_of_datagram(|i| &udp[i][..], &mut *self.room.borrow_mut()));
+            let side = side!(library::sum_of_datagram(|i| FAMILY, &udp[i][..], &mut *self.room.borrow_mut()));
             time(self.budget, &udp, side)
         });
         let (ratio, least) = (many.0 / few.0, many.1 / few.1);
@@ -173,9 +176,9 @@ impl Table {
             stream
         };
         let streams: Vec<_> = (0..POOL).map(|_| stream()).collect();
-        let mut library = brundilope::Connection::new();
+        let mut library = brundilope::Connection::new(Family::Standard);
         let _ = library.feed(&input::login(random));
-        let (hand, library, out) = (RefCell::new(Connection::LOGGED_IN), RefCell::new(library), &self.out);
+        let (hand, library, out) = (RefCell::new(CONNECTION), RefCell::new(library), &self.out);
         let stream = |i: usize| &streams[i][..];
         let sides = [
             side!(hand::sum_of_stream(|i| stream(i), SEGMENT, &mut *hand.borrow_mut(), &mut out.borrow_mut()[..])),
@@ -192,11 +195,11 @@ impl Table {
         for size in [61, 1280] {
             let random = &mut self.random;
             let tcp: Vec<_> = (0..POOL).map(|i| input::exact(random, CODECS[i % 3].0, size)).collect();
-            let (value, lent) = (RefCell::new(Connection::LOGGED_IN), RefCell::new(Connection::LOGGED_IN));
+            let (value, lent) = (RefCell::new(CONNECTION), RefCell::new(CONNECTION));
             let (p, out) = (|i: usize| &tcp[i][..], &self.out);
             for (how, pieces) in [("whole", 1), ("in 2 pieces", 2), ("in 10 pieces", 10), ("byte by byte", size)] {
                 let sides = [
-                    side!(library::read_and_copy(|i| p(i), &mut out.borrow_mut()[..])),
+                    side!(library::read_and_copy(|i| FAMILY, p(i), &mut out.borrow_mut()[..])),
                     side!(library::pieces_by_value(|i| p(i), pieces, &mut *value.borrow_mut())),
                     side!(library::pieces_lent(|i| p(i), pieces, &mut *lent.borrow_mut(), &mut out.borrow_mut()[..])),
                 ];
@@ -227,8 +230,8 @@ impl Table {
         if !all {
             return;
         }
-        self.row("read_packet", name, &tcp, &crc_sides!(read_packet(|i| &tcp[i][..])));
-        self.row("read_datagram (no CRC)", name, &udp, &sides!(read_datagram(|i| &udp[i][..])));
+        self.row("read_packet", name, &tcp, &crc_sides!(read_packet(|i| FAMILY, &tcp[i][..])));
+        self.row("read_datagram (no CRC)", name, &udp, &sides!(read_datagram(|i| FAMILY, &udp[i][..])));
         self.lookup_rows(name, &data, &tcp);
         self.form_rows(name, &tcp);
     }
@@ -240,12 +243,13 @@ impl Table {
         let packets: Vec<_> = (0..POOL).map(|i| input::tcp(&input::command(random, codec(i), size))).collect();
         let texts: Vec<_> = (0..POOL).map(|_| random.bytes(size)).collect();
         let imeis: Vec<_> = (0..POOL).map(|i| random.digits(i % 2 * 15)).collect();
-        self.row("read_command", "12, 14", &packets, &crc_sides!(read_command(|i| &packets[i][..])));
+        self.row("read_command", "12, 14", &packets, &crc_sides!(read_command(|i| FAMILY, &packets[i][..])));
         let (out, imei, text) = (&self.out, |i: usize| &imeis[i][..], |i: usize| &texts[i][..]);
-        let hand = side!(hand::write_command(|i| codec(i), 5, imei(i), text(i), &mut out.borrow_mut()[..]));
-        let library = side!(library::write_command(|i| codec(i), 5, imei(i), text(i), &mut out.borrow_mut()[..]));
-        let sliced = side!(sliced::write_command(|i| codec(i), 5, imei(i), text(i), &mut out.borrow_mut()[..]));
-        let floor = floor!(write_command(|i| codec(i), 5, imei(i), text(i), &mut out.borrow_mut()[..]));
+        let hand = side!(hand::write_command(|i| FAMILY, codec(i), 5, imei(i), text(i), &mut out.borrow_mut()[..]));
+        let library =
+            side!(library::write_command(|i| FAMILY, codec(i), 5, imei(i), text(i), &mut out.borrow_mut()[..]));
+        let sliced = side!(sliced::write_command(|i| FAMILY, codec(i), 5, imei(i), text(i), &mut out.borrow_mut()[..]));
+        let floor = floor!(write_command(|i| FAMILY, codec(i), 5, imei(i), text(i), &mut out.borrow_mut()[..]));
         self.row("write_command", "12, 14", &packets, &[Some(hand), Some(library), None, Some(sliced), floor]);
     }
 
@@ -273,7 +277,7 @@ fn main() {
     let mut random = Random(0x9E37_79B9_7F4A_7C15);
     let c = check::check(&mut random);
     println!("Answers compared: {}, none differ. Accepted {}; refused by number:", c.compared, c.refusals[0]);
-    let each: Vec<_> = (1..21).map(|n| format!("{n}: {}", c.refusals[n])).collect();
+    let each: Vec<_> = (1..22).map(|n| format!("{n}: {}", c.refusals[n])).collect();
     println!("{}.\n", each.join(", "));
 
     let before = load();

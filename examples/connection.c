@@ -8,7 +8,8 @@
 enum { PIECE = 7 }; /* bytes; a gateway takes what the socket has */
 
 int main(void) {
-    static struct brundilope_connection state; /* all zero: fresh */
+    /* for all units but FMB640, FMB641, FMC640, FMM640; the start of a known family is never refused */
+    struct brundilope_connection state = brundilope_start(BRUNDILOPE_FAMILY_STANDARD).state;
     uint8_t packet[BRUNDILOPE_LARGEST], piece[PIECE];
     size_t size;
 
@@ -27,6 +28,6 @@ int main(void) {
         }
     }
     printf("end, %zu bytes held, %zu wanted\n", state.fill,
-           brundilope_wanted(state.phase, state.fill, state.held, sizeof state.held));
+           brundilope_wanted(state.family, state.phase, state.fill, state.held, sizeof state.held));
     return 0;
 }

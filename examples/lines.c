@@ -9,7 +9,8 @@ int main(void) {
     uint8_t lines[BRUNDILOPE_LARGEST_LINES];
     size_t size = fread(bytes, 1, sizeof bytes, stdin);
 
-    struct brundilope_written answer = brundilope_lines_of_packet(bytes, size, lines, sizeof lines);
+    struct brundilope_written answer =
+        brundilope_lines_of_packet(BRUNDILOPE_FAMILY_STANDARD, bytes, size, lines, sizeof lines);
     if (answer.number != 0) {
         printf("refusal %zu\n", answer.number);
         return 1;

@@ -9,7 +9,8 @@ int main(void) {
     uint64_t words[BRUNDILOPE_LARGEST_CONTENTS];
     size_t size = fread(bytes, 1, sizeof bytes, stdin);
 
-    size_t refusal = brundilope_contents_of_packet(bytes, size, words, BRUNDILOPE_LARGEST_CONTENTS).number;
+    size_t family = BRUNDILOPE_FAMILY_STANDARD; /* all units but FMB640, FMB641, FMC640, FMM640 */
+    size_t refusal = brundilope_contents_of_packet(family, bytes, size, words, BRUNDILOPE_LARGEST_CONTENTS).number;
     if (refusal != 0) {
         printf("refusal %zu\n", refusal);
         return 1;

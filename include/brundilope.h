@@ -4,11 +4,11 @@
  * Every call judges its input itself and answers every input. `number` is 0 where the input is accepted. Else it is
  * the refusal's number, and `index` is the record's index from 0, which goes with 8 to 12 in data packets and
  * datagrams (left-over bytes: the number of records). `index` is 0 otherwise, and on a refusal all other fields are 0;
- * only a feed still says how many bytes it used and what the connection's state is.
+ * only a feed still says how many bytes it used, and a feed or a start what the connection's state is.
  *
  *    1  under 8 bytes (TCP packet), 17 (login), 26 (UDP)
  *    2  first four bytes not zero
- *    3  data length outside 3 to 1,268; datagram over 1,280
+ *    3  data length or datagram outside its family's limits
  *    4  input length differs from what its length field gives; login over 17 bytes
  *    5  CRC field wrong
  *    6  codec not one this entry point takes
@@ -17,15 +17,27 @@
  *    9  IO total wrong
  *   10  priority over 2
  *   11  generation type over 7
- *   12  record over 255 bytes
+ *   12  record over 255 bytes (family 1)
  *   13  message type not allowed for its codec
- *   14  text size breaks its rule
+ *   14  text size breaks its rule, or a command to write is over its family's limit
  *   15  IMEI length or digit wrong
  *   16  no such record, element or ID
- *   17  not the TLV form of any acceptable TCP data packet
+ *   17  not the TLV form of any acceptable TCP data packet of the family
  *   18  lent buffer too short for the result
  *   19  connection closed, or a state that no feeds from a fresh one give
  *   20  not a billing line
+ *   21  unknown family
+ *
+ * A call that judges or builds a packet or datagram names the family of the unit as a number, its first argument; a
+ * connection names it when it starts. There are two, and whatever family 1 accepts, family 2 accepts with the same
+ * result:
+ *
+ *    1  FMB640, FMB641, FMC640, FMM640: a TCP packet (data or command) or datagram has at most 512 bytes, a record 255
+ *    2  all other units: a TCP packet or datagram has at most 1,280 bytes, and a record has no limit of its own
+ *
+ * So 3 says that a TCP packet's data length is outside 3 to the family's limit less 12, or that a datagram is over the
+ * limit. Any other number is refused with 21, before all other refusals and before any byte is read; the refusals that
+ * are named below at a call with a family come behind it. Only a state of an unknown family gets 19 instead.
  *
  * An input is a pointer and a length; a null pointer with length 0 is an empty input, and so for buffers. A call that
  * writes puts its result at the start of the lent buffer `out` and changes nothing behind it; a refusal changes no
@@ -39,7 +51,12 @@
 #include <stddef.h>
 #include <stdint.h>
 
-/* The most bytes of a packet or a datagram; and of a TLV form, which has at most four times as many as its packet. */
+/* The families of unit. */
+#define BRUNDILOPE_FAMILY_640 1
+#define BRUNDILOPE_FAMILY_STANDARD 2
+
+/* The most bytes of a packet or a datagram of any family; and of a TLV form, which has at most four times as many as
+ * its packet. */
 #define BRUNDILOPE_LARGEST 1280
 #define BRUNDILOPE_LARGEST_FORM (4 * BRUNDILOPE_LARGEST)
 
@@ -165,35 +182,39 @@ struct brundilope_line_element {
 /* ---- reading */
 
 /* A TCP data packet. Refusals 1 to 12. */
-struct brundilope_packet brundilope_read_packet(const uint8_t *p, size_t p_len);
+struct brundilope_packet brundilope_read_packet(size_t family, const uint8_t *p, size_t p_len);
 
 /* A UDP datagram. Refusals 1, 3, 4, 15, 6 to 12. */
-struct brundilope_datagram brundilope_read_datagram(const uint8_t *p, size_t p_len);
+struct brundilope_datagram brundilope_read_datagram(size_t family, const uint8_t *p, size_t p_len);
 
 /* A TCP login. Refusals 1, 4, 15. */
 struct brundilope_login brundilope_read_login(const uint8_t *p, size_t p_len);
 
 /* A command packet. Refusals 1 to 8, 13, 14, 15; `index` is always 0. */
-struct brundilope_command brundilope_read_command(const uint8_t *p, size_t p_len);
+struct brundilope_command brundilope_read_command(size_t family, const uint8_t *p, size_t p_len);
 
 /* ---- looking up: records and elements are numbered from 0 */
 
 /* A record by its number. Refusals: those of reading the packet or datagram, then 16. */
-struct brundilope_record brundilope_record_in_packet(const uint8_t *p, size_t p_len, size_t record);
-struct brundilope_record brundilope_record_in_datagram(const uint8_t *p, size_t p_len, size_t record);
+struct brundilope_record brundilope_record_in_packet(size_t family, const uint8_t *p, size_t p_len, size_t record);
+struct brundilope_record brundilope_record_in_datagram(size_t family, const uint8_t *p, size_t p_len, size_t record);
 
 /* An element by its record's number and its own. Refusals: those of reading, then 16. */
-struct brundilope_value brundilope_value_in_packet(const uint8_t *p, size_t p_len, size_t record, size_t element);
-struct brundilope_value brundilope_value_in_datagram(const uint8_t *p, size_t p_len, size_t record, size_t element);
+struct brundilope_value brundilope_value_in_packet(size_t family, const uint8_t *p, size_t p_len,
+                                                   size_t record, size_t element);
+struct brundilope_value brundilope_value_in_datagram(size_t family, const uint8_t *p, size_t p_len,
+                                                     size_t record, size_t element);
 
 /* The first element of a record with this ID, in byte order. Refusals: those of reading, then 16. */
-struct brundilope_value brundilope_id_in_packet(const uint8_t *p, size_t p_len, size_t record, uint16_t id);
-struct brundilope_value brundilope_id_in_datagram(const uint8_t *p, size_t p_len, size_t record, uint16_t id);
+struct brundilope_value brundilope_id_in_packet(size_t family, const uint8_t *p, size_t p_len,
+                                                size_t record, uint16_t id);
+struct brundilope_value brundilope_id_in_datagram(size_t family, const uint8_t *p, size_t p_len,
+                                                  size_t record, uint16_t id);
 
 /* The first element with this ID in the last record of the newer TCP data packet; if there is none, in the last record
- * of the older. Refusals: those of reading the newer; those of reading the older, which is judged only if the newer
- * lacks the ID; then 16. */
-struct brundilope_known brundilope_last_known(const uint8_t *newer, size_t newer_len,
+ * of the older; both are packets of the named family. Refusals: those of reading the newer; those of reading the older,
+ * which is judged only if the newer lacks the ID; then 16. */
+struct brundilope_known brundilope_last_known(size_t family, const uint8_t *newer, size_t newer_len,
                                               const uint8_t *older, size_t older_len, uint16_t id);
 
 /* ---- whole packets: judged once, then everything is read from a table
@@ -217,8 +238,9 @@ struct brundilope_known brundilope_last_known(const uint8_t *newer, size_t newer
  * unused byte, AVL packet ID and IMEI are 0 for a TCP packet. Longitude, latitude and altitude are two's complement. */
 
 /* The table of contents. Refusals: those of reading the packet or datagram, then 18: it has more words than `out`. */
-struct brundilope_written brundilope_contents_of_packet(const uint8_t *p, size_t p_len, uint64_t *out, size_t out_len);
-struct brundilope_written brundilope_contents_of_datagram(const uint8_t *p, size_t p_len,
+struct brundilope_written brundilope_contents_of_packet(size_t family, const uint8_t *p, size_t p_len,
+                                                        uint64_t *out, size_t out_len);
+struct brundilope_written brundilope_contents_of_datagram(size_t family, const uint8_t *p, size_t p_len,
                                                           uint64_t *out, size_t out_len);
 
 /* The functions below read a table that was written, so that no caller has to shift: `words` is its start, `r` the
@@ -286,25 +308,35 @@ static inline size_t brundilope_contents_value_size(uint64_t v) { return (uint16
 
 /* ---- a connection: fed as the socket gives the bytes, cut anywhere
  *
- * A connection is one login, then data or command packets. A feed takes the state and the next bytes. It uses every
- * byte up to the one that finishes or refuses an item and none after it, and says how many it used; the unused rest is
- * fed again. A login is judged when 17 bytes are gathered (15), a packet's header at 8 (2, 3), the rest when the whole
- * packet is (5, then 7, 8, 13, 14, 15 for codecs 0x0C and 0x0E, and 6 to 12 for all others); 1 and 4 never occur.
- * However the bytes are cut, the items, the closing refusal and the state at the end are the same.
+ * A connection is one login, then data or command packets, by the limits of the family that it is started with. A feed
+ * takes the state and the next bytes. It uses every byte up to the one that finishes or refuses an item and none after
+ * it, and says how many it used; the unused rest is fed again. A login is judged when 17 bytes are gathered (15), a
+ * packet's header at 8 (2, 3), the rest when the whole packet is (5, then 7, 8, 13, 14, 15 for codecs 0x0C and 0x0E,
+ * and 6 to 12 for all others); 1 and 4 never occur. However the bytes are cut, the items, the closing refusal and the
+ * state at the end are the same.
  *
  * Any refusal but 18 and 19 closes the connection, and each later feed gives 19. So does a feed of a state that no
- * feeds from a fresh one give, for example with a byte behind `fill` that is not zero. 19 comes before all others, on
- * an empty feed too; it uses no byte and changes nothing.
+ * feeds from a fresh one give, for example with a byte behind `fill` that is not zero, or with an unknown family. 19
+ * comes before all others, on an empty feed too; it uses no byte and changes nothing.
  *
  * A unit forgets its records once they are acknowledged: store a data packet that a feed gave, then answer it with the
- * bytes 0, 0, 0 and brundilope_count_of(packet); brundilope_acknowledge_packet gives the same and judges it again. */
+ * bytes 0, 0, 0 and brundilope_count_of(packet); brundilope_acknowledge_packet with the connection's family gives the
+ * same and judges it again. */
 
-/* The state of a connection: what is gathered of the next item. All zero bytes are a fresh one. All fields are the
- * library's: the caller keeps them and hands them back as they are, and may read them. */
+/* The state of a connection: what is gathered of the next item. A fresh one is all zero but for its family. All fields
+ * are the library's: the caller keeps them and hands them back as they are, and may read them. */
 struct brundilope_connection {
     uint8_t held[BRUNDILOPE_LARGEST]; /* the bytes gathered so far, zeros behind them */
     size_t fill;                      /* how many they are */
     uint8_t phase;                    /* 0 the login is expected, 1 packets are, 2 closed */
+    uint8_t family;                   /* whose limits hold; feeds leave it as it is */
+};
+
+/* What a start gives. */
+struct brundilope_started {
+    size_t number;
+    size_t index;
+    struct brundilope_connection state;
 };
 
 /* What a feed gives, with the state by value. */
@@ -331,33 +363,36 @@ struct brundilope_taken {
     uint8_t phase;
 };
 
-/* A fresh connection: all zero bytes. */
-struct brundilope_connection brundilope_fresh(void);
+/* Starts a connection: a fresh one of this family. Refusal 21, with a closed one of family 1: each feed of it gives
+ * 19. */
+struct brundilope_started brundilope_start(size_t family);
 
 /* Feeds the next bytes. Refusals 19, 15 for a login, 2, 3, 5 to 15 for a packet. */
 struct brundilope_fed brundilope_feed(struct brundilope_connection state, const uint8_t *bytes, size_t bytes_len);
 
-/* A fresh connection in place of any state, a closed one or a broken one too. */
+/* The connection that brundilope_start gives for the state's family, in place of any state, a closed one or a broken
+ * one too: a fresh one, or a closed one of family 1 if the state's family is unknown. */
 struct brundilope_connection brundilope_reset(struct brundilope_connection state);
 
-/* The same feed for a state that is lent. `held` are the state's BRUNDILOPE_LARGEST bytes (19 if `held_len` is another
- * number), and afterwards it holds what the state by value would: it is unchanged where nothing was held and the item
- * is whole in `bytes`. A packet is put at the start of the buffer `packet`; nothing behind it is changed, and no byte
- * where there is no packet. Refusals: 19, then 18, then those of brundilope_feed. 18 says that `packet_len` is under
- * BRUNDILOPE_LARGEST, whatever the bytes are; it uses no byte, changes nothing and does not close. */
-struct brundilope_taken brundilope_feed_lent(uint8_t phase, size_t fill, uint8_t *held, size_t held_len,
+/* The same feed for a state that is lent. `held` are the state's BRUNDILOPE_LARGEST bytes, in every family (19 if
+ * `held_len` is another number), and afterwards it holds what the state by value would: it is unchanged where nothing
+ * was held and the item is whole in `bytes`. A packet is put at the start of the buffer `packet`; nothing behind it is
+ * changed, and no byte where there is no packet. Refusals: 19, then 18, then those of brundilope_feed. 18 says that
+ * `packet_len` is under the most bytes of a TCP packet of the family, 512 or 1,280, whatever the bytes are; it uses no
+ * byte, changes nothing and does not close. */
+struct brundilope_taken brundilope_feed_lent(size_t family, uint8_t phase, size_t fill, uint8_t *held, size_t held_len,
                                              const uint8_t *bytes, size_t bytes_len,
                                              uint8_t *packet, size_t packet_len);
 
 /* How many more bytes are wanted before anything is judged; 0 where a feed gives 19. */
-size_t brundilope_wanted(uint8_t phase, size_t fill, const uint8_t *held, size_t held_len);
+size_t brundilope_wanted(size_t family, uint8_t phase, size_t fill, const uint8_t *held, size_t held_len);
 
 /* Feeds a state where it stands: for callers who keep many, of 1,296 bytes each. */
 static inline struct brundilope_taken brundilope_feed_at(struct brundilope_connection *c,
                                                          const uint8_t *bytes, size_t bytes_len,
                                                          uint8_t *packet, size_t packet_len) {
-    struct brundilope_taken taken =
-        brundilope_feed_lent(c->phase, c->fill, c->held, sizeof c->held, bytes, bytes_len, packet, packet_len);
+    struct brundilope_taken taken = brundilope_feed_lent(c->family, c->phase, c->fill, c->held, sizeof c->held,
+                                                         bytes, bytes_len, packet, packet_len);
     c->fill = taken.fill;
     c->phase = taken.phase;
     return taken;
@@ -374,26 +409,33 @@ static inline uint8_t brundilope_count_of(const uint8_t *packet) { return packet
 struct brundilope_written brundilope_answer_login(const uint8_t *p, size_t p_len, bool known,
                                                   uint8_t *out, size_t out_len);
 
-/* Four bytes to a TCP data packet: the number of records, big-endian; zeros for a refused packet. Refusal 18 only. */
-struct brundilope_written brundilope_acknowledge_packet(const uint8_t *p, size_t p_len, uint8_t *out, size_t out_len);
+/* Four bytes to a TCP data packet: the number of records, big-endian; zeros for a refused packet. Refusals 21
+ * and 18 only. */
+struct brundilope_written brundilope_acknowledge_packet(size_t family, const uint8_t *p, size_t p_len,
+                                                        uint8_t *out, size_t out_len);
 
 /* Seven bytes to a datagram: 00 05, packet ID, unused byte and AVL packet ID as received, number of records.
  * Refusals: those of reading the datagram, which then gets no acknowledgement; then 18. */
-struct brundilope_written brundilope_acknowledge_datagram(const uint8_t *p, size_t p_len, uint8_t *out, size_t out_len);
+struct brundilope_written brundilope_acknowledge_datagram(size_t family, const uint8_t *p, size_t p_len,
+                                                          uint8_t *out, size_t out_len);
 
 /* ---- writing: BRUNDILOPE_LARGEST bytes are enough for every packet, BRUNDILOPE_LARGEST_FORM for every TLV form */
 
 /* A command packet. `imei` is empty for codec 0x0C and 15 ASCII digits for 0x0E; `text` is any bytes, none with type
- * 0x11. Refusals, in this order: 6, 13, 15, 14 (also if the packet would be over 1,280 bytes), 18. */
-struct brundilope_written brundilope_write_command(uint8_t codec, uint8_t type, const uint8_t *imei, size_t imei_len,
+ * 0x11. Refusals, in this order: 6, 13, 15, 14 (also if the packet would be over the family's limit), 18. */
+struct brundilope_written brundilope_write_command(size_t family, uint8_t codec, uint8_t type,
+                                                   const uint8_t *imei, size_t imei_len,
                                                    const uint8_t *text, size_t text_len, uint8_t *out, size_t out_len);
 
 /* The TLV form of a TCP data packet or of a datagram. Refusals: those of reading it, then 18. */
-struct brundilope_written brundilope_form_of_packet(const uint8_t *p, size_t p_len, uint8_t *out, size_t out_len);
-struct brundilope_written brundilope_form_of_datagram(const uint8_t *p, size_t p_len, uint8_t *out, size_t out_len);
+struct brundilope_written brundilope_form_of_packet(size_t family, const uint8_t *p, size_t p_len,
+                                                    uint8_t *out, size_t out_len);
+struct brundilope_written brundilope_form_of_datagram(size_t family, const uint8_t *p, size_t p_len,
+                                                      uint8_t *out, size_t out_len);
 
-/* The TCP data packet of a TLV form. Refusals 17, 18. */
-struct brundilope_written brundilope_packet_of_form(const uint8_t *form, size_t form_len, uint8_t *out, size_t out_len);
+/* The TCP data packet of a TLV form. Refusals 17 (no acceptable packet of the named family has this form), 18. */
+struct brundilope_written brundilope_packet_of_form(size_t family, const uint8_t *form, size_t form_len,
+                                                    uint8_t *out, size_t out_len);
 
 /* ---- lines for the billing desk
  *
@@ -413,15 +455,17 @@ struct brundilope_written brundilope_packet_of_form(const uint8_t *form, size_t 
  * only where it has to be. How long the record would be is not judged. Anything else gets 20. */
 
 /* The line of a record by its number, from 0. Refusals: those of reading the packet or datagram, then 16, then 18. */
-struct brundilope_written brundilope_line_of_packet(const uint8_t *p, size_t p_len, size_t record,
+struct brundilope_written brundilope_line_of_packet(size_t family, const uint8_t *p, size_t p_len, size_t record,
                                                     uint8_t *out, size_t out_len);
-struct brundilope_written brundilope_line_of_datagram(const uint8_t *p, size_t p_len, size_t record,
+struct brundilope_written brundilope_line_of_datagram(size_t family, const uint8_t *p, size_t p_len, size_t record,
                                                       uint8_t *out, size_t out_len);
 
 /* The lines of all records, one behind another; the packet or datagram is judged once. BRUNDILOPE_LARGEST_LINES bytes
  * are enough for every one. Refusals: those of reading it, then 18. */
-struct brundilope_written brundilope_lines_of_packet(const uint8_t *p, size_t p_len, uint8_t *out, size_t out_len);
-struct brundilope_written brundilope_lines_of_datagram(const uint8_t *p, size_t p_len, uint8_t *out, size_t out_len);
+struct brundilope_written brundilope_lines_of_packet(size_t family, const uint8_t *p, size_t p_len,
+                                                     uint8_t *out, size_t out_len);
+struct brundilope_written brundilope_lines_of_datagram(size_t family, const uint8_t *p, size_t p_len,
+                                                       uint8_t *out, size_t out_len);
 
 /* A line. Refusal 20. */
 struct brundilope_line brundilope_read_line(const uint8_t *s, size_t s_len);

@@ -38,7 +38,10 @@ static size_t datagram(uint8_t *bytes) {
 int main(void) {
     uint8_t bytes[BRUNDILOPE_LARGEST];
     uint64_t words[WORDS];
-    struct brundilope_written answer = brundilope_contents_of_datagram(bytes, datagram(bytes), words, WORDS);
+    size_t size = datagram(bytes);
+    HOLD(brundilope_contents_of_datagram(3, bytes, size, words, 0).number, 21);
+    struct brundilope_written answer =
+        brundilope_contents_of_datagram(BRUNDILOPE_FAMILY_640, bytes, size, words, WORDS);
     HOLD(answer.number, 0);
     HOLD(answer.written, WORDS);
     if (wrong) return 1;

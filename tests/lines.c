@@ -7,7 +7,7 @@
 #include "brundilope.h"
 #include "hold.h"
 
-enum { ROOM = 64, SIZE = 143, RECORDS = 2, HEAD = 23, GRAM = HEAD + SIZE - 12 };
+enum { FAMILY = BRUNDILOPE_FAMILY_STANDARD, ROOM = 64, SIZE = 143, RECORDS = 2, HEAD = 23, GRAM = HEAD + SIZE - 12 };
 
 /* samples/driver-tags.hex, the first name's bytes made odd: quote, comma, backslash, LF and 0xFF among them. */
 static uint8_t packet[] = {
@@ -71,10 +71,10 @@ static int untouched(const uint8_t *b, size_t size) {
  * differ in size. */
 static struct brundilope_written write_into(const uint8_t *p, size_t size, size_t record, uint8_t *out, size_t room) {
     if (size == GRAM)
-        return record < RECORDS ? brundilope_line_of_datagram(p, size, record, out, room)
-                                : brundilope_lines_of_datagram(p, size, out, room);
-    return record < RECORDS ? brundilope_line_of_packet(p, size, record, out, room)
-                            : brundilope_lines_of_packet(p, size, out, room);
+        return record < RECORDS ? brundilope_line_of_datagram(FAMILY, p, size, record, out, room)
+                                : brundilope_lines_of_datagram(FAMILY, p, size, out, room);
+    return record < RECORDS ? brundilope_line_of_packet(FAMILY, p, size, record, out, room)
+                            : brundilope_lines_of_packet(FAMILY, p, size, out, room);
 }
 
 /* A text is written into a block that is just long enough, into a longer one, and not into one that is too short. */
@@ -188,6 +188,14 @@ static void damaged(const char *text) {
     }
 }
 
+/* A byte of the packet and of the datagram is missing, and there is no room. */
+static void refused(size_t family, const uint8_t *p, const uint8_t *gram, long long number) {
+    HOLD(brundilope_line_of_packet(family, p, SIZE - 1, 0, NULL, 0).number, number);
+    HOLD(brundilope_lines_of_packet(family, p, SIZE - 1, NULL, 0).number, number);
+    HOLD(brundilope_line_of_datagram(family, gram, GRAM - 1, 0, NULL, 0).number, number);
+    HOLD(brundilope_lines_of_datagram(family, gram, GRAM - 1, NULL, 0).number, number);
+}
+
 int main(void) {
     put_crc();
     HOLD(sizeof packet, SIZE);
@@ -201,12 +209,11 @@ int main(void) {
         written(p, SIZE, n, n < RECORDS ? lines[n] : all);
         written(gram, GRAM, n, n < RECORDS ? lines[n] : all);
     }
-    HOLD(brundilope_line_of_packet(p, SIZE, RECORDS, NULL, 0).number, 16);
-    HOLD(brundilope_line_of_datagram(gram, GRAM, RECORDS, NULL, 0).number, 16);
-    HOLD(brundilope_line_of_packet(p, SIZE - 1, 0, NULL, 0).number, 4);
-    HOLD(brundilope_lines_of_packet(p, SIZE - 1, NULL, 0).number, 4);
-    HOLD(brundilope_line_of_datagram(gram, GRAM - 1, 0, NULL, 0).number, 4);
-    HOLD(brundilope_lines_of_datagram(gram, GRAM - 1, NULL, 0).number, 4);
+    HOLD(brundilope_line_of_packet(FAMILY, p, SIZE, RECORDS, NULL, 0).number, 16);
+    HOLD(brundilope_line_of_datagram(FAMILY, gram, GRAM, RECORDS, NULL, 0).number, 16);
+    refused(FAMILY, p, gram, 4);
+    refused(0, p, gram, 21);
+    refused(FAMILY + 256, p, gram, 21);
     for (size_t n = 0; n < RECORDS; n++) {
         uint8_t *s = copy(lines[n], strlen(lines[n]));
         if (n == 0) first_line(s, strlen(lines[n]));

@@ -6,10 +6,13 @@ use std::net::{TcpListener, TcpStream};
 use std::time::Duration;
 use std::{env, process, thread};
 
-use brundilope::{Connection, Contents, Item};
+use brundilope::{Connection, Contents, Family, Item};
 
 /// Keeps lines, or says why it cannot: in place of a database.
 pub type Keep<'a> = &'a (dyn Fn(&str) -> io::Result<()> + Sync);
+
+/// Units of both families may connect: this one accepts whatever the other does.
+const FAMILY: Family = Family::Standard;
 
 /// Whoever is silent for so long is gone.
 const SILENCE: Duration = Duration::from_secs(600);
@@ -42,7 +45,7 @@ fn serve_unit(unit: &TcpStream, known: &[u64], keep: Keep) {
 /// Answers a unit until it hangs up, proves to be unknown or sends what is refused; says which.
 fn answer_unit(mut unit: &TcpStream, name: &str, known: &[u64], keep: Keep) -> io::Result<String> {
     unit.set_read_timeout(Some(SILENCE))?;
-    let (mut connection, mut room, mut bytes) = (Connection::new(), Contents::new(), [0; 4096]);
+    let (mut connection, mut room, mut bytes) = (Connection::new(FAMILY), Contents::new(), [0; 4096]);
     let mut logged_in = false;
     loop {
         let size = match unit.read(&mut bytes) {

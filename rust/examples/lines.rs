@@ -2,11 +2,11 @@
 //! `cargo run --example lines <FILE`
 use std::io::Read;
 
-use brundilope::{Contents, DataPacket, Refusal, LARGEST_LINES};
+use brundilope::{Contents, DataPacket, Family, Refusal, LARGEST_LINES};
 
 fn show(bytes: &[u8]) -> Result<(), Refusal> {
     let (mut room, mut text) = (Contents::new(), [0; LARGEST_LINES]);
-    for line in DataPacket::read(bytes, &mut room)?.lines(&mut text) {
+    for line in DataPacket::read(Family::Standard, bytes, &mut room)?.lines(&mut text) {
         print!("{line}"); // the LF is the line's own
     }
     Ok(())

@@ -4,6 +4,7 @@ use std::hash::{Hash, Hasher};
 use std::iter::FusedIterator;
 
 use crate::contents::{Contents, DataPacket};
+use crate::family::Family;
 use crate::raw;
 use crate::reading::{read_command, Command, Login};
 use crate::refusal::{data_judged, judged, Refusal};
@@ -12,9 +13,9 @@ use crate::LARGEST;
 /// What a connection expects.
 ///
 /// ```
-/// use brundilope::{samples, Connection, Phase};
+/// use brundilope::{samples, Connection, Family, Phase};
 ///
-/// let mut connection = Connection::new();
+/// let mut connection = Connection::new(Family::Standard);
 /// assert_eq!(connection.phase(), Phase::Login);
 /// let _ = connection.feed(samples::LOGIN);
 /// assert_eq!(connection.phase(), Phase::Packets);
@@ -34,13 +35,14 @@ pub enum Phase {
 /// What is received on one connection, cut anyhow, and given out item by item: a login, then data packets and commands.
 ///
 /// It holds what has come of the next item, in [`LARGEST`] bytes of its own; nothing is allocated. Each item is judged
-/// by the rules of [`read_login`](crate::read_login), [`read_packet`](crate::read_packet) and [`read_command`], and the
-/// first that is refused closes the connection, since nobody knows where the next one begins.
+/// by the rules of [`read_login`](crate::read_login), [`read_packet`](crate::read_packet) and [`read_command`], with
+/// the family that the connection was made with, and the first that is refused closes the connection, since nobody
+/// knows where the next one begins.
 ///
 /// ```
-/// use brundilope::{samples, Connection, Item};
+/// use brundilope::{samples, Connection, Family, Item};
 ///
-/// let mut connection = Connection::new();
+/// let mut connection = Connection::new(Family::Standard);
 /// let sent = [samples::LOGIN, samples::CODEC8, samples::CODEC16].concat();
 /// let mut answers = Vec::new();
 /// for received in sent.chunks(50) {
@@ -58,14 +60,16 @@ pub enum Phase {
 pub struct Connection(raw::Connection);
 
 impl Connection {
-    /// A fresh connection, which expects the login.
+    /// A fresh connection with a unit of this family, which expects the login.
     ///
     /// ```
-    /// assert_eq!(brundilope::Connection::new().wanted(), 17);
+    /// use brundilope::{Connection, Family};
+    ///
+    /// assert_eq!(Connection::new(Family::Standard).wanted(), 17);
     /// ```
     #[must_use]
-    pub const fn new() -> Self {
-        Connection(raw::Connection { held: [0; LARGEST], fill: 0, phase: 0 })
+    pub const fn new(family: Family) -> Self {
+        Connection(raw::Connection { held: [0; LARGEST], fill: 0, phase: 0, family })
     }
 
     /// Takes bytes up to the one that finishes or refuses an item, and none behind it: feed the rest again. If no item
@@ -73,9 +77,9 @@ impl Connection {
     /// 15 of the whole; 19 once the connection is closed.
     ///
     /// ```
-    /// use brundilope::{samples, Connection, Fed, Item, Login};
+    /// use brundilope::{samples, Connection, Family, Fed, Item, Login};
     ///
-    /// let mut connection = Connection::new();
+    /// let mut connection = Connection::new(Family::Standard);
     /// let received = [samples::LOGIN, samples::CODEC8].concat();
     /// let Fed { used, item } = connection.feed(&received[..40]);
     /// assert_eq!((used, item), (17, Item::Login(Login { imei: 356_307_042_441_013 })));
@@ -99,8 +103,8 @@ impl Connection {
         let codec = self.held().iter().chain(bytes).nth(8);
         let command = matches!(codec, Some(0x0C | 0x0E));
         *item = match command {
-            true => Item::Command(ReceivedCommand(raw::Given::none())),
-            false => Item::Data(ReceivedData(raw::Given::none())),
+            true => Item::Command(ReceivedCommand(raw::Given::none(self.family()))),
+            false => Item::Data(ReceivedData(raw::Given::none(self.family()))),
         };
         let (Item::Command(ReceivedCommand(packet)) | Item::Data(ReceivedData(packet))) = item else {
             unreachable!("it was made above")
@@ -123,9 +127,9 @@ impl Connection {
     /// not among them. A closed connection gives refusal 19, once.
     ///
     /// ```
-    /// use brundilope::{samples, Connection, Item};
+    /// use brundilope::{samples, Connection, Family, Item};
     ///
-    /// let mut connection = Connection::new();
+    /// let mut connection = Connection::new(Family::Standard);
     /// let received = [samples::LOGIN, samples::CODEC8, b"no packet", samples::CODEC16].concat();
     /// let mut items = connection.items(&received);
     /// assert!(matches!(items.next(), Some(Item::Login(_))));
@@ -143,9 +147,9 @@ impl Connection {
     /// or of the whole packet. 0 once the connection is closed.
     ///
     /// ```
-    /// use brundilope::{samples, Connection};
+    /// use brundilope::{samples, Connection, Family};
     ///
-    /// let mut connection = Connection::new();
+    /// let mut connection = Connection::new(Family::Standard);
     /// let _ = connection.feed(samples::LOGIN);
     /// assert_eq!(connection.wanted(), 8);
     /// let _ = connection.feed(&samples::CODEC8[..8]);
@@ -159,9 +163,9 @@ impl Connection {
     /// What has come of the next item: what is lost if the input ends here.
     ///
     /// ```
-    /// use brundilope::{samples, Connection};
+    /// use brundilope::{samples, Connection, Family};
     ///
-    /// let mut connection = Connection::new();
+    /// let mut connection = Connection::new(Family::Standard);
     /// let _ = connection.feed(&samples::LOGIN[..5]);
     /// assert_eq!(connection.held(), &samples::LOGIN[..5]);
     /// let _ = connection.feed(&samples::LOGIN[5..]);
@@ -173,12 +177,25 @@ impl Connection {
         &self.0.held[..self.0.fill]
     }
 
+    /// The family by whose limits packets are judged.
+    ///
+    /// ```
+    /// use brundilope::{Connection, Family};
+    ///
+    /// assert_eq!(Connection::new(Family::Fmx640).family(), Family::Fmx640);
+    /// ```
+    #[must_use]
+    #[inline]
+    pub fn family(&self) -> Family {
+        self.0.family
+    }
+
     /// What is expected next.
     ///
     /// ```
-    /// use brundilope::{Connection, Phase};
+    /// use brundilope::{Connection, Family, Phase};
     ///
-    /// assert_eq!(Connection::new().phase(), Phase::Login);
+    /// assert_eq!(Connection::new(Family::Standard).phase(), Phase::Login);
     /// ```
     #[must_use]
     pub fn phase(&self) -> Phase {
@@ -192,7 +209,9 @@ impl Connection {
     /// Whether an item was refused, so that nothing more is taken.
     ///
     /// ```
-    /// let mut connection = brundilope::Connection::new();
+    /// use brundilope::{Connection, Family};
+    ///
+    /// let mut connection = Connection::new(Family::Standard);
     /// let _ = connection.feed(b"no login, but 17 bytes");
     /// assert!(connection.is_closed());
     /// ```
@@ -201,30 +220,28 @@ impl Connection {
         self.phase() == Phase::Closed
     }
 
-    /// Makes it a fresh one, for another unit.
+    /// Makes it a fresh one of its family, for another unit.
     ///
     /// ```
-    /// use brundilope::Connection;
+    /// use brundilope::{Connection, Family};
     ///
-    /// let mut connection = Connection::new();
+    /// let mut connection = Connection::new(Family::Standard);
     /// let _ = connection.feed(b"no login, but 17 bytes");
     /// connection.reset();
-    /// assert_eq!(connection, Connection::new());
+    /// assert_eq!(connection, Connection::new(Family::Standard));
     /// ```
     pub fn reset(&mut self) {
-        *self = Connection::new();
-    }
-}
-
-impl Default for Connection {
-    fn default() -> Self {
-        Connection::new()
+        *self = Connection::new(self.family());
     }
 }
 
 impl Debug for Connection {
     fn fmt(&self, f: &mut Formatter<'_>) -> Printed {
-        f.debug_struct("Connection").field("phase", &self.phase()).field("held", &self.held()).finish()
+        f.debug_struct("Connection")
+            .field("family", &self.family())
+            .field("phase", &self.phase())
+            .field("held", &self.held())
+            .finish()
     }
 }
 
@@ -233,9 +250,9 @@ impl Debug for Connection {
 /// A packet stands in it by value, in room for the longest: match on `&fed.item` where it need not be moved.
 ///
 /// ```
-/// use brundilope::{Connection, Fed, Item};
+/// use brundilope::{Connection, Family, Fed, Item};
 ///
-/// assert_eq!(Connection::new().feed(b""), Fed { used: 0, item: Item::More });
+/// assert_eq!(Connection::new(Family::Standard).feed(b""), Fed { used: 0, item: Item::More });
 /// ```
 #[derive(Clone, Debug, PartialEq, Eq, Hash)]
 #[must_use = "the bytes that were not used are to be fed again"]
@@ -249,9 +266,9 @@ pub struct Fed {
 /// An item of a connection.
 ///
 /// ```
-/// use brundilope::{samples, Connection, Item};
+/// use brundilope::{samples, Connection, Family, Item};
 ///
-/// let mut connection = Connection::new();
+/// let mut connection = Connection::new(Family::Standard);
 /// match connection.feed(samples::LOGIN).item {
 ///     Item::More => println!("{} more bytes", connection.wanted()),
 ///     Item::Login(login) => println!("unit {:015}", login.imei),
@@ -277,7 +294,7 @@ pub enum Item {
 
 impl PartialEq for raw::Given {
     fn eq(&self, other: &Self) -> bool {
-        self.bytes() == other.bytes()
+        (self.family, self.bytes()) == (other.family, other.bytes())
     }
 }
 
@@ -285,16 +302,16 @@ impl Eq for raw::Given {}
 
 impl Hash for raw::Given {
     fn hash<H: Hasher>(&self, state: &mut H) {
-        self.bytes().hash(state);
+        (self.family, self.bytes()).hash(state);
     }
 }
 
 /// A data packet that a connection has judged; its bytes by value.
 ///
 /// ```
-/// use brundilope::{samples, Connection, Contents, Item};
+/// use brundilope::{samples, Connection, Contents, Family, Item};
 ///
-/// let mut connection = Connection::new();
+/// let mut connection = Connection::new(Family::Standard);
 /// let mut room = Contents::new();
 /// for item in connection.items(&[samples::LOGIN, samples::CODEC16].concat()) {
 ///     let Item::Data(data) = item else { continue };
@@ -311,8 +328,8 @@ impl ReceivedData {
     /// The packet's bytes.
     ///
     /// ```
-    /// # use brundilope::{samples, Connection, Item};
-    /// # let mut connection = Connection::new();
+    /// # use brundilope::{samples, Connection, Family, Item};
+    /// # let mut connection = Connection::new(Family::Standard);
     /// # let _ = connection.feed(samples::LOGIN);
     /// let Item::Data(it) = connection.feed(samples::CODEC8).item else { panic!() };
     /// assert_eq!(it.bytes(), samples::CODEC8);
@@ -323,11 +340,26 @@ impl ReceivedData {
         self.0.bytes()
     }
 
+    /// The family by whose limits it was judged: that of its connection.
+    ///
+    /// ```
+    /// # use brundilope::{samples, Connection, Family, Item};
+    /// # let mut connection = Connection::new(Family::Standard);
+    /// # let _ = connection.feed(samples::LOGIN);
+    /// let Item::Data(it) = connection.feed(samples::CODEC8).item else { panic!() };
+    /// assert_eq!(it.family(), connection.family());
+    /// ```
+    #[must_use]
+    #[inline]
+    pub fn family(&self) -> Family {
+        self.0.family
+    }
+
     /// The codec: 0x08, 0x8E or 0x10.
     ///
     /// ```
-    /// # use brundilope::{samples, Connection, Item};
-    /// # let mut connection = Connection::new();
+    /// # use brundilope::{samples, Connection, Family, Item};
+    /// # let mut connection = Connection::new(Family::Standard);
     /// # let _ = connection.feed(samples::LOGIN);
     /// let Item::Data(it) = connection.feed(samples::CODEC8E).item else { panic!() };
     /// assert_eq!(it.codec(), 0x8E);
@@ -341,8 +373,8 @@ impl ReceivedData {
     /// The number of records, 1 to 255.
     ///
     /// ```
-    /// # use brundilope::{samples, Connection, Item};
-    /// # let mut connection = Connection::new();
+    /// # use brundilope::{samples, Connection, Family, Item};
+    /// # let mut connection = Connection::new(Family::Standard);
     /// # let _ = connection.feed(samples::LOGIN);
     /// let Item::Data(it) = connection.feed(samples::CODEC16).item else { panic!() };
     /// assert_eq!(it.count(), 2);
@@ -356,8 +388,8 @@ impl ReceivedData {
     /// The acknowledgement: the number of records in four bytes. The unit then forgets them, so store them first.
     ///
     /// ```
-    /// # use brundilope::{samples, Connection, Item};
-    /// # let mut connection = Connection::new();
+    /// # use brundilope::{samples, Connection, Family, Item};
+    /// # let mut connection = Connection::new(Family::Standard);
     /// # let _ = connection.feed(samples::LOGIN);
     /// let Item::Data(it) = connection.feed(samples::CODEC16).item else { panic!() };
     /// assert_eq!(it.ack(), [0, 0, 0, 2]);
@@ -368,11 +400,12 @@ impl ReceivedData {
         u32::from(self.count()).to_be_bytes()
     }
 
-    /// The packet with its contents, which [`DataPacket::read`] lists and, to do so, judges once more.
+    /// The packet with its contents, which [`DataPacket::read`] lists and, to do so, judges once more, by the
+    /// connection's family.
     ///
     /// ```
-    /// # use brundilope::{samples, Connection, Contents, Item};
-    /// # let mut connection = Connection::new();
+    /// # use brundilope::{samples, Connection, Contents, Family, Item};
+    /// # let mut connection = Connection::new(Family::Standard);
     /// # let _ = connection.feed(samples::LOGIN);
     /// let Item::Data(it) = connection.feed(samples::CODEC16).item else { panic!() };
     /// let mut room = Contents::new();
@@ -380,22 +413,22 @@ impl ReceivedData {
     /// assert_eq!(times, [1_562_760_414_000, 1_562_760_415_000]);
     /// ```
     pub fn read<'a>(&'a self, room: &'a mut Contents) -> DataPacket<'a> {
-        DataPacket::read(self.bytes(), room).expect("a connection gives only packets that are accepted")
+        DataPacket::read(self.0.family, self.bytes(), room).expect("a connection gives only packets that are accepted")
     }
 }
 
 impl Debug for ReceivedData {
     fn fmt(&self, f: &mut Formatter<'_>) -> Printed {
-        f.debug_tuple("ReceivedData").field(&self.bytes()).finish()
+        f.debug_tuple("ReceivedData").field(&self.family()).field(&self.bytes()).finish()
     }
 }
 
 /// A command packet that a connection has judged; its bytes by value.
 ///
 /// ```
-/// use brundilope::{samples, Connection, Item};
+/// use brundilope::{samples, Connection, Family, Item};
 ///
-/// let mut connection = Connection::new();
+/// let mut connection = Connection::new(Family::Standard);
 /// for item in connection.items(&[samples::LOGIN, samples::CODEC14_RESPONSE].concat()) {
 ///     let Item::Command(command) = item else { continue };
 ///     assert!(command.read().text.starts_with(b"Ver:03.18.14_04"));
@@ -408,8 +441,8 @@ impl ReceivedCommand {
     /// The packet's bytes.
     ///
     /// ```
-    /// # use brundilope::{samples, Connection, Item};
-    /// # let mut connection = Connection::new();
+    /// # use brundilope::{samples, Connection, Family, Item};
+    /// # let mut connection = Connection::new(Family::Standard);
     /// # let _ = connection.feed(samples::LOGIN);
     /// let Item::Command(it) = connection.feed(samples::CODEC12_RESPONSE).item else { panic!() };
     /// assert_eq!(it.bytes(), samples::CODEC12_RESPONSE);
@@ -420,11 +453,26 @@ impl ReceivedCommand {
         self.0.bytes()
     }
 
-    /// What is in it: codec, type, IMEI and text. [`read_command`] judges it once more.
+    /// The family by whose limits it was judged: that of its connection.
     ///
     /// ```
-    /// # use brundilope::{samples, Connection, Item};
-    /// # let mut connection = Connection::new();
+    /// # use brundilope::{samples, Connection, Family, Item};
+    /// # let mut connection = Connection::new(Family::Standard);
+    /// # let _ = connection.feed(samples::LOGIN);
+    /// let Item::Command(it) = connection.feed(samples::CODEC12_RESPONSE).item else { panic!() };
+    /// assert_eq!(it.family(), connection.family());
+    /// ```
+    #[must_use]
+    #[inline]
+    pub fn family(&self) -> Family {
+        self.0.family
+    }
+
+    /// What is in it: codec, type, IMEI and text. [`read_command`] judges it once more, by the connection's family.
+    ///
+    /// ```
+    /// # use brundilope::{samples, Connection, Family, Item};
+    /// # let mut connection = Connection::new(Family::Standard);
     /// # let _ = connection.feed(samples::LOGIN);
     /// let Item::Command(it) = connection.feed(samples::CODEC14_COMMAND).item else { panic!() };
     /// let command = it.read();
@@ -432,13 +480,13 @@ impl ReceivedCommand {
     /// assert_eq!((command.imei, command.text), (352_093_081_452_251, &b"getver"[..]));
     /// ```
     pub fn read(&self) -> Command<'_> {
-        read_command(self.bytes()).expect("a connection gives only commands that are accepted")
+        read_command(self.0.family, self.bytes()).expect("a connection gives only commands that are accepted")
     }
 }
 
 impl Debug for ReceivedCommand {
     fn fmt(&self, f: &mut Formatter<'_>) -> Printed {
-        f.debug_tuple("ReceivedCommand").field(&self.bytes()).finish()
+        f.debug_tuple("ReceivedCommand").field(&self.family()).field(&self.bytes()).finish()
     }
 }
 
@@ -447,9 +495,9 @@ impl Debug for ReceivedCommand {
 /// What has not been asked for is not fed: the bytes from [`used`](Items::used) on are still the caller's.
 ///
 /// ```
-/// use brundilope::{samples, Connection};
+/// use brundilope::{samples, Connection, Family};
 ///
-/// let mut connection = Connection::new();
+/// let mut connection = Connection::new(Family::Standard);
 /// let received = [samples::LOGIN, samples::CODEC8, &samples::CODEC16[..9]].concat();
 /// assert_eq!(connection.items(&received).count(), 2);
 /// assert_eq!(connection.held(), &samples::CODEC16[..9]);
@@ -467,9 +515,9 @@ impl Items<'_> {
     /// How many of the bytes were used so far; in the end all, unless the connection is closed.
     ///
     /// ```
-    /// use brundilope::{samples, Connection};
+    /// use brundilope::{samples, Connection, Family};
     ///
-    /// let mut connection = Connection::new();
+    /// let mut connection = Connection::new(Family::Standard);
     /// let received = [samples::LOGIN, samples::CODEC8].concat();
     /// let mut items = connection.items(&received);
     /// assert_eq!(items.used(), 0);

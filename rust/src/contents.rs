@@ -2,6 +2,7 @@
 use std::fmt::{Debug, Display, Formatter, Result as Printed};
 use std::mem::MaybeUninit;
 
+use crate::family::Family;
 use crate::lines::{Lines, RecordLine};
 use crate::raw;
 use crate::records::{getters, Records};
@@ -13,11 +14,11 @@ use crate::{LARGEST_CONTENTS, LARGEST_LINES};
 /// One room serves one input after another, and nothing in it is ever cleared.
 ///
 /// ```
-/// use brundilope::{samples, Contents, DataPacket};
+/// use brundilope::{samples, Contents, DataPacket, Family};
 ///
 /// let mut room = Contents::new();
 /// for packet in [samples::CODEC8, samples::CODEC16] {
-///     println!("{}", DataPacket::read(packet, &mut room)?);
+///     println!("{}", DataPacket::read(Family::Standard, packet, &mut room)?);
 /// }
 /// # Ok::<(), brundilope::Refusal>(())
 /// ```
@@ -48,18 +49,19 @@ impl Debug for Contents {
     }
 }
 
-/// An accepted input, and the words of its table.
+/// An input that its family accepts, and the words of its table.
 #[derive(Clone, Copy, PartialEq, Eq, Hash)]
 struct Table<'a> {
+    family: Family,
     input: &'a [u8],
     words: &'a [u64],
 }
 
 impl<'a> Table<'a> {
     #[inline]
-    fn judged(input: &'a [u8], (answer, words): (raw::Written, &'a [u64])) -> Result<Self, Refusal> {
+    fn judged(family: Family, input: &'a [u8], (answer, words): (raw::Written, &'a [u64])) -> Result<Self, Refusal> {
         data_judged(answer.number, answer.index)?;
-        Ok(Table { input, words })
+        Ok(Table { family, input, words })
     }
 
     /// So many records, behind the two words of the whole.
@@ -69,20 +71,21 @@ impl<'a> Table<'a> {
     }
 
     fn to_owned(self) -> OwnedTable {
-        OwnedTable { input: self.input.into(), words: self.words.into() }
+        OwnedTable { family: self.family, input: self.input.into(), words: self.words.into() }
     }
 }
 
 /// The same on the heap.
 #[derive(Clone, PartialEq, Eq, Hash)]
 struct OwnedTable {
+    family: Family,
     input: Box<[u8]>,
     words: Box<[u64]>,
 }
 
 impl OwnedTable {
     fn lend(&self) -> Table<'_> {
-        Table { input: &self.input, words: &self.words }
+        Table { family: self.family, input: &self.input, words: &self.words }
     }
 }
 
@@ -101,9 +104,9 @@ macro_rules! judged {
             /// The records in order.
             ///
             /// ```
-            /// # use brundilope::{samples, Contents, DataDatagram, DataPacket};
+            /// # use brundilope::{samples, Contents, DataDatagram, DataPacket, Family};
             /// # let mut room = Contents::new();
-            #[doc = concat!("let it = ", stringify!($data), "::read(", $sample, ", &mut room)?;")]
+            #[doc = concat!("let it = ", stringify!($data), "::read(Family::Standard, ", $sample, ", &mut room)?;")]
             /// let times: Vec<u64> = it.records().map(|record| record.timestamp()).collect();
             #[doc = concat!("assert_eq!(times, ", $times, ");")]
             /// # Ok::<(), brundilope::Refusal>(())
@@ -113,12 +116,25 @@ macro_rules! judged {
                 self.0.records(self.count())
             }
 
+            /// The family by whose limits it was judged.
+            ///
+            /// ```
+            /// # use brundilope::{samples, Contents, DataDatagram, DataPacket, Family};
+            /// # let mut room = Contents::new();
+            #[doc = concat!("let it = ", stringify!($data), "::read(Family::Standard, ", $sample, ", &mut room)?;")]
+            /// assert_eq!(it.family(), Family::Standard);
+            /// # Ok::<(), brundilope::Refusal>(())
+            /// ```
+            pub fn family(&self) -> Family {
+                self.0.family
+            }
+
             /// The input's bytes.
             ///
             /// ```
-            /// # use brundilope::{samples, Contents, DataDatagram, DataPacket};
+            /// # use brundilope::{samples, Contents, DataDatagram, DataPacket, Family};
             /// # let mut room = Contents::new();
-            #[doc = concat!("let it = ", stringify!($data), "::read(", $sample, ", &mut room)?;")]
+            #[doc = concat!("let it = ", stringify!($data), "::read(Family::Standard, ", $sample, ", &mut room)?;")]
             #[doc = concat!("assert_eq!(it.bytes(), ", $sample, ");")]
             /// # Ok::<(), brundilope::Refusal>(())
             /// ```
@@ -130,15 +146,15 @@ macro_rules! judged {
             /// lent room, and the input is judged again, once for all of them.
             ///
             /// ```
-            /// # use brundilope::{samples, Contents, DataDatagram, DataPacket, LARGEST_LINES};
+            /// # use brundilope::{samples, Contents, DataDatagram, DataPacket, Family, LARGEST_LINES};
             /// let (mut room, mut text) = (Contents::new(), [0; LARGEST_LINES]);
-            #[doc = concat!("let it = ", stringify!($data), "::read(", $sample, ", &mut room)?;")]
+            #[doc = concat!("let it = ", stringify!($data), "::read(Family::Standard, ", $sample, ", &mut room)?;")]
             /// let mut lines = it.lines(&mut text);
             #[doc = concat!("assert_eq!(lines.next(), Some(", $text, "));")]
             /// # Ok::<(), brundilope::Refusal>(())
             /// ```
             pub fn lines<'r>(&self, room: &'r mut [u8; LARGEST_LINES]) -> Lines<'r> {
-                let answer = raw::$lines(self.0.input, room);
+                let answer = raw::$lines(self.0.family, self.0.input, room);
                 Lines::new(&room[..answer.written], self.count())
             }
 
@@ -146,23 +162,23 @@ macro_rules! judged {
             /// Each time it prints, the input is judged again.
             ///
             /// ```
-            /// # use brundilope::{samples, Contents, DataDatagram, DataPacket};
+            /// # use brundilope::{samples, Contents, DataDatagram, DataPacket, Family};
             /// # let mut room = Contents::new();
-            #[doc = concat!("let it = ", stringify!($data), "::read(", $sample, ", &mut room)?;")]
+            #[doc = concat!("let it = ", stringify!($data), "::read(Family::Standard, ", $sample, ", &mut room)?;")]
             #[doc = concat!("assert_eq!(it.line(0).unwrap().to_string(), ", $text, ");")]
             /// assert!(it.line(it.records().len()).is_none());
             /// # Ok::<(), brundilope::Refusal>(())
             /// ```
             #[must_use]
             pub fn line(&self, number: usize) -> Option<RecordLine<'a>> {
-                (number < self.count().into()).then(|| RecordLine::new(self.0.input, number, raw::$line))
+                (number < self.count().into()).then(|| RecordLine::new(self.0.family, self.0.input, number, raw::$line))
             }
 
             /// A copy that borrows nothing: it allocates, and is not judged again.
             ///
             /// ```
-            /// # use brundilope::{samples, Contents, DataDatagram, DataPacket};
-            #[doc = concat!("let copy = ", stringify!($data), "::read(", $sample, ", &mut Contents::new())?.to_owned();")]
+            /// # use brundilope::{samples, Contents, DataDatagram, DataPacket, Family};
+            #[doc = concat!("let copy = ", stringify!($data), "::read(Family::Standard, ", $sample, ", &mut Contents::new())?.to_owned();")]
             #[doc = concat!("let size = std::thread::spawn(move || copy.", stringify!($lend), "().bytes().len()).join();")]
             #[doc = concat!("assert_eq!(size.unwrap(), ", $sample, ".len());")]
             /// # Ok::<(), brundilope::Refusal>(())
@@ -178,7 +194,7 @@ macro_rules! judged {
         /// ```
         /// # use brundilope::*;
         /// let mut room = Contents::new();
-        #[doc = concat!("let kept: ", stringify!($owned), " = ", stringify!($data), "::read(", $sample, ", &mut room)?.to_owned();")]
+        #[doc = concat!("let kept: ", stringify!($owned), " = ", stringify!($data), "::read(Family::Standard, ", $sample, ", &mut room)?.to_owned();")]
         #[doc = concat!("assert_eq!(kept.", stringify!($lend), "().bytes(), ", $sample, ");")]
         /// # Ok::<(), brundilope::Refusal>(())
         /// ```
@@ -189,8 +205,8 @@ macro_rules! judged {
             /// What it is a copy of.
             ///
             /// ```
-            /// # use brundilope::{samples, Contents, DataDatagram, DataPacket};
-            #[doc = concat!("let copy = ", stringify!($data), "::read(", $sample, ", &mut Contents::new())?.to_owned();")]
+            /// # use brundilope::{samples, Contents, DataDatagram, DataPacket, Family};
+            #[doc = concat!("let copy = ", stringify!($data), "::read(Family::Standard, ", $sample, ", &mut Contents::new())?.to_owned();")]
             #[doc = concat!("let times: Vec<u64> = copy.", stringify!($lend), "().records().map(|record| record.timestamp()).collect();")]
             #[doc = concat!("assert_eq!(times, ", $times, ");")]
             /// # Ok::<(), brundilope::Refusal>(())
@@ -232,10 +248,10 @@ judged!(
 /// A TCP data packet with its contents, judged once.
 ///
 /// ```
-/// use brundilope::{samples, Contents, DataPacket};
+/// use brundilope::{samples, Contents, DataPacket, Family};
 ///
 /// let mut room = Contents::new();
-/// let packet = DataPacket::read(samples::CODEC16, &mut room)?;
+/// let packet = DataPacket::read(Family::Standard, samples::CODEC16, &mut room)?;
 /// assert_eq!(packet.to_string(), "codec 10, records 2");
 /// for record in packet.records() {
 ///     for value in record.values() {
@@ -248,7 +264,7 @@ judged!(
 pub struct DataPacket<'a>(Table<'a>);
 
 getters! {
-    DataPacket, "let it = DataPacket::read(samples::CODEC16, &mut room)?;":
+    DataPacket, "let it = DataPacket::read(Family::Standard, samples::CODEC16, &mut room)?;":
     /// The codec: 0x08, 0x8E or 0x10.
     codec: u8 = |head| head[0], 0x10;
     /// The number of records, 1 to 255.
@@ -259,26 +275,26 @@ impl<'a> DataPacket<'a> {
     /// Reads a TCP data packet. Refusals 1 to 12.
     ///
     /// ```
-    /// use brundilope::{samples, Contents, DataPacket};
+    /// use brundilope::{samples, Contents, DataPacket, Family};
     ///
     /// let mut damaged = samples::CODEC8.to_vec();
     /// damaged[20] ^= 1;
     /// let mut room = Contents::new();
-    /// let refusal = DataPacket::read(&damaged, &mut room).unwrap_err();
+    /// let refusal = DataPacket::read(Family::Standard, &damaged, &mut room).unwrap_err();
     /// assert_eq!(refusal.to_string(), "refusal 5: CRC field wrong");
     /// ```
     #[inline]
-    pub fn read(bytes: &'a [u8], room: &'a mut Contents) -> Result<Self, Refusal> {
-        Table::judged(bytes, raw::contents_of_packet(bytes, &mut room.0)).map(DataPacket)
+    pub fn read(family: Family, bytes: &'a [u8], room: &'a mut Contents) -> Result<Self, Refusal> {
+        Table::judged(family, bytes, raw::contents_of_packet(family, bytes, &mut room.0)).map(DataPacket)
     }
 
     /// The acknowledgement: the number of records in four bytes. That of a refused packet is four zeros.
     ///
     /// ```
-    /// use brundilope::{samples, Contents, DataPacket};
+    /// use brundilope::{samples, Contents, DataPacket, Family};
     ///
     /// let mut room = Contents::new();
-    /// let packet = DataPacket::read(samples::CODEC16, &mut room);
+    /// let packet = DataPacket::read(Family::Standard, samples::CODEC16, &mut room);
     /// let answer = packet.map_or([0; 4], |packet| packet.ack());
     /// assert_eq!(answer, [0, 0, 0, 2]);
     /// ```
@@ -290,7 +306,11 @@ impl<'a> DataPacket<'a> {
 
 impl Debug for DataPacket<'_> {
     fn fmt(&self, f: &mut Formatter<'_>) -> Printed {
-        f.debug_struct("DataPacket").field("codec", &self.codec()).field("records", &self.records()).finish()
+        f.debug_struct("DataPacket")
+            .field("family", &self.family())
+            .field("codec", &self.codec())
+            .field("records", &self.records())
+            .finish()
     }
 }
 
@@ -303,10 +323,10 @@ impl Display for DataPacket<'_> {
 /// A UDP datagram with its contents, judged once.
 ///
 /// ```
-/// use brundilope::{samples, Contents, DataDatagram};
+/// use brundilope::{samples, Contents, DataDatagram, Family};
 ///
 /// let mut room = Contents::new();
-/// let datagram = DataDatagram::read(samples::UDP_CODEC8E, &mut room)?;
+/// let datagram = DataDatagram::read(Family::Standard, samples::UDP_CODEC8E, &mut room)?;
 /// assert_eq!(datagram.to_string(), "IMEI 352093086403655, codec 8E, records 1");
 /// for record in datagram.records() {
 ///     for value in record.values() {
@@ -319,7 +339,7 @@ impl Display for DataPacket<'_> {
 pub struct DataDatagram<'a>(Table<'a>);
 
 getters! {
-    DataDatagram, "let it = DataDatagram::read(samples::UDP_CODEC8, &mut room)?;":
+    DataDatagram, "let it = DataDatagram::read(Family::Standard, samples::UDP_CODEC8, &mut room)?;":
     /// The codec: 0x08, 0x8E or 0x10.
     codec: u8 = |head| head[0], 0x08;
     /// The number of records, 1 to 255.
@@ -338,24 +358,24 @@ impl<'a> DataDatagram<'a> {
     /// Reads a UDP datagram. Refusals 1, 3, 4, 15, 6 to 12.
     ///
     /// ```
-    /// use brundilope::{samples, Contents, DataDatagram};
+    /// use brundilope::{samples, Contents, DataDatagram, Family};
     ///
     /// let mut room = Contents::new();
-    /// let refusal = DataDatagram::read(&samples::UDP_CODEC8[1..], &mut room).unwrap_err();
+    /// let refusal = DataDatagram::read(Family::Standard, &samples::UDP_CODEC8[1..], &mut room).unwrap_err();
     /// assert_eq!(refusal.number, 4);
     /// ```
     #[inline]
-    pub fn read(bytes: &'a [u8], room: &'a mut Contents) -> Result<Self, Refusal> {
-        Table::judged(bytes, raw::contents_of_datagram(bytes, &mut room.0)).map(DataDatagram)
+    pub fn read(family: Family, bytes: &'a [u8], room: &'a mut Contents) -> Result<Self, Refusal> {
+        Table::judged(family, bytes, raw::contents_of_datagram(family, bytes, &mut room.0)).map(DataDatagram)
     }
 
     /// The acknowledgement, seven bytes. A refused datagram has none.
     ///
     /// ```
-    /// use brundilope::{samples, Contents, DataDatagram};
+    /// use brundilope::{samples, Contents, DataDatagram, Family};
     ///
     /// let mut room = Contents::new();
-    /// let datagram = DataDatagram::read(samples::UDP_CODEC8, &mut room)?;
+    /// let datagram = DataDatagram::read(Family::Standard, samples::UDP_CODEC8, &mut room)?;
     /// assert_eq!(datagram.ack(), [0x00, 0x05, 0xCA, 0xFE, 0x01, 0x05, 0x01]);
     /// # Ok::<(), brundilope::Refusal>(())
     /// ```
@@ -369,6 +389,7 @@ impl<'a> DataDatagram<'a> {
 impl Debug for DataDatagram<'_> {
     fn fmt(&self, f: &mut Formatter<'_>) -> Printed {
         f.debug_struct("DataDatagram")
+            .field("family", &self.family())
             .field("codec", &self.codec())
             .field("imei", &self.imei())
             .field("packet_id", &self.packet_id())

@@ -28,8 +28,9 @@ macro_rules! lines {
 #[test]
 fn layouts_are_those_of_the_header() {
     let told = include_str!("../../tests/layouts");
-    // all but `fed`, which holds a connection by value: no call of this crate gives it
-    let told: Vec<&str> = told.lines().filter(|line| line.ends_with(')') && !line.contains("(fed,")).collect();
+    // all but `started` and `fed`, which hold a connection by value: no call of this crate gives them
+    let by_value = |line: &&str| line.contains("(started,") || line.contains("(fed,");
+    let told: Vec<&str> = told.lines().filter(|line| line.ends_with(')') && !by_value(line)).collect();
     let own = lines! {
         Packet as "packet" { number, index, codec, count }
         Datagram as "datagram" { number, index, codec, count, packet_id, unused, avl_packet_id, imei }
@@ -44,7 +45,7 @@ fn layouts_are_those_of_the_header() {
         Written as "written" { number, index, written }
         Line as "line" { number, index, timestamp, longitude, latitude, speed, elements, start }
         LineElement as "line_element" { number, index, id, tag, value, size, next }
-        Connection as "connection" { held, fill, phase }
+        Connection as "connection" { held, fill, phase, family }
         Taken as "taken" { number, index, used, item, imei, size, fill, phase }
     };
     assert_eq!(own.as_slice(), told.as_slice());

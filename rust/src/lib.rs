@@ -5,13 +5,14 @@
 //! is a safe face of it: functions take slices and give structs, or a [`Refusal`] with its number, meaning and record.
 //! Every input gets an answer, and nothing is allocated unless an owned copy is asked for.
 //!
-//! A [`DataPacket`] or [`DataDatagram`] is judged once and then has all its records and values at hand:
+//! What judges or builds a packet or datagram names the [`Family`] of the unit, whose limits hold. A [`DataPacket`] or
+//! [`DataDatagram`] is judged once and then has all its records and values at hand:
 //!
 //! ```
-//! use brundilope::{samples, Contents, DataPacket};
+//! use brundilope::{samples, Contents, DataPacket, Family};
 //!
 //! let mut room = Contents::new();
-//! let packet = DataPacket::read(samples::CODEC16, &mut room)?;
+//! let packet = DataPacket::read(Family::Standard, samples::CODEC16, &mut room)?;
 //! for record in packet.records() {
 //!     println!("{} {} {}", record.timestamp(), record.longitude(), record.latitude());
 //!     for value in record.values() {
@@ -26,9 +27,9 @@
 //! as soon as it is whole; `examples/gateway.rs` is a gateway around it:
 //!
 //! ```
-//! use brundilope::{samples, Connection, Item};
+//! use brundilope::{samples, Connection, Family, Item};
 //!
-//! let mut connection = Connection::new();
+//! let mut connection = Connection::new(Family::Standard);
 //! let received = [samples::LOGIN, samples::CODEC8].concat();
 //! for item in connection.items(&received) {
 //!     match item {
@@ -42,10 +43,10 @@
 //! A record becomes a line of text for the billing desk, and a [`Line`] is read back:
 //!
 //! ```
-//! use brundilope::{samples, Contents, DataPacket, Line, LARGEST_LINES};
+//! use brundilope::{samples, Contents, DataPacket, Family, Line, LARGEST_LINES};
 //!
 //! let (mut room, mut text) = (Contents::new(), [0; LARGEST_LINES]);
-//! let packet = DataPacket::read(samples::DRIVER_TAGS, &mut room)?;
+//! let packet = DataPacket::read(Family::Standard, samples::DRIVER_TAGS, &mut room)?;
 //! for line in packet.lines(&mut text) {
 //!     print!("{line}");
 //!     let line = Line::read(line.as_bytes())?;
@@ -71,7 +72,7 @@
 #![deny(missing_docs, unsafe_code)]
 #![warn(clippy::all, clippy::undocumented_unsafe_blocks)]
 
-/// The most bytes of a packet or a datagram.
+/// The most bytes of a packet or a datagram of any family.
 pub const LARGEST: usize = 1280;
 
 /// The most bytes of a TLV form: it has at most four times as many as its packet.
@@ -86,6 +87,7 @@ pub const LARGEST_CONTENTS: usize = LARGEST / 2;
 
 mod connection;
 mod contents;
+mod family;
 #[cfg(test)]
 mod layouts;
 mod lines;
@@ -100,6 +102,7 @@ mod writing;
 
 pub use connection::{Connection, Fed, Item, Items, Phase, ReceivedCommand, ReceivedData};
 pub use contents::{Contents, DataDatagram, DataPacket, OwnedDatagram, OwnedPacket};
+pub use family::Family;
 pub use lines::{element_in_line, wrong_byte, Line, LineElement, LineElements, LineValue, Lines, RecordLine, Tag};
 pub use lookup::{
     id_in_datagram, id_in_packet, last_known, record_in_datagram, record_in_packet, value_in_datagram, value_in_packet,

@@ -4,9 +4,10 @@ use std::hash::{Hash, Hasher};
 use std::iter::FusedIterator;
 use std::str;
 
+use crate::family::Family;
 use crate::raw;
 use crate::refusal::{judged, Refusal};
-use crate::LARGEST_LINES;
+use crate::{LARGEST, LARGEST_LINES};
 
 /// The text of lines, which has no byte but LF and 0x20 to 0x7E.
 fn text(bytes: &[u8]) -> &str {
@@ -16,10 +17,10 @@ fn text(bytes: &[u8]) -> &str {
 /// The billing lines of a packet or datagram, in order, each with the LF at its end.
 ///
 /// ```
-/// use brundilope::{samples, Contents, DataPacket, LARGEST_LINES};
+/// use brundilope::{samples, Contents, DataPacket, Family, LARGEST_LINES};
 ///
 /// let (mut room, mut text) = (Contents::new(), [0; LARGEST_LINES]);
-/// let mut lines = DataPacket::read(samples::DRIVER_TAGS, &mut room)?.lines(&mut text);
+/// let mut lines = DataPacket::read(Family::Standard, samples::DRIVER_TAGS, &mut room)?.lines(&mut text);
 /// assert_eq!(lines.len(), 2);
 /// let first = "1562760414000,25.2797130,54.6872050,47,21=3,239=1,66=24079,403=\"Jonas Petraitis\",406=\"\"\n";
 /// assert_eq!(lines.next(), Some(first));
@@ -42,10 +43,10 @@ impl<'a> Lines<'a> {
     /// The lines that are still to come, as one text.
     ///
     /// ```
-    /// use brundilope::{samples, Contents, DataPacket, LARGEST_LINES};
+    /// use brundilope::{samples, Contents, DataPacket, Family, LARGEST_LINES};
     ///
     /// let (mut room, mut text) = (Contents::new(), [0; LARGEST_LINES]);
-    /// let lines = DataPacket::read(samples::CODEC16, &mut room)?.lines(&mut text);
+    /// let lines = DataPacket::read(Family::Standard, samples::CODEC16, &mut room)?.lines(&mut text);
     /// assert_eq!(lines.as_str().matches('\n').count(), 2);
     /// # Ok::<(), brundilope::Refusal>(())
     /// ```
@@ -82,32 +83,36 @@ impl Debug for Lines<'_> {
 /// A record of a packet or datagram that prints as its billing line, with the LF at its end.
 ///
 /// ```
-/// use brundilope::{samples, Contents, DataPacket, RecordLine};
+/// use brundilope::{samples, Contents, DataPacket, Family, RecordLine};
 ///
 /// let mut room = Contents::new();
-/// let packet = DataPacket::read(samples::CODEC16, &mut room)?;
+/// let packet = DataPacket::read(Family::Standard, samples::CODEC16, &mut room)?;
 /// let line: RecordLine = packet.line(1).unwrap();
 /// assert_eq!(line.to_string(), "1562760415000,0.0000000,0.0000000,0,1=0,3=0,11=38,66=22074\n");
 /// # Ok::<(), brundilope::Refusal>(())
 /// ```
 #[derive(Clone, Copy)]
 pub struct RecordLine<'a> {
+    family: Family,
     input: &'a [u8],
     number: usize,
-    write: fn(&[u8], usize, &mut [u8]) -> raw::Written,
+    write: Write,
 }
 
+/// A call that writes a record's line.
+type Write = fn(Family, &[u8], usize, &mut [u8]) -> raw::Written;
+
 impl<'a> RecordLine<'a> {
-    /// The record of this number in an accepted input, by the call that writes its line.
-    pub(crate) fn new(input: &'a [u8], number: usize, write: fn(&[u8], usize, &mut [u8]) -> raw::Written) -> Self {
-        RecordLine { input, number, write }
+    /// The record of this number in an input that its family accepts, by the call that writes its line.
+    pub(crate) fn new(family: Family, input: &'a [u8], number: usize, write: Write) -> Self {
+        RecordLine { family, input, number, write }
     }
 }
 
 impl Display for RecordLine<'_> {
     fn fmt(&self, f: &mut Formatter<'_>) -> Printed {
         let mut room = [0; LARGEST_LINES];
-        let answer = (self.write)(self.input, self.number, &mut room);
+        let answer = (self.write)(self.family, self.input, self.number, &mut room);
         f.write_str(text(&room[..answer.written]))
     }
 }
@@ -254,15 +259,15 @@ impl Debug for LineElements<'_> {
     }
 }
 
-/// More bytes than a tag in a record has, which is at most 255 bytes long.
+/// Bytes enough for most tags.
 const ROOM: usize = 256;
 
-/// An element that is read with room for its tag: on the heap only if that is longer than any record's.
+/// An element that is read with room for its tag: on the heap only if that is longer than any record's, which has fewer
+/// bytes than its packet.
 fn with_room(most: usize, read: impl Fn(&mut [u8]) -> raw::LineElement) -> raw::LineElement {
-    match read(&mut [0; ROOM]) {
-        raw::LineElement { number: 18, .. } => read(&mut vec![0; most]),
-        element => element,
-    }
+    let fits = |element: &raw::LineElement| element.number != 18;
+    let on_stack = Some(read(&mut [0; ROOM])).filter(fits).or_else(|| Some(read(&mut [0; LARGEST])).filter(fits));
+    on_stack.unwrap_or_else(|| read(&mut vec![0; most]))
 }
 
 /// An element of a line. It prints as it stands in the line.

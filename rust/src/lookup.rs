@@ -1,6 +1,7 @@
 //! Records and values, by number and by ID.
 use std::fmt::{Display, Formatter, Result as Printed};
 
+use crate::family::Family;
 use crate::raw;
 use crate::refusal::{data_judged, Refusal};
 
@@ -36,9 +37,9 @@ pub struct Record {
 /// It prints its ID, and the value as a number or, where the length is variable, as hexadecimal bytes:
 ///
 /// ```
-/// use brundilope::{id_in_packet, samples, Value};
+/// use brundilope::{id_in_packet, samples, Family, Value};
 ///
-/// let voltage = id_in_packet(samples::CODEC8, 0, 66)?;
+/// let voltage = id_in_packet(Family::Standard, samples::CODEC8, 0, 66)?;
 /// assert_eq!(voltage, Value { id: 66, kind: 2, offset: 43, bytes: &[0x5E, 0x0F], number: Some(24_079) });
 /// assert_eq!(voltage.to_string(), "ID 66: 24079");
 ///
@@ -127,80 +128,88 @@ fn value(a: raw::Value, input: &[u8]) -> Result<Value<'_>, Refusal> {
 /// A record of a TCP data packet by its number, from 0. Refusals 1 to 12, then 16.
 ///
 /// ```
-/// use brundilope::{record_in_packet, samples};
+/// use brundilope::{record_in_packet, samples, Family};
 ///
-/// let record = record_in_packet(samples::CODEC16, 1)?;
+/// let record = record_in_packet(Family::Standard, samples::CODEC16, 1)?;
 /// assert_eq!(record.timestamp, 1_562_760_415_000);
 /// assert_eq!((record.event, record.generation, record.elements), (11, 5, 4));
 ///
-/// assert_eq!(record_in_packet(samples::CODEC16, 2).unwrap_err().number, 16);
+/// assert_eq!(record_in_packet(Family::Standard, samples::CODEC16, 2).unwrap_err().number, 16);
 /// # Ok::<(), brundilope::Refusal>(())
 /// ```
-pub fn record_in_packet(packet: &[u8], number: usize) -> Result<Record, Refusal> {
-    record(raw::record_in_packet(packet, number))
+pub fn record_in_packet(family: Family, packet: &[u8], number: usize) -> Result<Record, Refusal> {
+    record(raw::record_in_packet(family, packet, number))
 }
 
 /// A record of a datagram by its number, from 0. Refusals 1, 3, 4, 15, 6 to 12, then 16.
 ///
 /// ```
-/// let record = brundilope::record_in_datagram(brundilope::samples::UDP_CODEC8, 0)?;
+/// use brundilope::{record_in_datagram, samples, Family};
+///
+/// let record = record_in_datagram(Family::Standard, samples::UDP_CODEC8, 0)?;
 /// assert_eq!(record.timestamp, 1_560_407_006_000);
 /// assert_eq!((record.priority, record.event, record.elements), (1, 1, 3));
 /// # Ok::<(), brundilope::Refusal>(())
 /// ```
-pub fn record_in_datagram(datagram: &[u8], number: usize) -> Result<Record, Refusal> {
-    record(raw::record_in_datagram(datagram, number))
+pub fn record_in_datagram(family: Family, datagram: &[u8], number: usize) -> Result<Record, Refusal> {
+    record(raw::record_in_datagram(family, datagram, number))
 }
 
 /// A value of a TCP data packet by the numbers of its record and element, both from 0. Refusals 1 to 12, then 16.
 ///
 /// ```
-/// let value = brundilope::value_in_packet(brundilope::samples::CODEC8, 0, 2)?;
+/// use brundilope::{samples, value_in_packet, Family};
+///
+/// let value = value_in_packet(Family::Standard, samples::CODEC8, 0, 2)?;
 /// assert_eq!((value.id, value.kind, value.offset), (66, 2, 43));
 /// assert_eq!(value.bytes, [0x5E, 0x0F]);
 /// # Ok::<(), brundilope::Refusal>(())
 /// ```
-pub fn value_in_packet(packet: &[u8], record: usize, element: usize) -> Result<Value<'_>, Refusal> {
-    value(raw::value_in_packet(packet, record, element), packet)
+pub fn value_in_packet(family: Family, packet: &[u8], record: usize, element: usize) -> Result<Value<'_>, Refusal> {
+    value(raw::value_in_packet(family, packet, record, element), packet)
 }
 
 /// A value of a datagram by the numbers of its record and element, both from 0. Refusals 1, 3, 4, 15, 6 to 12, then 16.
 ///
 /// ```
-/// let value = brundilope::value_in_datagram(brundilope::samples::UDP_CODEC8, 0, 0)?;
+/// use brundilope::{samples, value_in_datagram, Family};
+///
+/// let value = value_in_datagram(Family::Standard, samples::UDP_CODEC8, 0, 0)?;
 /// assert_eq!((value.id, value.kind, value.offset), (21, 1, 53));
 /// assert_eq!(value.bytes, [3]);
 /// # Ok::<(), brundilope::Refusal>(())
 /// ```
-pub fn value_in_datagram(datagram: &[u8], record: usize, element: usize) -> Result<Value<'_>, Refusal> {
-    value(raw::value_in_datagram(datagram, record, element), datagram)
+pub fn value_in_datagram(family: Family, datagram: &[u8], record: usize, element: usize) -> Result<Value<'_>, Refusal> {
+    value(raw::value_in_datagram(family, datagram, record, element), datagram)
 }
 
 /// The first value with this ID in a record of a TCP data packet. Refusals 1 to 12, then 16.
 ///
 /// ```
-/// let operator = brundilope::id_in_packet(brundilope::samples::CODEC8, 0, 241)?;
+/// use brundilope::{id_in_packet, samples, Family};
+///
+/// let operator = id_in_packet(Family::Standard, samples::CODEC8, 0, 241)?;
 /// assert_eq!((operator.kind, operator.bytes), (4, &[0x00, 0x00, 0x60, 0x1A][..]));
 /// # Ok::<(), brundilope::Refusal>(())
 /// ```
-pub fn id_in_packet(packet: &[u8], record: usize, id: u16) -> Result<Value<'_>, Refusal> {
-    value(raw::id_in_packet(packet, record, id), packet)
+pub fn id_in_packet(family: Family, packet: &[u8], record: usize, id: u16) -> Result<Value<'_>, Refusal> {
+    value(raw::id_in_packet(family, packet, record, id), packet)
 }
 
 /// The first value with this ID in a record of a datagram. Refusals 1, 3, 4, 15, 6 to 12, then 16.
 ///
 /// ```
-/// use brundilope::{id_in_datagram, samples};
+/// use brundilope::{id_in_datagram, samples, Family};
 ///
-/// let voltage = id_in_datagram(samples::UDP_CODEC8, 0, 66)?;
+/// let voltage = id_in_datagram(Family::Standard, samples::UDP_CODEC8, 0, 66)?;
 /// assert_eq!((voltage.kind, voltage.bytes), (2, &[0x5D, 0xBC][..]));
 ///
-/// let refusal = id_in_datagram(samples::UDP_CODEC8, 0, 67).unwrap_err();
+/// let refusal = id_in_datagram(Family::Standard, samples::UDP_CODEC8, 0, 67).unwrap_err();
 /// assert_eq!(refusal.to_string(), "refusal 16: no such record, element or ID");
 /// # Ok::<(), brundilope::Refusal>(())
 /// ```
-pub fn id_in_datagram(datagram: &[u8], record: usize, id: u16) -> Result<Value<'_>, Refusal> {
-    value(raw::id_in_datagram(datagram, record, id), datagram)
+pub fn id_in_datagram(family: Family, datagram: &[u8], record: usize, id: u16) -> Result<Value<'_>, Refusal> {
+    value(raw::id_in_datagram(family, datagram, record, id), datagram)
 }
 
 /// The first value with this ID in the last record of the newer TCP data packet; if there is none, in the last record
@@ -209,15 +218,15 @@ pub fn id_in_datagram(datagram: &[u8], record: usize, id: u16) -> Result<Value<'
 /// Refusals 1 to 12 of the newer; 1 to 12 of the older, which is judged only if the newer lacks the ID; then 16.
 ///
 /// ```
-/// use brundilope::{last_known, samples, Source};
+/// use brundilope::{last_known, samples, Family, Source};
 ///
-/// let known = last_known(samples::CODEC8E, samples::CODEC8, 241)?;
+/// let known = last_known(Family::Standard, samples::CODEC8E, samples::CODEC8, 241)?;
 /// assert_eq!(known.source, Source::Older);
 /// assert_eq!(known.value.bytes, [0x00, 0x00, 0x60, 0x1A]);
 /// # Ok::<(), brundilope::Refusal>(())
 /// ```
-pub fn last_known<'a>(newer: &'a [u8], older: &'a [u8], id: u16) -> Result<LastKnown<'a>, Refusal> {
-    let a = raw::last_known(newer, older, id);
+pub fn last_known<'a>(family: Family, newer: &'a [u8], older: &'a [u8], id: u16) -> Result<LastKnown<'a>, Refusal> {
+    let a = raw::last_known(family, newer, older, id);
     data_judged(a.number, a.index)?;
     let (source, input) = if a.older { (Source::Older, older) } else { (Source::Newer, newer) };
     Ok(LastKnown { source, value: Value::new(input, a.id, a.kind, a.offset, a.size) })

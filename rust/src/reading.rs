@@ -1,4 +1,5 @@
 //! Whole packets, datagrams, logins and commands.
+use crate::family::Family;
 use crate::raw;
 use crate::refusal::{data_judged, judged, Refusal};
 
@@ -73,16 +74,16 @@ pub(crate) fn view(input: &[u8], offset: usize, size: usize) -> &[u8] {
 /// Reads a TCP data packet. Refusals 1 to 12.
 ///
 /// ```
-/// use brundilope::{read_packet, samples, Packet, Refusal};
+/// use brundilope::{read_packet, samples, Family, Packet, Refusal};
 ///
-/// assert_eq!(read_packet(samples::CODEC8), Ok(Packet { codec: 0x08, count: 1 }));
+/// assert_eq!(read_packet(Family::Standard, samples::CODEC8), Ok(Packet { codec: 0x08, count: 1 }));
 ///
 /// let mut damaged = samples::CODEC8.to_vec();
 /// damaged[20] ^= 1;
-/// assert_eq!(read_packet(&damaged), Err(Refusal { number: 5, record: None }));
+/// assert_eq!(read_packet(Family::Standard, &damaged), Err(Refusal { number: 5, record: None }));
 /// ```
-pub fn read_packet(packet: &[u8]) -> Result<Packet, Refusal> {
-    let a = raw::read_packet(packet);
+pub fn read_packet(family: Family, packet: &[u8]) -> Result<Packet, Refusal> {
+    let a = raw::read_packet(family, packet);
     data_judged(a.number, a.index)?;
     Ok(Packet { codec: a.codec, count: a.count })
 }
@@ -90,14 +91,16 @@ pub fn read_packet(packet: &[u8]) -> Result<Packet, Refusal> {
 /// Reads a UDP datagram. Refusals 1, 3, 4, 15, 6 to 12.
 ///
 /// ```
-/// let datagram = brundilope::read_datagram(brundilope::samples::UDP_CODEC8E)?;
+/// use brundilope::{read_datagram, samples, Family};
+///
+/// let datagram = read_datagram(Family::Standard, samples::UDP_CODEC8E)?;
 /// assert_eq!((datagram.codec, datagram.count), (0x8E, 1));
 /// assert_eq!(datagram.imei, 352093086403655);
 /// assert_eq!((datagram.packet_id, datagram.unused, datagram.avl_packet_id), (0xCAFE, 1, 7));
 /// # Ok::<(), brundilope::Refusal>(())
 /// ```
-pub fn read_datagram(datagram: &[u8]) -> Result<Datagram, Refusal> {
-    let a = raw::read_datagram(datagram);
+pub fn read_datagram(family: Family, datagram: &[u8]) -> Result<Datagram, Refusal> {
+    let a = raw::read_datagram(family, datagram);
     data_judged(a.number, a.index)?;
     Ok(Datagram {
         codec: a.codec,
@@ -125,14 +128,16 @@ pub fn read_login(login: &[u8]) -> Result<Login, Refusal> {
 /// Reads a command packet. Refusals 1 to 8, 13, 14, 15.
 ///
 /// ```
-/// let command = brundilope::read_command(brundilope::samples::CODEC14_COMMAND)?;
+/// use brundilope::{read_command, samples, Family};
+///
+/// let command = read_command(Family::Standard, samples::CODEC14_COMMAND)?;
 /// assert_eq!((command.codec, command.message_type), (0x0E, 0x05));
 /// assert_eq!(command.imei, 352093081452251);
 /// assert_eq!((command.offset, command.text), (23, &b"getver"[..]));
 /// # Ok::<(), brundilope::Refusal>(())
 /// ```
-pub fn read_command(packet: &[u8]) -> Result<Command<'_>, Refusal> {
-    let a = raw::read_command(packet);
+pub fn read_command(family: Family, packet: &[u8]) -> Result<Command<'_>, Refusal> {
+    let a = raw::read_command(family, packet);
     judged(a.number)?;
     Ok(Command {
         codec: a.codec,

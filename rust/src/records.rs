@@ -36,7 +36,7 @@ macro_rules! getters {
                 $(#[$what])*
                 ///
                 /// ```
-                /// # use brundilope::{samples, Contents, DataDatagram, DataPacket};
+                /// # use brundilope::{samples, Contents, DataDatagram, DataPacket, Family};
                 /// # let mut room = Contents::new();
                 #[doc = $example]
                 #[doc = concat!("assert_eq!(it.", stringify!($field), "(), ", stringify!($is), ");")]
@@ -56,10 +56,10 @@ pub(crate) use getters;
 /// The records of a packet or datagram, in order.
 ///
 /// ```
-/// use brundilope::{samples, Contents, DataPacket};
+/// use brundilope::{samples, Contents, DataPacket, Family};
 ///
 /// let mut room = Contents::new();
-/// let mut records = DataPacket::read(samples::CODEC16, &mut room)?.records();
+/// let mut records = DataPacket::read(Family::Standard, samples::CODEC16, &mut room)?.records();
 /// assert_eq!(records.len(), 2);
 /// assert_eq!(records.next().map(|record| record.event()), Some(11));
 /// assert_eq!(records.len(), 1);
@@ -112,10 +112,10 @@ impl Debug for Records<'_> {
 /// A record of a packet or datagram, with its values.
 ///
 /// ```
-/// use brundilope::{samples, Contents, DataPacket};
+/// use brundilope::{samples, Contents, DataPacket, Family};
 ///
 /// let mut room = Contents::new();
-/// let packet = DataPacket::read(samples::CODEC16, &mut room)?;
+/// let packet = DataPacket::read(Family::Standard, samples::CODEC16, &mut room)?;
 /// let record = packet.records().next().unwrap();
 /// assert_eq!(record.to_string(), "time 1562760414000, longitude 0, latitude 0, values 4");
 /// for value in record.values() {
@@ -131,7 +131,7 @@ pub struct DataRecord<'a> {
 }
 
 getters! {
-    DataRecord, "let packet = DataPacket::read(samples::CODEC16, &mut room)?;
+    DataRecord, "let packet = DataPacket::read(Family::Standard, samples::CODEC16, &mut room)?;
 let it = packet.records().next().unwrap();":
     /// Milliseconds since 1970, UTC.
     timestamp: u64 = |head| head[0], 1_562_760_414_000;
@@ -164,12 +164,12 @@ impl<'a> DataRecord<'a> {
     /// All fields, and the number of elements.
     ///
     /// ```
-    /// use brundilope::{record_in_packet, samples, Contents, DataPacket};
+    /// use brundilope::{record_in_packet, samples, Contents, DataPacket, Family};
     ///
     /// let mut room = Contents::new();
-    /// let packet = DataPacket::read(samples::CODEC16, &mut room)?;
+    /// let packet = DataPacket::read(Family::Standard, samples::CODEC16, &mut room)?;
     /// let record = packet.records().nth(1).unwrap();
-    /// assert_eq!(record.fields(), record_in_packet(samples::CODEC16, 1)?);
+    /// assert_eq!(record.fields(), record_in_packet(Family::Standard, samples::CODEC16, 1)?);
     /// # Ok::<(), brundilope::Refusal>(())
     /// ```
     pub fn fields(&self) -> Record {
@@ -191,10 +191,10 @@ impl<'a> DataRecord<'a> {
     /// The record's own bytes.
     ///
     /// ```
-    /// use brundilope::{samples, Contents, DataPacket};
+    /// use brundilope::{samples, Contents, DataPacket, Family};
     ///
     /// let mut room = Contents::new();
-    /// let packet = DataPacket::read(samples::CODEC8, &mut room)?;
+    /// let packet = DataPacket::read(Family::Standard, samples::CODEC8, &mut room)?;
     /// let record = packet.records().next().unwrap();
     /// assert_eq!(record.bytes(), &samples::CODEC8[10..61]);
     /// # Ok::<(), brundilope::Refusal>(())
@@ -206,10 +206,10 @@ impl<'a> DataRecord<'a> {
     /// The values in byte order, one for each element.
     ///
     /// ```
-    /// use brundilope::{samples, Contents, DataPacket};
+    /// use brundilope::{samples, Contents, DataPacket, Family};
     ///
     /// let mut room = Contents::new();
-    /// let packet = DataPacket::read(samples::CODEC8, &mut room)?;
+    /// let packet = DataPacket::read(Family::Standard, samples::CODEC8, &mut room)?;
     /// let record = packet.records().next().unwrap();
     /// let ids: Vec<u16> = record.values().map(|value| value.id).collect();
     /// assert_eq!(ids, [21, 1, 66, 241, 78]);
@@ -223,10 +223,10 @@ impl<'a> DataRecord<'a> {
     /// The first value with this ID, in byte order.
     ///
     /// ```
-    /// use brundilope::{samples, Contents, DataPacket};
+    /// use brundilope::{samples, Contents, DataPacket, Family};
     ///
     /// let mut room = Contents::new();
-    /// let packet = DataPacket::read(samples::CODEC8, &mut room)?;
+    /// let packet = DataPacket::read(Family::Standard, samples::CODEC8, &mut room)?;
     /// let record = packet.records().next().unwrap();
     /// assert_eq!(record.value(66).and_then(|value| value.number), Some(24_079));
     /// assert_eq!(record.value(67), None);
@@ -255,10 +255,10 @@ impl Display for DataRecord<'_> {
 /// The values of a record, in byte order.
 ///
 /// ```
-/// use brundilope::{samples, Contents, DataPacket};
+/// use brundilope::{samples, Contents, DataPacket, Family};
 ///
 /// let mut room = Contents::new();
-/// let packet = DataPacket::read(samples::CODEC8, &mut room)?;
+/// let packet = DataPacket::read(Family::Standard, samples::CODEC8, &mut room)?;
 /// let mut values = packet.records().next().unwrap().values();
 /// assert_eq!(values.len(), 5);
 /// assert_eq!(values.next().map(|value| value.bytes), Some(&[3][..]));

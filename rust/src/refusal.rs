@@ -2,11 +2,11 @@
 use std::error::Error;
 use std::fmt::{Display, Formatter, Result as Printed};
 
-/// The meanings of refusals 1 to 20, as in include/brundilope.h.
-const MEANINGS: [&str; 20] = [
+/// The meanings of refusals 1 to 21, as in include/brundilope.h.
+const MEANINGS: [&str; 21] = [
     "under 8 bytes (TCP packet), 17 (login), 26 (UDP)",
     "first four bytes not zero",
-    "data length outside 3 to 1,268; datagram over 1,280",
+    "data length or datagram outside its family's limits",
     "input length differs from what its length field gives; login over 17 bytes",
     "CRC field wrong",
     "codec not one this entry point takes",
@@ -15,15 +15,16 @@ const MEANINGS: [&str; 20] = [
     "IO total wrong",
     "priority over 2",
     "generation type over 7",
-    "record over 255 bytes",
+    "record over 255 bytes (family 1)",
     "message type not allowed for its codec",
-    "text size breaks its rule",
+    "text size breaks its rule, or a command to write is over its family's limit",
     "IMEI length or digit wrong",
     "no such record, element or ID",
-    "not the TLV form of any acceptable TCP data packet",
+    "not the TLV form of any acceptable TCP data packet of the family",
     "lent buffer too short for the result",
     "connection closed, or a state that no feeds from a fresh one give",
     "not a billing line",
+    "unknown family",
 ];
 
 /// Why an input was refused.
@@ -41,7 +42,7 @@ const MEANINGS: [&str; 20] = [
 /// ```
 #[derive(Clone, Copy, Debug, PartialEq, Eq, Hash)]
 pub struct Refusal {
-    /// The number, 1 to 20.
+    /// The number, 1 to 21.
     pub number: usize,
     /// The record's index, from 0. It goes with 8 to 12 in data packets and datagrams; left-over bytes have the number
     /// of records.

@@ -18,11 +18,11 @@ const FORM: [u8; 43] = [
 type Answer = Result<Vec<u8>, Refusal>;
 
 fn form(datagram: &[u8]) -> Answer {
-    written(|out| form_of_datagram(datagram, out))
+    written(|out| form_of_datagram(Family::Standard, datagram, out))
 }
 
 fn acknowledgement(datagram: &[u8]) -> Answer {
-    written(|out| acknowledge_datagram(datagram, out))
+    written(|out| acknowledge_datagram(Family::Standard, datagram, out))
 }
 
 fn written(write: impl Fn(&mut [u8]) -> Result<usize, Refusal>) -> Answer {
@@ -34,15 +34,15 @@ fn written(write: impl Fn(&mut [u8]) -> Result<usize, Refusal>) -> Answer {
 }
 
 fn packet(input: &[u8]) -> Answer {
-    read_packet(input).map(|p| vec![p.codec, p.count])
+    read_packet(Family::Standard, input).map(|p| vec![p.codec, p.count])
 }
 
 fn datagram(input: &[u8]) -> Answer {
-    read_datagram(input).map(|d| vec![d.codec, d.count])
+    read_datagram(Family::Standard, input).map(|d| vec![d.codec, d.count])
 }
 
 fn command(input: &[u8]) -> Answer {
-    read_command(input).map(|c| [&[c.codec, c.message_type], c.text].concat())
+    read_command(Family::Standard, input).map(|c| [&[c.codec, c.message_type], c.text].concat())
 }
 
 /// The input with bytes replaced.

@@ -1,6 +1,6 @@
 //! What a wrong binding would get wrong: fields in another's place, offsets, records of refusals, lent buffers.
 use brundilope::*;
-use inputs::{datagram, long_form, packet, with, DATA, LINES, RECORD, VALUES};
+use inputs::{datagram, form_of_counts, packet, with, DATA, LINES, LONGEST, LONGEST_640, RECORD, VALUES};
 
 mod inputs;
 
@@ -11,7 +11,7 @@ const TAG: usize = 103;
 
 #[test]
 fn fields_stand_in_their_places() {
-    assert_eq!(read_packet(&packet(&DATA)), Ok(Packet { codec: 0x8E, count: 2 }));
+    assert_eq!(read_packet(Family::Standard, &packet(&DATA)), Ok(Packet { codec: 0x8E, count: 2 }));
     let read = Datagram {
         codec: 0x8E,
         count: 2,
@@ -20,10 +20,10 @@ fn fields_stand_in_their_places() {
         unused: 0x56,
         avl_packet_id: 0x78,
     };
-    assert_eq!(read_datagram(&datagram(&DATA)), Ok(read));
-    assert_eq!(record_in_packet(&packet(&DATA), 1), Ok(RECORD));
-    assert_eq!(record_in_datagram(&datagram(&DATA), 1), Ok(RECORD));
-    assert_eq!(record_in_packet(samples::CODEC16, 0).map(|r| (r.event, r.generation)), Ok((11, 5)));
+    assert_eq!(read_datagram(Family::Standard, &datagram(&DATA)), Ok(read));
+    assert_eq!(record_in_packet(Family::Standard, &packet(&DATA), 1), Ok(RECORD));
+    assert_eq!(record_in_datagram(Family::Standard, &datagram(&DATA), 1), Ok(RECORD));
+    assert_eq!(record_in_packet(Family::Standard, samples::CODEC16, 0).map(|r| (r.event, r.generation)), Ok((11, 5)));
 }
 
 #[test]
@@ -32,19 +32,20 @@ fn values_are_views_of_the_input() {
     let moved = |by| VALUES.map(|v| Value { offset: v.offset + by, ..v });
     for (n, value) in moved(8).into_iter().enumerate() {
         assert_eq!(packet[value.offset..][..value.bytes.len()], *value.bytes);
-        assert_eq!(value_in_packet(&packet, 1, n), Ok(value));
-        assert_eq!(id_in_packet(&packet, 1, value.id), Ok(value));
+        assert_eq!(value_in_packet(Family::Standard, &packet, 1, n), Ok(value));
+        assert_eq!(id_in_packet(Family::Standard, &packet, 1, value.id), Ok(value));
     }
     for (n, value) in moved(23).into_iter().enumerate() {
-        assert_eq!(value_in_datagram(&datagram, 1, n), Ok(value));
-        assert_eq!(id_in_datagram(&datagram, 1, value.id), Ok(value));
+        assert_eq!(value_in_datagram(Family::Standard, &datagram, 1, n), Ok(value));
+        assert_eq!(id_in_datagram(Family::Standard, &datagram, 1, value.id), Ok(value));
     }
 }
 
 #[test]
 fn the_last_known_value_says_its_packet() {
     let newer = packet(&DATA);
-    let found = |source, id| last_known(&newer, samples::CODEC8, id).map(|k| (k.source == source, k.value));
+    let found =
+        |source, id| last_known(Family::Standard, &newer, samples::CODEC8, id).map(|k| (k.source == source, k.value));
     let tag = Value { offset: 113, ..VALUES[4] };
     assert_eq!(found(Source::Newer, 0x0405), Ok((true, tag)));
     let voltage = Value { id: 66, kind: 2, offset: 43, bytes: &[0x5E, 0x0F], number: Some(24_079) };
@@ -58,25 +59,25 @@ fn a_refusal_says_its_record() {
     let (p, d) = (&packet(&priority)[..], &datagram(&priority)[..]);
     let refusal = Refusal { number: 10, record: Some(1) };
     let out = &mut [0; 512][..];
-    assert_eq!(read_packet(p).err(), Some(refusal));
-    assert_eq!(read_datagram(d).err(), Some(refusal));
-    assert_eq!(record_in_packet(p, 0).err(), Some(refusal));
-    assert_eq!(record_in_datagram(d, 0).err(), Some(refusal));
-    assert_eq!(value_in_packet(p, 1, 0).err(), Some(refusal));
-    assert_eq!(value_in_datagram(d, 1, 0).err(), Some(refusal));
-    assert_eq!(id_in_packet(p, 1, 21).err(), Some(refusal));
-    assert_eq!(id_in_datagram(d, 1, 21).err(), Some(refusal));
-    assert_eq!(DataPacket::read(p, &mut Contents::new()).err(), Some(refusal));
-    assert_eq!(DataDatagram::read(d, &mut Contents::new()).err(), Some(refusal));
-    assert_eq!(last_known(p, samples::CODEC8, 21).err(), Some(refusal));
-    assert_eq!(last_known(samples::CODEC8, p, 67).err(), Some(refusal));
-    assert_eq!(form_of_packet(p, out), Err(refusal));
-    assert_eq!(form_of_datagram(d, out), Err(refusal));
-    assert_eq!(line_of_packet(p, 9, out), Err(refusal));
-    assert_eq!(line_of_datagram(d, 9, out), Err(refusal));
-    assert_eq!(lines_of_packet(p, out), Err(refusal));
-    assert_eq!(lines_of_datagram(d, out), Err(refusal));
-    assert_eq!(acknowledge_datagram(d, out), Err(refusal));
+    assert_eq!(read_packet(Family::Standard, p).err(), Some(refusal));
+    assert_eq!(read_datagram(Family::Standard, d).err(), Some(refusal));
+    assert_eq!(record_in_packet(Family::Standard, p, 0).err(), Some(refusal));
+    assert_eq!(record_in_datagram(Family::Standard, d, 0).err(), Some(refusal));
+    assert_eq!(value_in_packet(Family::Standard, p, 1, 0).err(), Some(refusal));
+    assert_eq!(value_in_datagram(Family::Standard, d, 1, 0).err(), Some(refusal));
+    assert_eq!(id_in_packet(Family::Standard, p, 1, 21).err(), Some(refusal));
+    assert_eq!(id_in_datagram(Family::Standard, d, 1, 21).err(), Some(refusal));
+    assert_eq!(DataPacket::read(Family::Standard, p, &mut Contents::new()).err(), Some(refusal));
+    assert_eq!(DataDatagram::read(Family::Standard, d, &mut Contents::new()).err(), Some(refusal));
+    assert_eq!(last_known(Family::Standard, p, samples::CODEC8, 21).err(), Some(refusal));
+    assert_eq!(last_known(Family::Standard, samples::CODEC8, p, 67).err(), Some(refusal));
+    assert_eq!(form_of_packet(Family::Standard, p, out), Err(refusal));
+    assert_eq!(form_of_datagram(Family::Standard, d, out), Err(refusal));
+    assert_eq!(line_of_packet(Family::Standard, p, 9, out), Err(refusal));
+    assert_eq!(line_of_datagram(Family::Standard, d, 9, out), Err(refusal));
+    assert_eq!(lines_of_packet(Family::Standard, p, out), Err(refusal));
+    assert_eq!(lines_of_datagram(Family::Standard, d, out), Err(refusal));
+    assert_eq!(acknowledge_datagram(Family::Standard, d, out), Err(refusal));
     assert_eq!(out, [0; 512]);
 }
 
@@ -92,36 +93,36 @@ fn refusals_8_to_12_go_with_a_record() {
         (12, over_255_bytes),
     ];
     for (number, data) in refused {
-        assert_eq!(read_packet(&packet(&data)), Err(Refusal { number, record: Some(1) }));
-        assert_eq!(read_datagram(&datagram(&data)), Err(Refusal { number, record: Some(1) }));
+        assert_eq!(read_packet(Family::Fmx640, &packet(&data)), Err(Refusal { number, record: Some(1) }));
+        assert_eq!(read_datagram(Family::Fmx640, &datagram(&data)), Err(Refusal { number, record: Some(1) }));
     }
 }
 
 #[test]
 fn the_total_counts_driver_tags() {
-    let tag = |record, n| value_in_packet(samples::DRIVER_TAGS, record, n).map(|v| (v.id, v.bytes));
+    let tag = |record, n| value_in_packet(Family::Standard, samples::DRIVER_TAGS, record, n).map(|v| (v.id, v.bytes));
     assert_eq!(tag(0, 3), Ok((403, &b"Jonas Petraitis"[..])));
     assert_eq!(tag(0, 4), Ok((406, &b""[..])));
     assert_eq!(tag(1, 1), Ok((403, &b"Ona"[..])));
     assert_eq!(tag(1, 2), Ok((403, &b"Jonas"[..])));
     for (record, total, without) in [(0, 29, 3), (1, 100, 1)] {
         let old = with(&samples::DRIVER_TAGS[8..139], total, without);
-        assert_eq!(read_packet(&packet(&old)), Err(Refusal { number: 9, record: Some(record) }));
+        assert_eq!(read_packet(Family::Standard, &packet(&old)), Err(Refusal { number: 9, record: Some(record) }));
     }
 }
 
 #[test]
 fn a_command_has_no_records() {
     let type_missing = packet(&[0x0C, 0x01, 0x01]);
-    assert_eq!(read_command(&type_missing), Err(Refusal { number: 8, record: None }));
+    assert_eq!(read_command(Family::Standard, &type_missing), Err(Refusal { number: 8, record: None }));
 }
 
 #[test]
 fn commands_are_read_as_they_were_written() {
     let out = &mut vec![0; 28][..];
-    assert_eq!(write_command(0x0E, 0x11, b"352093081452251", b"", out), Ok(28));
+    assert_eq!(write_command(Family::Standard, 0x0E, 0x11, b"352093081452251", b"", out), Ok(28));
     let read = Command { codec: 0x0E, message_type: 0x11, imei: 352_093_081_452_251, offset: 23, text: b"" };
-    assert_eq!(read_command(out), Ok(read));
+    assert_eq!(read_command(Family::Standard, out), Ok(read));
 }
 
 /// A writer on a fixed input, and the result that it writes.
@@ -131,22 +132,22 @@ type Writer<'a> = (&'a dyn Fn(&mut [u8]) -> Result<usize, Refusal>, &'a [u8]);
 fn writers_keep_to_their_result() {
     let (packet, datagram) = (packet(&DATA), datagram(&DATA));
     let mut form = [0; LARGEST_FORM];
-    let size = form_of_packet(&packet, &mut form).unwrap();
+    let size = form_of_packet(Family::Standard, &packet, &mut form).unwrap();
     let form = &form[..size];
     let (first, second) = LINES.split_at(LINES.iter().position(|byte| *byte == b'\n').unwrap() + 1);
     let writers: [Writer; 12] = [
         (&|out| answer_login(samples::LOGIN, true, out), &[1]),
         (&|out| answer_login(samples::LOGIN, false, out), &[0]),
-        (&|out| acknowledge_packet(&packet, out), &[0, 0, 0, 2]),
-        (&|out| acknowledge_datagram(&datagram, out), &[0x00, 0x05, 0x12, 0x34, 0x56, 0x78, 2]),
-        (&|out| write_command(0x0C, 0x05, b"", b"getio", out), samples::CODEC12_COMMAND),
-        (&|out| form_of_packet(&packet, out), form),
-        (&|out| form_of_datagram(&datagram, out), form),
-        (&|out| packet_of_form(form, out), &packet),
-        (&|out| line_of_packet(&packet, 0, out), first),
-        (&|out| line_of_datagram(&datagram, 1, out), second),
-        (&|out| lines_of_packet(&packet, out), LINES),
-        (&|out| lines_of_datagram(&datagram, out), LINES),
+        (&|out| acknowledge_packet(Family::Standard, &packet, out), &[0, 0, 0, 2]),
+        (&|out| acknowledge_datagram(Family::Standard, &datagram, out), &[0x00, 0x05, 0x12, 0x34, 0x56, 0x78, 2]),
+        (&|out| write_command(Family::Standard, 0x0C, 0x05, b"", b"getio", out), samples::CODEC12_COMMAND),
+        (&|out| form_of_packet(Family::Standard, &packet, out), form),
+        (&|out| form_of_datagram(Family::Standard, &datagram, out), form),
+        (&|out| packet_of_form(Family::Standard, form, out), &packet),
+        (&|out| line_of_packet(Family::Standard, &packet, 0, out), first),
+        (&|out| line_of_datagram(Family::Standard, &datagram, 1, out), second),
+        (&|out| lines_of_packet(Family::Standard, &packet, out), LINES),
+        (&|out| lines_of_datagram(Family::Standard, &datagram, out), LINES),
     ];
     for (n, (write, result)) in writers.iter().enumerate() {
         let mut short = vec![0xEE; result.len() - 1];
@@ -162,26 +163,28 @@ fn writers_keep_to_their_result() {
 
 #[test]
 fn the_longest_form_fits_its_buffer() {
-    // Values of one byte in codec 8 grow most; this packet has no room for a byte more.
-    let form = long_form(108);
-    assert_eq!(form.len(), 4060);
-    let mut packet = vec![0; 1280];
-    assert_eq!(packet_of_form(&form, &mut packet), Ok(1280));
-    let mut again = vec![0; 4060];
-    assert_eq!(form_of_packet(&packet, &mut again), Ok(4060));
-    assert_eq!(again, form);
-    assert_eq!(packet_of_form(&long_form(109), &mut packet), Err(Refusal { number: 17, record: None }));
+    // Their packets have no room for a byte more.
+    let longest = [(Family::Fmx640, &LONGEST_640[..], 512, 1594), (Family::Standard, &LONGEST, 1280, 4208)];
+    for (family, counts, size, form_size) in longest {
+        let form = form_of_counts(counts);
+        assert_eq!(form.len(), form_size);
+        let mut packet = vec![0; size];
+        assert_eq!(packet_of_form(family, &form, &mut packet), Ok(size));
+        let mut again = vec![0; form_size];
+        assert_eq!(form_of_packet(family, &packet, &mut again), Ok(form_size));
+        assert_eq!(again, form);
+    }
 }
 
 #[test]
 fn empty_inputs_get_their_refusals() {
     let number = |refusal: Refusal| refusal.number;
-    assert_eq!(read_datagram(&[]).map_err(number), Err(1));
+    assert_eq!(read_datagram(Family::Standard, &[]).map_err(number), Err(1));
     assert_eq!(read_login(&[]).map_err(number), Err(1));
-    assert_eq!(packet_of_form(&[], &mut []).map_err(number), Err(17));
-    assert_eq!(acknowledge_packet(&[], &mut []).map_err(number), Err(18));
+    assert_eq!(packet_of_form(Family::Standard, &[], &mut []).map_err(number), Err(17));
+    assert_eq!(acknowledge_packet(Family::Standard, &[], &mut []).map_err(number), Err(18));
     assert_eq!(answer_login(&[], true, &mut []).map_err(number), Err(18));
-    assert_eq!(lines_of_packet(&[], &mut []).map_err(number), Err(1));
+    assert_eq!(lines_of_packet(Family::Standard, &[], &mut []).map_err(number), Err(1));
     assert_eq!(Line::read(&[]).map_err(number), Err(20));
     assert_eq!(element_in_line(&[], 0).map_err(number), Err(20));
     assert_eq!(wrong_byte(&[]), Some(0));
@@ -191,13 +194,13 @@ fn empty_inputs_get_their_refusals() {
 fn all_samples_are_accepted() {
     use samples::*;
     for packet in [CODEC8, CODEC8E, DRIVER_TAGS, CODEC16] {
-        assert!(read_packet(packet).is_ok());
+        assert!(read_packet(Family::Standard, packet).is_ok());
     }
     for command in [CODEC12_COMMAND, CODEC12_RESPONSE, CODEC14_COMMAND, CODEC14_RESPONSE] {
-        assert!(read_command(command).is_ok());
+        assert!(read_command(Family::Standard, command).is_ok());
     }
     for datagram in [UDP_CODEC8, UDP_CODEC8E] {
-        assert!(read_datagram(datagram).is_ok());
+        assert!(read_datagram(Family::Standard, datagram).is_ok());
     }
     assert!(read_login(LOGIN).is_ok());
 }
@@ -205,12 +208,12 @@ fn all_samples_are_accepted() {
 #[test]
 fn meanings_are_those_of_the_header() {
     let header = include_str!("../../include/brundilope.h");
-    for number in 1..=20 {
+    for number in 1..=21 {
         let meaning = Refusal { number, record: None }.meaning();
         let line = format!("\n *   {number:2}  {meaning}\n");
         assert!(header.contains(&line), "not in the header: {line}");
     }
-    assert_eq!(Refusal { number: 0, record: None }.meaning(), Refusal { number: 21, record: None }.meaning());
+    assert_eq!(Refusal { number: 0, record: None }.meaning(), Refusal { number: 22, record: None }.meaning());
 }
 
 #[test]
@@ -223,8 +226,15 @@ fn sizes_are_those_of_the_header_and_the_library() {
     assert_eq!(LARGEST_LINES, 4 * LARGEST);
     assert!(header.contains("\n#define BRUNDILOPE_LARGEST_CONTENTS (BRUNDILOPE_LARGEST / 2)\n"));
     assert_eq!(LARGEST_CONTENTS, LARGEST / 2);
+    for (name, family) in [("640", Family::Fmx640), ("STANDARD", Family::Standard)] {
+        let line = format!("\n#define BRUNDILOPE_FAMILY_{name} {}\n", u8::from(family));
+        assert!(header.contains(&line), "not in the header: {line}");
+    }
     let text = [0; LARGEST - 19]; // one byte too many: 20 bytes of a packet are not text
     let mut out = [0; LARGEST];
-    assert_eq!(write_command(0x0C, 0x05, b"", &text[1..], &mut out), Ok(LARGEST));
-    assert_eq!(write_command(0x0C, 0x05, b"", &text, &mut out), Err(Refusal { number: 14, record: None }));
+    assert_eq!(write_command(Family::Standard, 0x0C, 0x05, b"", &text[1..], &mut out), Ok(LARGEST));
+    assert_eq!(
+        write_command(Family::Standard, 0x0C, 0x05, b"", &text, &mut out),
+        Err(Refusal { number: 14, record: None })
+    );
 }

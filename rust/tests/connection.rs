@@ -1,11 +1,12 @@
 //! A connection gives the same items however its bytes are cut, and those that the calls for one thing each accept.
 use brundilope::*;
-use inputs::{long_form, packet, with, DATA};
+use inputs::{form_of_counts, packet, with, DATA, LONGEST, LONGEST_640};
 
 #[allow(dead_code)] // the rest is for other tests
 mod inputs;
 
 const CODEC: usize = 8;
+const FAMILIES: [Family; 2] = [Family::Fmx640, Family::Standard];
 
 /// What a unit might send, item by item.
 fn sent() -> Vec<Vec<u8>> {
@@ -25,8 +26,8 @@ fn items<'a>(connection: &mut Connection, pieces: impl IntoIterator<Item = &'a [
 }
 
 /// A connection after the login.
-fn logged_in() -> Connection {
-    let mut connection = Connection::new();
+fn logged_in(family: Family) -> Connection {
+    let mut connection = Connection::new(family);
     assert_eq!(connection.feed(samples::LOGIN).item, Item::Login(read_login(samples::LOGIN).unwrap()));
     connection
 }
@@ -44,24 +45,26 @@ fn bytes(item: &Item) -> &[u8] {
 #[test]
 fn items_are_the_same_however_they_are_cut() {
     let stream = sent().concat();
-    let whole = items(&mut Connection::new(), [&stream[..]]);
-    assert_eq!(whole.iter().map(bytes).collect::<Vec<_>>(), sent());
-    for cut in 0..=stream.len() {
-        let (first, second) = stream.split_at(cut);
-        assert_eq!(items(&mut Connection::new(), [first, second]), whole, "cut at {cut}");
-    }
-    for size in [1, 2, 7, 64] {
-        assert_eq!(items(&mut Connection::new(), stream.chunks(size)), whole, "pieces of {size}");
+    for fresh in FAMILIES.map(Connection::new) {
+        let whole = items(&mut fresh.clone(), [&stream[..]]);
+        assert_eq!(whole.iter().map(bytes).collect::<Vec<_>>(), sent());
+        for cut in 0..=stream.len() {
+            let (first, second) = stream.split_at(cut);
+            assert_eq!(items(&mut fresh.clone(), [first, second]), whole, "cut at {cut}");
+        }
+        for size in [1, 2, 7, 64] {
+            assert_eq!(items(&mut fresh.clone(), stream.chunks(size)), whole, "pieces of {size}");
+        }
     }
 }
 
 #[test]
 fn states_are_the_same_however_they_are_fed() {
-    let (mut bytewise, mut fed) = (Connection::new(), Vec::new());
+    let (mut bytewise, mut fed) = (Connection::new(Family::Standard), Vec::new());
     for (n, item) in sent().into_iter().enumerate() {
         let (phase, head) = if n == 0 { (Phase::Login, 17) } else { (Phase::Packets, 8) };
         for (held, byte) in item.iter().enumerate() {
-            let mut at_once = Connection::new();
+            let mut at_once = Connection::new(Family::Standard);
             items(&mut at_once, [&fed[..]]);
             assert_eq!(bytewise, at_once, "after {} bytes", fed.len());
             assert_eq!((bytewise.phase(), bytewise.held()), (phase, &item[..held]));
@@ -75,7 +78,7 @@ fn states_are_the_same_however_they_are_fed() {
 #[test]
 fn who_reads_what_is_wanted_never_reads_too_much() {
     let stream = sent().concat();
-    let (mut connection, mut rest, mut given) = (Connection::default(), &stream[..], Vec::new());
+    let (mut connection, mut rest, mut given) = (Connection::new(Family::Standard), &stream[..], Vec::new());
     while !rest.is_empty() {
         let (wanted, behind) = rest.split_at(connection.wanted());
         let fed = connection.feed(wanted);
@@ -90,7 +93,7 @@ fn who_reads_what_is_wanted_never_reads_too_much() {
 #[test]
 fn a_feed_stops_behind_its_item() {
     let stream = sent().concat();
-    let (mut connection, mut rest) = (Connection::new(), &stream[..]);
+    let (mut connection, mut rest) = (Connection::new(Family::Standard), &stream[..]);
     for item in sent() {
         let Fed { used, item: given } = connection.feed(rest);
         assert_eq!((used, bytes(&given)), (item.len(), &item[..]));
@@ -102,7 +105,7 @@ fn a_feed_stops_behind_its_item() {
 
 #[test]
 fn an_empty_feed_changes_nothing() {
-    let mut connection = Connection::new();
+    let mut connection = Connection::new(Family::Standard);
     for byte in sent().concat() {
         let before = connection.clone();
         assert_eq!(connection.feed(&[]), Fed { used: 0, item: Item::More });
@@ -114,22 +117,32 @@ fn an_empty_feed_changes_nothing() {
 
 #[test]
 fn packets_are_read_as_by_themselves() {
-    let mut longest = vec![0; LARGEST];
-    assert_eq!(packet_of_form(&long_form(108), &mut longest), Ok(LARGEST));
-    let mut long_command = vec![0; LARGEST];
-    assert_eq!(write_command(0x0C, 0x06, b"", &[b'x'; LARGEST - 20], &mut long_command), Ok(LARGEST));
-    let mut connection = logged_in();
-    for input in [longest, long_command].iter().chain(&sent()[1..]) {
-        let (mut room, mut own) = (Contents::new(), Contents::new());
-        match connection.feed(input).item {
-            Item::Data(data) => {
-                assert_eq!(Ok(data.read(&mut room)), DataPacket::read(input, &mut own));
-                assert_eq!(Ok(Packet { codec: data.codec(), count: data.count() }), read_packet(input));
-                assert_eq!(data.ack(), data.read(&mut room).ack());
-            }
-            Item::Command(command) => assert_eq!(Ok(command.read()), read_command(input)),
-            other => panic!("{other:?}"),
+    for (family, largest, counts) in [(Family::Fmx640, 512, &LONGEST_640[..]), (Family::Standard, LARGEST, &LONGEST)] {
+        let (mut longest, mut long_command) = (vec![0; largest], vec![0; largest]);
+        assert_eq!(packet_of_form(family, &form_of_counts(counts), &mut longest), Ok(largest));
+        assert_eq!(write_command(family, 0x0C, 0x06, b"", &vec![b'x'; largest - 20], &mut long_command), Ok(largest));
+        let mut connection = logged_in(family);
+        for input in [longest, long_command].iter().chain(&sent()[1..]) {
+            read_as_by_itself(&connection.feed(input).item, family, input);
         }
+    }
+}
+
+/// An item gives what the calls for one thing each give of the input, by the family of its connection.
+fn read_as_by_itself(item: &Item, family: Family, input: &[u8]) {
+    let (mut room, mut own) = (Contents::new(), Contents::new());
+    match item {
+        Item::Data(data) => {
+            assert_eq!(data.family(), family);
+            assert_eq!(Ok(data.read(&mut room)), DataPacket::read(family, input, &mut own));
+            assert_eq!(Ok(Packet { codec: data.codec(), count: data.count() }), read_packet(family, input));
+            assert_eq!(data.ack(), data.read(&mut room).ack());
+        }
+        Item::Command(command) => {
+            assert_eq!(command.family(), family);
+            assert_eq!(Ok(command.read()), read_command(family, input));
+        }
+        other => panic!("{other:?}"),
     }
 }
 
@@ -156,7 +169,7 @@ fn stays_closed(connection: &mut Connection) {
     }
     assert_eq!(*connection, before);
     connection.reset();
-    assert_eq!(*connection, Connection::new());
+    assert_eq!(*connection, Connection::new(before.family()));
 }
 
 /// A refused item closes the connection with this refusal once so many of its bytes are there, wherever it is cut.
@@ -175,13 +188,16 @@ fn refused(fresh: &Connection, input: &[u8], used: usize, refusal: Refusal) {
 fn refusals_close() {
     let no = |number| Refusal { number, record: None };
     let login = with(samples::LOGIN, 16, b':');
-    refused(&Connection::new(), &login, 17, no(15));
-    refused(&Connection::new(), samples::CODEC8, 17, no(15));
-    let open = logged_in();
-    refused(&open, samples::LOGIN, 8, no(2));
-    for length in [0, 2, 1269, 1 << 24] {
-        refused(&open, &[0; 4].into_iter().chain(u32::to_be_bytes(length)).collect::<Vec<_>>(), 8, no(3));
+    refused(&Connection::new(Family::Standard), &login, 17, no(15));
+    refused(&Connection::new(Family::Standard), samples::CODEC8, 17, no(15));
+    for (family, over) in [(Family::Fmx640, 501), (Family::Standard, 1269)] {
+        for length in [0, 2, over, 1 << 24] {
+            let header: Vec<u8> = [0; 4].into_iter().chain(u32::to_be_bytes(length)).collect();
+            refused(&logged_in(family), &header, 8, no(3));
+        }
     }
+    let open = logged_in(Family::Standard);
+    refused(&open, samples::LOGIN, 8, no(2));
     let crc = with(samples::CODEC8, 65, 0);
     refused(&open, &crc, 66, no(5));
     let fields = [
@@ -203,13 +219,13 @@ fn refusals_close() {
 
 #[test]
 fn refusals_are_those_of_reading() {
-    let open = logged_in();
+    let open = logged_in(Family::Standard);
     for (place, byte) in DATA.into_iter().enumerate() {
         for wrong in [0, 3, 0x0C, byte.wrapping_add(1)] {
             let input = packet(&with(&DATA, place, wrong));
             let expected = match input[CODEC] {
-                0x0C | 0x0E => read_command(&input).map(|_| ()),
-                _ => read_packet(&input).map(|_| ()),
+                0x0C | 0x0E => read_command(Family::Standard, &input).map(|_| ()),
+                _ => read_packet(Family::Standard, &input).map(|_| ()),
             };
             let fed = open.clone().feed(&input);
             assert_eq!(fed.used, input.len());
@@ -224,7 +240,7 @@ fn refusals_are_those_of_reading() {
 #[test]
 fn items_end_with_the_refusal() {
     let input = [samples::LOGIN, samples::CODEC8, b"no packet", samples::CODEC16].concat();
-    let mut connection = Connection::new();
+    let mut connection = Connection::new(Family::Standard);
     let mut items = connection.items(&input);
     let given: Vec<Item> = items.by_ref().collect();
     assert_eq!(given.iter().take(2).map(bytes).collect::<Vec<_>>(), [samples::LOGIN, samples::CODEC8]);
@@ -236,9 +252,9 @@ fn items_end_with_the_refusal() {
 #[test]
 fn items_not_asked_for_are_not_fed() {
     let stream = sent().concat();
-    let mut connection = Connection::new();
+    let mut connection = Connection::new(Family::Standard);
     drop(connection.items(&stream));
-    assert_eq!(connection, Connection::new());
+    assert_eq!(connection, Connection::new(Family::Standard));
     let mut items = connection.items(&stream);
     assert_eq!(items.by_ref().take(2).count(), 2);
     let used = items.used();
@@ -248,14 +264,14 @@ fn items_not_asked_for_are_not_fed() {
 
 #[test]
 fn all_can_be_shown() {
-    let mut connection = logged_in();
+    let open = logged_in(Family::Fmx640);
+    let mut connection = open.clone();
     let fed = connection.feed(&[0, 0]);
     assert_eq!(format!("{fed:?}"), "Fed { used: 2, item: More }");
-    assert_eq!(format!("{connection:?}"), "Connection { phase: Packets, held: [0, 0] }");
-    assert_eq!(
-        format!("{:?}", logged_in().feed(samples::CODEC8).item),
-        format!("Data(ReceivedData({:?}))", samples::CODEC8)
-    );
+    assert_eq!(format!("{connection:?}"), "Connection { family: Fmx640, phase: Packets, held: [0, 0] }");
+    let data = samples::CODEC8;
+    assert_eq!(format!("{:?}", open.clone().feed(data).item), format!("Data(ReceivedData(Fmx640, {data:?}))"));
     let command = samples::CODEC12_COMMAND;
-    assert_eq!(format!("{:?}", logged_in().feed(command).item), format!("Command(ReceivedCommand({command:?}))"));
+    let shown = format!("Command(ReceivedCommand(Fmx640, {command:?}))");
+    assert_eq!(format!("{:?}", open.clone().feed(command).item), shown);
 }

@@ -1,6 +1,6 @@
 //! A packet's contents are what the look-ups find in it, one by one; so are a datagram's.
 use brundilope::*;
-use inputs::{datagram, long_form, packet, with, DATA, RECORD, VALUES};
+use inputs::{datagram, form_of_counts, packet, with, DATA, LONGEST, RECORD, VALUES};
 
 #[allow(dead_code)] // the rest is for other tests
 mod inputs;
@@ -9,9 +9,9 @@ mod inputs;
 struct LookUps {
     start: usize,
     behind: usize,
-    record: fn(&[u8], usize) -> Result<Record, Refusal>,
-    value: fn(&[u8], usize, usize) -> Result<Value<'_>, Refusal>,
-    id: fn(&[u8], usize, u16) -> Result<Value<'_>, Refusal>,
+    record: fn(Family, &[u8], usize) -> Result<Record, Refusal>,
+    value: fn(Family, &[u8], usize, usize) -> Result<Value<'_>, Refusal>,
+    id: fn(Family, &[u8], usize, u16) -> Result<Value<'_>, Refusal>,
 }
 
 const IN_PACKET: LookUps =
@@ -25,11 +25,11 @@ impl LookUps {
         assert_eq!(bytes.concat(), input[self.start..input.len() - self.behind]);
         for (n, record) in records.enumerate() {
             let fields = record.fields();
-            assert_eq!((self.record)(input, n), Ok(fields));
+            assert_eq!((self.record)(Family::Standard, input, n), Ok(fields));
             assert_eq!(record.values().len(), fields.elements);
             for (k, value) in record.values().enumerate() {
-                assert_eq!((self.value)(input, n, k), Ok(value));
-                assert_eq!((self.id)(input, n, value.id).ok(), record.value(value.id));
+                assert_eq!((self.value)(Family::Standard, input, n, k), Ok(value));
+                assert_eq!((self.id)(Family::Standard, input, n, value.id).ok(), record.value(value.id));
             }
             assert_eq!(record.value(0xFFFF), None);
         }
@@ -38,10 +38,10 @@ impl LookUps {
 
 /// A packet is read as by the calls for one thing each, refused or not.
 fn packet_holds(input: &[u8], room: &mut Contents) {
-    let read = DataPacket::read(input, room);
-    assert_eq!(read.map(|p| Packet { codec: p.codec(), count: p.count() }), read_packet(input));
+    let read = DataPacket::read(Family::Standard, input, room);
+    assert_eq!(read.map(|p| Packet { codec: p.codec(), count: p.count() }), read_packet(Family::Standard, input));
     let mut ack = [0xEE; 4];
-    assert_eq!(acknowledge_packet(input, &mut ack), Ok(4));
+    assert_eq!(acknowledge_packet(Family::Standard, input, &mut ack), Ok(4));
     assert_eq!(read.map_or([0; 4], |p| p.ack()), ack);
     if let Ok(packet) = read {
         assert_eq!(packet.bytes(), input);
@@ -52,7 +52,7 @@ fn packet_holds(input: &[u8], room: &mut Contents) {
 
 /// The same for a datagram.
 fn datagram_holds(input: &[u8], room: &mut Contents) {
-    let read = DataDatagram::read(input, room);
+    let read = DataDatagram::read(Family::Standard, input, room);
     let all = read.map(|d| Datagram {
         codec: d.codec(),
         count: d.count(),
@@ -61,9 +61,9 @@ fn datagram_holds(input: &[u8], room: &mut Contents) {
         unused: d.unused(),
         avl_packet_id: d.avl_packet_id(),
     });
-    assert_eq!(all, read_datagram(input));
+    assert_eq!(all, read_datagram(Family::Standard, input));
     let mut ack = [0xEE; 7];
-    assert_eq!(acknowledge_datagram(input, &mut ack), read.map(|_| 7));
+    assert_eq!(acknowledge_datagram(Family::Standard, input, &mut ack), read.map(|_| 7));
     if let Ok(datagram) = read {
         assert_eq!(datagram.ack(), ack);
         assert_eq!(datagram.bytes(), input);
@@ -75,7 +75,9 @@ fn datagram_holds(input: &[u8], room: &mut Contents) {
 /// The longest packet, or a few bytes shorter: no other has more values.
 fn long_packet(shorter: usize) -> Vec<u8> {
     let mut packet = vec![0; LARGEST - shorter];
-    assert_eq!(packet_of_form(&long_form(108 - shorter / 2), &mut packet), Ok(LARGEST - shorter));
+    let [first, second, last] = LONGEST;
+    let form = form_of_counts(&[first, second, last - shorter / 2]);
+    assert_eq!(packet_of_form(Family::Standard, &form, &mut packet), Ok(LARGEST - shorter));
     packet
 }
 
@@ -103,7 +105,7 @@ fn contents_are_what_look_ups_find() {
 #[test]
 fn fields_and_values_stand_in_their_places() {
     let (packet, mut room) = (packet(&DATA), Contents::default());
-    let record = DataPacket::read(&packet, &mut room).unwrap().records().last().unwrap();
+    let record = DataPacket::read(Family::Standard, &packet, &mut room).unwrap().records().last().unwrap();
     assert_eq!(record.fields(), RECORD);
     assert_eq!(record.values().collect::<Vec<_>>(), VALUES.map(|v| Value { offset: v.offset + 8, ..v }));
 }
@@ -127,14 +129,15 @@ fn refusals_are_those_of_reading() {
 #[test]
 fn copies_give_the_same() {
     let mut room = Contents::new();
-    let copies = packets().map(|packet| DataPacket::read(&packet, &mut room).unwrap().to_owned());
+    let copies = packets().map(|packet| DataPacket::read(Family::Standard, &packet, &mut room).unwrap().to_owned());
     for (copy, packet) in copies.iter().zip(&packets()) {
-        assert_eq!(DataPacket::read(packet, &mut room), Ok(copy.as_packet()));
+        assert_eq!(DataPacket::read(Family::Standard, packet, &mut room), Ok(copy.as_packet()));
         IN_PACKET.find(copy.as_packet().records(), packet);
     }
-    let copies = datagrams().map(|datagram| DataDatagram::read(&datagram, &mut room).unwrap().to_owned());
+    let copies =
+        datagrams().map(|datagram| DataDatagram::read(Family::Standard, &datagram, &mut room).unwrap().to_owned());
     for (copy, datagram) in copies.iter().zip(&datagrams()) {
-        assert_eq!(DataDatagram::read(datagram, &mut room), Ok(copy.as_datagram()));
+        assert_eq!(DataDatagram::read(Family::Standard, datagram, &mut room), Ok(copy.as_datagram()));
         IN_DATAGRAM.find(copy.as_datagram().records(), datagram);
     }
 }
@@ -151,7 +154,7 @@ fn counts_down(mut items: impl ExactSizeIterator, count: usize) {
 #[test]
 fn iterators_know_their_length() {
     let mut room = Contents::new();
-    let records = DataPacket::read(samples::CODEC16, &mut room).unwrap().records();
+    let records = DataPacket::read(Family::Standard, samples::CODEC16, &mut room).unwrap().records();
     counts_down(records.clone(), 2);
     counts_down(records.last().unwrap().values(), 4);
 }
@@ -162,12 +165,16 @@ fn all_can_be_shown() {
     assert_eq!(format!("{room:?}"), "Contents { .. }");
     let first = "records: [DataRecord { fields: Record { timestamp: 1000, ";
     let tag = "Value { id: 1029, kind: 9, offset: 113, bytes: [116, 97, 103], number: None }, Value {";
-    let copy = DataPacket::read(&packet, &mut room).unwrap().to_owned();
+    let copy = DataPacket::read(Family::Standard, &packet, &mut room).unwrap().to_owned();
     let shown = format!("{copy:?}");
-    assert!(shown.starts_with(&format!("OwnedPacket(DataPacket {{ codec: 142, {first}")) && shown.contains(tag));
-    let copy = DataDatagram::read(&datagram, &mut room).unwrap().to_owned();
+    assert!(
+        shown.starts_with(&format!("OwnedPacket(DataPacket {{ family: Standard, codec: 142, {first}"))
+            && shown.contains(tag)
+    );
+    let copy = DataDatagram::read(Family::Standard, &datagram, &mut room).unwrap().to_owned();
     let ids = "packet_id: 4660, unused: 86, avl_packet_id: 120";
-    let head = format!("OwnedDatagram(DataDatagram {{ codec: 142, imei: 1020304050607, {ids}, {first}");
+    let head =
+        format!("OwnedDatagram(DataDatagram {{ family: Standard, codec: 142, imei: 1020304050607, {ids}, {first}");
     assert!(format!("{copy:?}").starts_with(&head));
     assert_eq!(copy.as_datagram().to_string(), "IMEI 001020304050607, codec 8E, records 2");
 }

@@ -2,7 +2,7 @@
 use std::collections::HashSet;
 
 use brundilope::*;
-use inputs::{datagram, long_form, packet, DATA, LINES};
+use inputs::{datagram, form_of_counts, packet, DATA, LINES, LONGEST};
 
 #[allow(dead_code)] // the rest is for other tests
 mod inputs;
@@ -112,25 +112,25 @@ fn in_all_ways(
 
 fn lines_of(input: &[u8]) -> String {
     let (mut room, mut text) = (Contents::new(), [0xEE; LARGEST_LINES]);
-    let packet = DataPacket::read(input, &mut room).unwrap();
+    let packet = DataPacket::read(Family::Standard, input, &mut room).unwrap();
     in_all_ways(
         packet.records(),
         packet.lines(&mut text),
         |number| packet.line(number).map(|line| line.to_string()),
-        |number, out| line_of_packet(input, number, out),
-        |out| lines_of_packet(input, out),
+        |number, out| line_of_packet(Family::Standard, input, number, out),
+        |out| lines_of_packet(Family::Standard, input, out),
     )
 }
 
 fn lines_of_udp(input: &[u8]) -> String {
     let (mut room, mut text) = (Contents::new(), [0xEE; LARGEST_LINES]);
-    let datagram = DataDatagram::read(input, &mut room).unwrap();
+    let datagram = DataDatagram::read(Family::Standard, input, &mut room).unwrap();
     in_all_ways(
         datagram.records(),
         datagram.lines(&mut text),
         |number| datagram.line(number).map(|line| line.to_string()),
-        |number, out| line_of_datagram(input, number, out),
-        |out| lines_of_datagram(input, out),
+        |number, out| line_of_datagram(Family::Standard, input, number, out),
+        |out| lines_of_datagram(Family::Standard, input, out),
     )
 }
 
@@ -157,8 +157,8 @@ fn fields_stand_in_their_places() {
     assert_eq!(lines_of(&packet(&DATA)).as_bytes(), LINES);
     assert_eq!(lines_of_udp(&datagram(&DATA)).as_bytes(), LINES);
     let mut long = vec![0; LARGEST];
-    assert_eq!(packet_of_form(&long_form(108), &mut long), Ok(LARGEST));
-    assert_eq!(lines_of(&long).matches(",9=5").count(), 4 * 112 + 108);
+    assert_eq!(packet_of_form(Family::Standard, &form_of_counts(&LONGEST), &mut long), Ok(LARGEST));
+    assert_eq!(lines_of(&long).matches(",9=5").count(), LONGEST.iter().sum());
 }
 
 /// A packet of codec 8 Extended whose records have one tag each.
@@ -171,7 +171,7 @@ fn with_tags(tags: &[&[u8]]) -> Vec<u8> {
         form.extend(*tag);
     }
     let mut packet = vec![0; LARGEST];
-    let size = packet_of_form(&form, &mut packet).unwrap();
+    let size = packet_of_form(Family::Standard, &form, &mut packet).unwrap();
     packet.truncate(size);
     packet
 }
@@ -213,7 +213,7 @@ fn tags_are_equal_if_their_bytes_are() {
 
 #[test]
 fn tags_longer_than_any_record_are_read_too() {
-    for size in [254, 255, 256, 257, 5000] {
+    for size in [255, 256, 257, LARGEST - 1, LARGEST, LARGEST + 1, 5000] {
         let tag = vec![b'\n'; size];
         let line = format!("0,0.0000000,0.0000000,0,1=1,65535=\"{}\",2=\"\"\n", "\\0A".repeat(size));
         let elements: Vec<_> = Line::read(line.as_bytes()).unwrap().elements().collect();
@@ -277,7 +277,7 @@ fn all_can_be_shown() {
     let fields = "timestamp: 1000, longitude: -1, latitude: 547146368, speed: 5";
     assert_eq!(format!("{line:?}"), format!("Line {{ {fields}, elements: {elements} }}"));
     let (mut room, mut text) = (Contents::new(), [0; LARGEST_LINES]);
-    let datagram = DataDatagram::read(&DATAGRAM, &mut room).unwrap();
+    let datagram = DataDatagram::read(Family::Standard, &DATAGRAM, &mut room).unwrap();
     let own = "\"1000,-0.0000001,54.7146368,5,21=3\\n\"";
     assert_eq!(format!("{:?}", datagram.line(0).unwrap()), format!("RecordLine({own})"));
     assert_eq!(format!("{:?}", datagram.lines(&mut text)), format!("[{own}]"));

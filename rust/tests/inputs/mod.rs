@@ -48,6 +48,12 @@ pub const VALUES: [Value; 6] = [
     Value { id: 0x0506, kind: 9, offset: 112, bytes: b"", number: None },
 ];
 
+/// Counts for `form_of_counts`: no packet has a longer form, or more values. A record of codec 8 has at most 255.
+pub const LONGEST: [usize; 3] = [255, 255, 76];
+
+/// The same for family 1, where a record has at most 255 bytes.
+pub const LONGEST_640: [usize; 2] = [112, 105];
+
 /// The billing lines of both records.
 pub const LINES: &[u8] = b"1000,0.0000000,0.0000000,0\n\
     72623859790382856,-0.0000001,54.7146368,90,\
@@ -78,11 +84,11 @@ pub fn with(data: &[u8], place: usize, byte: u8) -> Vec<u8> {
     changed
 }
 
-/// The TLV form of codec 8 with five records: the last with so many values of one byte and one of two bytes, the others
-/// with as many of one byte as a record has room for.
-pub fn long_form(last: usize) -> Vec<u8> {
+/// The TLV form of codec 8 whose records have so many values of one byte, and the last one value of two bytes. Such
+/// values grow most, and the more so the fewer records they stand in.
+pub fn form_of_counts(counts: &[usize]) -> Vec<u8> {
     let mut form = vec![1, 0, 100, 0, 0x08];
-    for count in [112, 112, 112, 112, last] {
+    for &count in counts {
         form.extend([27, 0, 101, 0]);
         form.extend([0; 27]);
         form.extend([3, 0, 1, 0, 9, 0, 5].repeat(count));
