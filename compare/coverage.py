@@ -4,8 +4,10 @@ from collections import Counter
 
 import reference
 
-NUMBERS = range(1, 21)
+NUMBERS = range(1, 22)
 CODECS = {0x08: "8", 0x8E: "8E", 0x10: "16"}
+KNOWN = tuple(reference.FAMILIES)
+UNKNOWN = "unknown"             # stands for every family that is not known
 
 # The refusals of each input in the order of document 01, each with its places: the parts of the rule.
 FRAME = {1: [""], 2: [""], 3: ["under", "over"], 4: ["missing", "too many"], 5: ["upper", "lower"]}
@@ -39,7 +41,7 @@ INPUTS = {
     "form": {17: ["no entry", "entry's head", "entry's body", "first kind", "codec's length", "codec",
                   "record's length", "priority", "event ID", "generation type", "generation type outside 16",
                   "no record before it", "kind", "order", "element's length", "value's length", "ID", "no record",
-                  "record's size", "packet's size"]},
+                  "record's size", "packet's size", "group's count", "total"]},
     "connection": {2: [""], 3: ["under", "over"], 5: ["upper", "lower"], 6: [""],
                    7: ["zero", "differ", "first", "second"], 8: ["timestamp", "left over", "type", "size"], 9: WALK[9],
                    10: [""], 11: [""], 12: [""], 13: [""], 14: ["size", "under 8", "text with 11"],
@@ -50,12 +52,22 @@ INPUTS = {
     "field": {20: ELEMENT_PLACES},
 }
 
-WALK_PLACES = [(number, place) for number, places in WALK.items() for place in places]
+# What only a family with a record limit can give, and what only one without: as many elements are over 255 bytes.
+LIMITED = {(12, ""), (17, "record's size")}
+UNLIMITED = {(17, "group's count"), (17, "total")}
 
 
-def walk_places(codec):
+def pairs(rules, family=None):
+    """The (number, place) pairs of rules, those that a known family can give if one is named."""
+    never = set()
+    if family in KNOWN:
+        never = LIMITED if reference.FAMILIES[family].record is None else UNLIMITED
+    return [(number, place) for number, places in rules.items() for place in places if (number, place) not in never]
+
+
+def walk_places(codec, family=None):
     """The (number, place) pairs of a codec's walk."""
-    return [(number, place) for number, place in WALK_PLACES
+    return [(number, place) for number, place in pairs(WALK, family)
             if (codec == 0x10 or (number != 11 and place != "generation type"))
             and (codec == 0x8E or not place.startswith("variable"))]
 
@@ -67,7 +79,7 @@ ROOM = {18: ["by one"], None: ["exact", "longer"]}
 # An element of a line: a number leaves the buffer alone, a tag may have more bytes.
 TAG_ROOM = {18: ["by one", "by more"], None: ["number", "exact", "longer"]}
 
-# Why a state gets 19; the last ones hold an item, or what a refusal should have taken out of it.
+# Why a state of a known family gets 19; the last ones hold an item, or what a refusal should have taken out of it.
 NO_STATE = {19: ["closed", "phase", "length", "fill", "spare byte", "login held", "packet held", "2 held", "3 held",
                  "5 held", "15 held"]}
 
@@ -116,28 +128,57 @@ CALLS = {
     "stream": ("connection", {}),
     "wanted": ("state", NO_STATE),
     "reset": ("state", {}),
-    "fresh": ("state", {}),
+    "start": ("state", {}),
 }
 
-# Calls that do not show the refusal behind their answer, and one that does. Of views, of what is wanted and of the
-# byte that is wrong the reference tells it.
-BEHIND = {"acknowledge_packet": "read_packet", "answer_login": "read_login"}
-VIEWS = {name for name, (sort, _, _) in reference.CALLS.items() if sort == "view"}
-HIDING = VIEWS | set(BEHIND) | {"wanted", "wrong_byte"}
+# What an unknown family is answered with: 21 but in these calls, which take a state. Any state can be reset.
+OF_UNKNOWN = {"feed": (19, "family"), "wanted": (19, "family"), "reset": (None, "")}
+
+# Calls that do not show the refusal behind their answer, or not all of them. The reference tells it.
+HIDING = {"wanted", "wrong_byte",
+          *(name for name, (sort, _, _) in reference.CALLS.items() if sort in ("view", "receipt"))}
 
 
-def allowed(row):
-    """The refusals that the papers let a call give, or hide."""
-    source, more = CALLS[row]
-    numbers = set(INPUTS[source]) | set(more)
-    return numbers | set(WALK) if source in ("packet", "datagram") else numbers
+def families_of(row):
+    """The families that a row's call can name, None if none. The older packet is not judged in an unknown one."""
+    if not reference.names_family(row.split(",")[0]):
+        return (None,)
+    return KNOWN if row.endswith("older") else (*KNOWN, UNKNOWN)
 
 
-def from_older(words, refusal):
+def has_walk(row):
+    return CALLS[row][0] in ("packet", "datagram")
+
+
+def more_of(row, family):
+    """What a call can give besides the refusals of its input."""
+    if family != UNKNOWN:
+        return CALLS[row][1]
+    number, place = OF_UNKNOWN.get(row, (21, ""))
+    return {number: [place]} if number else {}
+
+
+def allowed(row, family):
+    """The refusals that the papers let a call give, or hide, in a family; None among them if it may accept."""
+    if family == UNKNOWN:
+        return set(more_of(row, family)) or {None}
+    rules = INPUTS[CALLS[row][0]] | more_of(row, family) | (WALK if has_walk(row) else {})
+    return {number for number, _ in pairs(rules, family)} | {None}
+
+
+def family_named(line):
+    """The family that a line names, one of families_of, and the words behind it."""
+    name, *words = line.split()
+    if not reference.names_family(name):
+        return None, words
+    return int(words[0]) if int(words[0]) in KNOWN else UNKNOWN, words[1:]
+
+
+def from_older(family, words, refusal):
     """Does a last-known answer come from the older packet? 16 comes from both."""
     if refusal is None:
-        return reference.evaluate("last_known " + " ".join(words))[0].startswith("accepted 1")
-    return refusal.number != 16 and reference.evaluate(f"read_packet {words[0]}")[1] is None
+        return reference.evaluate(f"last_known {family} {' '.join(words)}")[0].startswith("accepted 1")
+    return refusal.number not in (16, 21) and reference.evaluate(f"read_packet {family} {words[0]}")[1] is None
 
 
 def feed_kind(words, answer):
@@ -156,113 +197,136 @@ def feed_kind(words, answer):
     return f"{before}: {'item' if number == '0' else 'refusal'}{left}"
 
 
+def kind_of(name, words, answer, number):
+    """How a call's room compares with what is written, or where a feed begins and ends; None where neither is told."""
+    if answer.startswith("written"):
+        _, size, lent = answer.split()
+        return "exact" if len(lent) == 2 * int(size) * reference.unit(name) else "longer"
+    if name.startswith("element_") and number is None:
+        _, _, tag, _, size, _, lent = answer.split()
+        return "number" if tag == "0" else "exact" if len(lent.strip("-")) == 2 * int(size) else "longer"
+    if name == "feed" and number not in (18, 19):
+        return feed_kind(words, answer)
+    return None
+
+
+def rows_of(source):
+    return [row for row, (of, _) in CALLS.items() if of == source]
+
+
 class Coverage:
     def __init__(self):
-        self.reached = Counter()        # (row of CALLS, codec or None, number or None, place)
+        self.reached = Counter()        # (row of CALLS, family, codec or "kind" or None, number or None, place)
         self.indices = {number: Counter() for number in WALK}
 
     def count(self, line, answer, refusal):
         """Notes what a line reached."""
-        name, *words = line.split()
-        row, data = name, "".join(words[:1])
-        if name in BEHIND and refusal is None:
-            refusal = reference.evaluate(f"{BEHIND[name]} {data}")[1]
-        if name.startswith("last_known") and from_older(words, refusal):
+        row = name = line.split(" ", 1)[0]
+        family, words = family_named(line)
+        data = "".join(words[:1])
+        if name.startswith("last_known") and from_older(family, words, refusal):
             row, data = f"{name}, older", words[1]
         number, place = (refusal.number, refusal.place) if refusal else (None, "")
         codec = None
-        if number in WALK and CALLS[row][0] in ("packet", "datagram"):
+        if number in WALK and has_walk(row):
             codec = int(data[16:18] if CALLS[row][0] == "packet" else data[46:48], 16)
             self.indices[number][refusal.index] += 1
-        self.reached[row, codec, number, place] += 1
-        if answer.startswith("written"):
-            _, size, lent = answer.split()
-            exact = len(lent) == 2 * int(size) * reference.unit(name)
-            self.reached[row, "kind", None, "exact" if exact else "longer"] += 1
-        if name.startswith("element_") and number is None:
-            _, _, tag, _, size, _, lent = answer.split()
-            kind = "number" if tag == "0" else "exact" if len(lent.strip("-")) == 2 * int(size) else "longer"
-            self.reached[row, "kind", None, kind] += 1
-        if name == "feed" and number not in (18, 19):
-            self.reached[row, "kind", None, feed_kind(words, answer)] += 1
+        self.reached[row, family, codec, number, place] += 1
+        kind = kind_of(name, words, answer, number)
+        if kind:
+            self.reached[row, family, "kind", None, kind] += 1
 
-    def times(self, rows, codec, number, place):
-        return sum(self.reached[row, codec, number, place] for row in rows)
+    def times(self, rows, families, codec, number, place):
+        return sum(self.reached[row, family, codec, number, place] for row in rows for family in families)
+
+    def given(self, row, families):
+        """How often a row gave each number, None for an acceptance."""
+        given = Counter()
+        for (name, family, codec, number, _), times in self.reached.items():
+            if name == row and family in families and codec != "kind":
+                given[number] += times
+        return given
 
     # ------------------------------------------------------------ what is missing
 
     def missing(self):
         """What has to be reached and was not, as lines of text."""
-        for row, (source, more) in CALLS.items():
-            given = Counter()
-            for (name, _, number, _), times in self.reached.items():
-                given[number] += times if name == row else 0
-            for number in (None, *NUMBERS):
-                if number in allowed(row) | {None} and not given[number]:
-                    yield f"{row} with {number or 'an acceptance'}"
-            for number, places in more.items():
-                for place in places:
-                    if not self.times([row], None if number else "kind", number, place):
-                        yield f"{row} with {number or 'a call'}, {place}"
-        for source, rules in INPUTS.items():
-            rows = [row for row, (of, _) in CALLS.items() if of == source]
-            for number, places in rules.items():
-                for place in places:
-                    if not self.times(rows, None, number, place):
-                        yield f"{source} with {number}, {place or 'the rule'}"
-            if source in ("packet", "datagram"):
-                for codec, name in CODECS.items():
-                    for number, place in walk_places(codec):
-                        if not self.times(rows, codec, number, place):
-                            yield f"{source} of codec {name} with {number}, {place or 'the rule'}"
+        for row in CALLS:
+            for family in families_of(row):
+                said = row if family is None else f"{row} in family {family}"
+                yield from (f"{said} with {missed}" for missed in self.missing_of_row(row, family))
+        for source in INPUTS:
+            rows = rows_of(source)
+            for family in KNOWN if reference.names_family(rows[0]) else (None,):
+                said = source if family is None else f"{source} in family {family}"
+                yield from (f"{said} with {missed}" for missed in self.missing_of_source(source, rows, family))
+
+    def missing_of_row(self, row, family):
+        given = self.given(row, (family,))
+        yield from (number or "an acceptance" for number in allowed(row, family) if not given[number])
+        for number, place in pairs(more_of(row, family), family):
+            if not self.times([row], (family,), None if number else "kind", number, place):
+                yield f"{number or 'a call'}, {place}"
+
+    def missing_of_source(self, source, rows, family):
+        for number, place in pairs(INPUTS[source], family):
+            if not self.times(rows, (family,), None, number, place):
+                yield f"{number}, {place or 'the rule'}"
+        for codec, name in CODECS.items() if has_walk(rows[0]) else ():
+            for number, place in walk_places(codec, family):
+                if not self.times(rows, (family,), codec, number, place):
+                    yield f"{number}, {place or 'the rule'}, codec {name}"
 
     def unforeseen(self):
         """What the papers do not let a call give and the reference gave."""
-        for row, _, number, _ in self.reached:
-            if number is not None and number not in allowed(row):
-                yield f"{row} with {number}"
+        for row, family, codec, number, _ in self.reached:
+            if codec != "kind" and number not in allowed(row, family):
+                yield f"{row} in family {family} with {number or 'an acceptance'}"
 
     # ------------------------------------------------------------ tables
 
     def calls_table(self):
-        sums = Counter()
+        columns = (None, *NUMBERS)
         yield f"{'calls and refusals':24}" + "".join(f"{number:>7}" for number in ("none", *NUMBERS))
+        sums = {family: Counter() for family in (*KNOWN, UNKNOWN, None)}
         for row in CALLS:
-            given = Counter()
-            for (name, codec, number, _), times in self.reached.items():
-                if name == row and codec != "kind":
-                    given[number] += times
-            sums += given
+            can = set().union(*(allowed(row, family) for family in families_of(row)))
+            for family in families_of(row):
+                sums[family] += self.given(row, (family,))
+            given = self.given(row, families_of(row))
+            cells = [given[number] if number in can else "." for number in columns]
             hiding = row.split(",")[0] in HIDING
-            cells = [given[number] if number in allowed(row) | {None} else "." for number in (None, *NUMBERS)]
             yield f"{row + ('*' if hiding else ''):24}" + "".join(f"{cell:>7}" for cell in cells)
-        yield f"{'sum':24}" + "".join(f"{sums[number]:>7}" for number in (None, *NUMBERS))
+        for family, given in sums.items():
+            said = "no family named" if family is None else f"family {family}"
+            yield f"{said:24}" + "".join(f"{given[number]:>7}" for number in columns)
+        yield f"{'sum':24}" + "".join(f"{sum(given[number] for given in sums.values()):>7}" for number in columns)
         yield "* these calls do not show their refusals, or not all of them"
 
     def walk_table(self):
         columns = [(source, codec) for source in ("packet", "datagram") for codec in CODECS]
         heads = (f"{source} {CODECS[codec]}" for source, codec in columns)
         yield f"{'refusals of the walk':24}" + "".join(f"{head:>13}" for head in heads)
-        for number, place in WALK_PLACES:
+        for number, place in pairs(WALK):
             cells = []
             for source, codec in columns:
-                rows = [row for row, (of, _) in CALLS.items() if of == source]
                 can = (number, place) in walk_places(codec)
-                cells.append(self.times(rows, codec, number, place) if can else ".")
+                cells.append(self.times(rows_of(source), KNOWN, codec, number, place) if can else ".")
             yield f"{str(number) + ' ' + place:24}" + "".join(f"{cell:>13}" for cell in cells)
 
     def places_lines(self):
         for source, rules in INPUTS.items():
-            rows = [row for row, (of, _) in CALLS.items() if of == source]
-            cells = [f"{number}{' ' + place if place else ''}: {self.times(rows, None, number, place)}"
-                     for number, places in rules.items() for place in places]
+            rows = rows_of(source)
+            cells = [f"{number}{' ' + place if place else ''}: {self.times(rows, (*KNOWN, None), None, number, place)}"
+                     for number, place in pairs(rules)]
             if cells:
                 yield f"{source}: " + ", ".join(cells)
         for row in ("feed", "wanted"):
-            cells = [f"{place}: {self.times([row], None, 19, place)}" for place in NO_STATE[19]]
+            places = [(place, KNOWN) for place in NO_STATE[19]] + [("family", (UNKNOWN,))]
+            cells = [f"{place}: {self.times([row], families, None, 19, place)}" for place, families in places]
             yield f"{row} with 19, " + ", ".join(cells)
         for before in BEFORE:
-            cells = [f"{after}: {self.times(['feed'], 'kind', None, f'{before}: {after}')}" for after in AFTER]
+            cells = [f"{after}: {self.times(['feed'], KNOWN, 'kind', None, f'{before}: {after}')}" for after in AFTER]
             yield f"feed, {before}, " + "; ".join(cells)
         for number, indices in self.indices.items():
             yield f"refusal {number} at {len(indices)} record indices, the greatest {max(indices, default='none')}"

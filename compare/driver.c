@@ -1,9 +1,9 @@
 /* Answers calls from standard input, one a line, as compare/reference.py does: the library's side of the comparison.
  * An answer has every field of its struct, on refusals too. Every input and buffer stands between two guards, and the
- * line says so if a call changed a byte of them or of an input. A buffer of 64-bit words is given and shown as its
- * bytes; one that is no whole number of words ends the driver. The bytes of a connection's state are given and shown
- * without the zeros at their end. `driver bare` lends blocks of the exact size instead, so that a tool sees a read or a
- * write past them. */
+ * line says so if a call changed a byte of them or of an input. A call that names a family has its number as the first
+ * word. A buffer of 64-bit words is given and shown as its bytes; one that is no whole number of words ends the driver.
+ * The bytes of a connection's state are given and shown without the zeros at their end. `driver bare` lends blocks of
+ * the exact size instead, so that a tool sees a read or a write past them. */
 #include <inttypes.h>
 #include <stdio.h>
 #include <stdlib.h>
@@ -11,7 +11,7 @@
 
 #include "brundilope.h"
 
-enum { MOST_WORDS = 8, GUARD = 64 };
+enum { MOST_WORDS = 9, GUARD = 64 };
 
 /* The bytes of a word and zeros behind them, in a block of their own. */
 struct bytes {
@@ -165,63 +165,76 @@ static void line_element(struct brundilope_line_element e, struct bytes out) {
 
 static size_t number(const char *word) { return (size_t)strtoull(word, NULL, 10); }
 
-/* The calls on one packet, datagram or line. */
-static int on_input(const char *call, struct bytes p, char **w) {
-    if (!strcmp(call, "read_packet")) packet(brundilope_read_packet(p.at, p.size));
-    else if (!strcmp(call, "read_datagram")) datagram(brundilope_read_datagram(p.at, p.size));
-    else if (!strcmp(call, "read_login")) login(brundilope_read_login(p.at, p.size));
-    else if (!strcmp(call, "read_command")) command(brundilope_read_command(p.at, p.size));
-    else if (!strcmp(call, "record_in_packet")) record(brundilope_record_in_packet(p.at, p.size, number(w[2])));
-    else if (!strcmp(call, "record_in_datagram")) record(brundilope_record_in_datagram(p.at, p.size, number(w[2])));
-    else if (!strcmp(call, "value_in_packet")) value(brundilope_value_in_packet(p.at, p.size, number(w[2]), number(w[3])));
-    else if (!strcmp(call, "value_in_datagram")) value(brundilope_value_in_datagram(p.at, p.size, number(w[2]), number(w[3])));
-    else if (!strcmp(call, "id_in_packet")) value(brundilope_id_in_packet(p.at, p.size, number(w[2]), (uint16_t)number(w[3])));
-    else if (!strcmp(call, "id_in_datagram")) value(brundilope_id_in_datagram(p.at, p.size, number(w[2]), (uint16_t)number(w[3])));
+/* The calls on one login or line, which name no family. */
+static int on_text(const char *call, struct bytes p) {
+    if (!strcmp(call, "read_login")) login(brundilope_read_login(p.at, p.size));
     else if (!strcmp(call, "read_line")) line(brundilope_read_line(p.at, p.size));
     else if (!strcmp(call, "wrong_byte")) printf("byte %zu", brundilope_wrong_byte(p.at, p.size));
     else return 0;
     return 1;
 }
 
-typedef struct brundilope_written words_call(const uint8_t *p, size_t p_len, uint64_t *out, size_t out_len);
-
-/* A call that writes words. A block begins where a word may: malloc aligns it, and a guard is of whole words. */
-static void contents(words_call *call, struct bytes p, struct bytes out) {
-    if (out.size % sizeof(uint64_t)) fail("no whole number of 64-bit words", out.word);
-    written(call(p.at, p.size, (void *)out.at, out.size / sizeof(uint64_t)), out);
-}
-
-/* The calls that write into the buffer of their last word. */
-static void on_buffer(const char *call, struct bytes p, char **w) {
-    struct bytes out = bytes_of(w[w[3] ? 3 : 2]);
-    if (!strcmp(call, "acknowledge_packet")) written(brundilope_acknowledge_packet(p.at, p.size, out.at, out.size), out);
-    else if (!strcmp(call, "acknowledge_datagram")) written(brundilope_acknowledge_datagram(p.at, p.size, out.at, out.size), out);
-    else if (!strcmp(call, "form_of_packet")) written(brundilope_form_of_packet(p.at, p.size, out.at, out.size), out);
-    else if (!strcmp(call, "form_of_datagram")) written(brundilope_form_of_datagram(p.at, p.size, out.at, out.size), out);
-    else if (!strcmp(call, "packet_of_form")) written(brundilope_packet_of_form(p.at, p.size, out.at, out.size), out);
-    else if (!strcmp(call, "contents_of_packet")) contents(brundilope_contents_of_packet, p, out);
-    else if (!strcmp(call, "contents_of_datagram")) contents(brundilope_contents_of_datagram, p, out);
-    else if (!strcmp(call, "lines_of_packet")) written(brundilope_lines_of_packet(p.at, p.size, out.at, out.size), out);
-    else if (!strcmp(call, "lines_of_datagram")) written(brundilope_lines_of_datagram(p.at, p.size, out.at, out.size), out);
-    else if (!strcmp(call, "line_of_packet")) written(brundilope_line_of_packet(p.at, p.size, number(w[2]), out.at, out.size), out);
-    else if (!strcmp(call, "line_of_datagram")) written(brundilope_line_of_datagram(p.at, p.size, number(w[2]), out.at, out.size), out);
-    else if (!strcmp(call, "element_in_line")) line_element(brundilope_element_in_line(p.at, p.size, number(w[2]), out.at, out.size), out);
+/* Those of them that write into the buffer of their last word. */
+static void on_text_buffer(const char *call, struct bytes p, char **w) {
+    struct bytes out = bytes_of(w[3]);
+    if (!strcmp(call, "element_in_line")) line_element(brundilope_element_in_line(p.at, p.size, number(w[2]), out.at, out.size), out);
     else if (!strcmp(call, "element_at")) line_element(brundilope_element_at(p.at, p.size, number(w[2]), out.at, out.size), out);
     else written(brundilope_answer_login(p.at, p.size, number(w[2]) != 0, out.at, out.size), out);
     done_buffer(out);
 }
 
-static void write_command(char **w) {
+/* The calls on one packet, command or datagram of a family. */
+static int on_input(const char *call, size_t family, struct bytes p, char **w) {
+    if (!strcmp(call, "read_packet")) packet(brundilope_read_packet(family, p.at, p.size));
+    else if (!strcmp(call, "read_datagram")) datagram(brundilope_read_datagram(family, p.at, p.size));
+    else if (!strcmp(call, "read_command")) command(brundilope_read_command(family, p.at, p.size));
+    else if (!strcmp(call, "record_in_packet")) record(brundilope_record_in_packet(family, p.at, p.size, number(w[2])));
+    else if (!strcmp(call, "record_in_datagram")) record(brundilope_record_in_datagram(family, p.at, p.size, number(w[2])));
+    else if (!strcmp(call, "value_in_packet")) value(brundilope_value_in_packet(family, p.at, p.size, number(w[2]), number(w[3])));
+    else if (!strcmp(call, "value_in_datagram")) value(brundilope_value_in_datagram(family, p.at, p.size, number(w[2]), number(w[3])));
+    else if (!strcmp(call, "id_in_packet")) value(brundilope_id_in_packet(family, p.at, p.size, number(w[2]), (uint16_t)number(w[3])));
+    else if (!strcmp(call, "id_in_datagram")) value(brundilope_id_in_datagram(family, p.at, p.size, number(w[2]), (uint16_t)number(w[3])));
+    else return 0;
+    return 1;
+}
+
+typedef struct brundilope_written words_call(size_t family, const uint8_t *p, size_t p_len, uint64_t *out, size_t out_len);
+
+/* A call that writes words. A block begins where a word may: malloc aligns it, and a guard is of whole words. */
+static void contents(words_call *call, size_t family, struct bytes p, struct bytes out) {
+    if (out.size % sizeof(uint64_t)) fail("no whole number of 64-bit words", out.word);
+    written(call(family, p.at, p.size, (void *)out.at, out.size / sizeof(uint64_t)), out);
+}
+
+/* Those of them that write into the buffer of their last word. */
+static void on_buffer(const char *call, size_t family, struct bytes p, char **w) {
+    struct bytes out = bytes_of(w[w[3] ? 3 : 2]);
+    if (!strcmp(call, "acknowledge_packet")) written(brundilope_acknowledge_packet(family, p.at, p.size, out.at, out.size), out);
+    else if (!strcmp(call, "acknowledge_datagram")) written(brundilope_acknowledge_datagram(family, p.at, p.size, out.at, out.size), out);
+    else if (!strcmp(call, "form_of_packet")) written(brundilope_form_of_packet(family, p.at, p.size, out.at, out.size), out);
+    else if (!strcmp(call, "form_of_datagram")) written(brundilope_form_of_datagram(family, p.at, p.size, out.at, out.size), out);
+    else if (!strcmp(call, "packet_of_form")) written(brundilope_packet_of_form(family, p.at, p.size, out.at, out.size), out);
+    else if (!strcmp(call, "contents_of_packet")) contents(brundilope_contents_of_packet, family, p, out);
+    else if (!strcmp(call, "contents_of_datagram")) contents(brundilope_contents_of_datagram, family, p, out);
+    else if (!strcmp(call, "lines_of_packet")) written(brundilope_lines_of_packet(family, p.at, p.size, out.at, out.size), out);
+    else if (!strcmp(call, "lines_of_datagram")) written(brundilope_lines_of_datagram(family, p.at, p.size, out.at, out.size), out);
+    else if (!strcmp(call, "line_of_packet")) written(brundilope_line_of_packet(family, p.at, p.size, number(w[2]), out.at, out.size), out);
+    else written(brundilope_line_of_datagram(family, p.at, p.size, number(w[2]), out.at, out.size), out);
+    done_buffer(out);
+}
+
+static void write_command(size_t family, char **w) {
     struct bytes imei = bytes_of(w[3]), text = bytes_of(w[4]), out = bytes_of(w[5]);
-    written(brundilope_write_command((uint8_t)number(w[1]), (uint8_t)number(w[2]), imei.at, imei.size, text.at, text.size, out.at, out.size), out);
+    uint8_t codec = (uint8_t)number(w[1]), type = (uint8_t)number(w[2]);
+    written(brundilope_write_command(family, codec, type, imei.at, imei.size, text.at, text.size, out.at, out.size), out);
     done_input(imei);
     done_input(text);
     done_buffer(out);
 }
 
-static void last_known(char **w) {
+static void last_known(size_t family, char **w) {
     struct bytes newer = bytes_of(w[1]), older = bytes_of(w[2]);
-    known(brundilope_last_known(newer.at, newer.size, older.at, older.size, (uint16_t)number(w[3])));
+    known(brundilope_last_known(family, newer.at, newer.size, older.at, older.size, (uint16_t)number(w[3])));
     done_input(newer);
     done_input(older);
 }
@@ -234,14 +247,20 @@ static void print_ended(const uint8_t *at, size_t size, size_t least) {
     print_bytes(at, size);
 }
 
-static void print_state(uint8_t phase, size_t fill, const uint8_t *held, size_t size) {
+static void print_gathered(uint8_t phase, size_t fill, const uint8_t *held, size_t size) {
     printf(" %u %zu ", phase, fill);
     print_ended(held, size, 0);
 }
 
-static struct brundilope_connection state_of(char **w) {
+static void print_state(struct brundilope_connection c) {
+    printf(" family %u", c.family);
+    print_gathered(c.phase, c.fill, c.held, sizeof c.held);
+}
+
+static struct brundilope_connection state_of(size_t family, char **w) {
     struct brundilope_connection c;
     struct bytes held = bytes_up_to(w[3], sizeof c.held);
+    c.family = (uint8_t)family;
     c.phase = (uint8_t)number(w[1]);
     c.fill = number(w[2]);
     memcpy(c.held, held.at, sizeof c.held);
@@ -249,16 +268,22 @@ static struct brundilope_connection state_of(char **w) {
     return c;
 }
 
-static void state(struct brundilope_connection c) {
+static void start(size_t family) {
+    struct brundilope_started s = brundilope_start(family);
+    printf("%s %zu %zu", s.number ? "refused" : "started", s.number, s.index);
+    print_state(s.state);
+}
+
+static void reset(size_t family, char **w) {
     printf("state");
-    print_state(c.phase, c.fill, c.held, sizeof c.held);
+    print_state(brundilope_reset(state_of(family, w)));
 }
 
 static void fed(struct brundilope_fed f) {
     head("fed", f.number, f.index);
     printf("%zu %u %" PRIu64 " %zu ", f.used, f.item, f.imei, f.size);
     print_ended(f.packet, sizeof f.packet, f.size);
-    print_state(f.state.phase, f.state.fill, f.state.held, sizeof f.state.held);
+    print_state(f.state);
 }
 
 static void taken(struct brundilope_taken t, struct bytes held, struct bytes packet) {
@@ -266,27 +291,27 @@ static void taken(struct brundilope_taken t, struct bytes held, struct bytes pac
     head("fed", t.number, t.index);
     printf("%zu %u %" PRIu64 " %zu ", t.used, t.item, t.imei, t.size);
     print_bytes(packet.at, shown);
-    print_state(t.phase, t.fill, held.at, held.size);
+    print_gathered(t.phase, t.fill, held.at, held.size);
     for (size_t i = shown; i < packet.size; i++)
         if (packet.at[i] != guard_byte(guard + i)) printf(" CHANGED: byte %zu behind the packet", i - shown);
 }
 
-/* A feed by value, if the state has its length, and of a lent state. */
-static void feed(char **w) {
+/* A feed by value, if a state by value can be such a one, and of a lent state. */
+static void feed(size_t family, char **w) {
     struct bytes held = bytes_up_to(w[3], number(w[4])), p = bytes_of(w[5]), packet = block_of(w[6], number(w[6]));
-    if (held.size == BRUNDILOPE_LARGEST) fed(brundilope_feed(state_of(w), p.at, p.size));
+    if (held.size == BRUNDILOPE_LARGEST && family <= UINT8_MAX) fed(brundilope_feed(state_of(family, w), p.at, p.size));
     else putchar('-');
     printf(" lent ");
-    taken(brundilope_feed_lent((uint8_t)number(w[1]), number(w[2]), held.at, held.size, p.at, p.size, packet.at, packet.size), held,
-          packet);
+    taken(brundilope_feed_lent(family, (uint8_t)number(w[1]), number(w[2]), held.at, held.size, p.at, p.size, packet.at, packet.size),
+          held, packet);
     done_buffer(held);
     done_input(p);
     done_buffer(packet);
 }
 
-static void wanted(char **w) {
+static void wanted(size_t family, char **w) {
     struct bytes held = bytes_up_to(w[3], number(w[4]));
-    printf("wanted %zu", brundilope_wanted((uint8_t)number(w[1]), number(w[2]), held.at, held.size));
+    printf("wanted %zu", brundilope_wanted(family, (uint8_t)number(w[1]), number(w[2]), held.at, held.size));
     done_input(held);
 }
 
@@ -302,10 +327,12 @@ static struct brundilope_taken feed_by_value(struct brundilope_connection *c, co
     return (struct brundilope_taken){f.number, f.index, f.used, f.item, f.imei, f.size, f.state.fill, f.state.phase};
 }
 
-/* Feeds the pieces of a stream, each unused rest again, until it is closed; sizes of pieces go over and over. */
-static void stream(feed_call *call, const char *sizes, struct bytes p) {
-    struct brundilope_connection c = brundilope_fresh();
-    struct brundilope_taken t = {0};
+/* Starts a connection and feeds the pieces of a stream, each unused rest again, until it is closed; sizes of pieces go
+ * over and over. */
+static void stream(feed_call *call, size_t family, const char *sizes, struct bytes p) {
+    struct brundilope_started s = brundilope_start(family);
+    struct brundilope_connection c = s.state;
+    struct brundilope_taken t = {.number = s.number, .index = s.index};
     uint8_t packet[BRUNDILOPE_LARGEST];
     const char *next = sizes;
     size_t used = 0, end = 0;
@@ -331,59 +358,81 @@ static void stream(feed_call *call, const char *sizes, struct bytes p) {
         } while (used < end && t.number == 0);
     }
     printf(" end %zu %zu %zu", t.number, t.index, used);
-    print_state(c.phase, c.fill, c.held, sizeof c.held);
+    print_state(c);
 }
 
-static void streams(char **w) {
+static void streams(size_t family, char **w) {
     struct bytes p = bytes_of(w[2]);
-    stream(feed_by_value, w[1], p);
+    stream(feed_by_value, family, w[1], p);
     printf(" lent ");
-    stream(brundilope_feed_at, w[1], p);
+    stream(brundilope_feed_at, family, w[1], p);
     done_input(p);
 }
 
 /* ---- the lines of standard input */
 
-/* How many words follow the name of a call; -1 for an unknown one. */
-static int words_after(const char *call) {
-    static const struct {
-        const char *call;
-        int words;
-    } calls[] = {
-        {"read_packet", 1},        {"read_datagram", 1},        {"read_login", 1},         {"read_command", 1},
-        {"record_in_packet", 2},   {"record_in_datagram", 2},   {"value_in_packet", 3},    {"value_in_datagram", 3},
-        {"id_in_packet", 3},       {"id_in_datagram", 3},       {"last_known", 3},         {"answer_login", 3},
-        {"acknowledge_packet", 2}, {"acknowledge_datagram", 2}, {"form_of_packet", 2},     {"form_of_datagram", 2},
-        {"packet_of_form", 2},     {"contents_of_datagram", 2}, {"contents_of_packet", 2}, {"write_command", 5},
-        {"fresh", 0},              {"reset", 3},                {"wanted", 4},             {"feed", 6},
-        {"stream", 2},             {"line_of_packet", 3},       {"line_of_datagram", 3},   {"lines_of_packet", 2},
-        {"lines_of_datagram", 2},  {"read_line", 1},            {"element_in_line", 3},    {"element_at", 3},
-        {"wrong_byte", 1},
-    };
+/* A call: how many words follow its name, and whether the first of them is a family. */
+struct call {
+    const char *name;
+    int words;
+    bool family;
+};
+
+static const struct call calls[] = {
+    {"read_packet", 2, true},         {"read_datagram", 2, true},        {"read_command", 2, true},
+    {"record_in_packet", 3, true},    {"record_in_datagram", 3, true},   {"value_in_packet", 4, true},
+    {"value_in_datagram", 4, true},   {"id_in_packet", 4, true},         {"id_in_datagram", 4, true},
+    {"last_known", 4, true},          {"acknowledge_packet", 3, true},   {"acknowledge_datagram", 3, true},
+    {"form_of_packet", 3, true},      {"form_of_datagram", 3, true},     {"packet_of_form", 3, true},
+    {"contents_of_packet", 3, true},  {"contents_of_datagram", 3, true}, {"write_command", 6, true},
+    {"line_of_packet", 4, true},      {"line_of_datagram", 4, true},     {"lines_of_packet", 3, true},
+    {"lines_of_datagram", 3, true},   {"start", 1, true},                {"reset", 4, true},
+    {"wanted", 5, true},              {"feed", 7, true},                 {"stream", 3, true},
+    {"read_login", 1, false},         {"answer_login", 3, false},        {"read_line", 1, false},
+    {"element_in_line", 3, false},    {"element_at", 3, false},          {"wrong_byte", 1, false},
+};
+
+static const struct call *call_of(const char *name) {
     for (size_t i = 0; i < sizeof calls / sizeof *calls; i++)
-        if (!strcmp(call, calls[i].call)) return calls[i].words;
-    return -1;
+        if (!strcmp(name, calls[i].name)) return &calls[i];
+    return NULL;
+}
+
+/* A call that names no family: w[0] is its name, the words behind it follow. */
+static void answer_text(char **w) {
+    struct bytes p = bytes_of(w[1]);
+    if (!on_text(w[0], p)) on_text_buffer(w[0], p, w);
+    done_input(p);
+}
+
+/* A call that names one: w[0] is its name, the words behind the family follow. */
+static void answer_family(size_t family, char **w) {
+    if (!strcmp(w[0], "write_command")) write_command(family, w);
+    else if (!strcmp(w[0], "last_known")) last_known(family, w);
+    else if (!strcmp(w[0], "start")) start(family);
+    else if (!strcmp(w[0], "reset")) reset(family, w);
+    else if (!strcmp(w[0], "wanted")) wanted(family, w);
+    else if (!strcmp(w[0], "feed")) feed(family, w);
+    else if (!strcmp(w[0], "stream")) streams(family, w);
+    else {
+        struct bytes p = bytes_of(w[1]);
+        if (!on_input(w[0], family, p, w)) on_buffer(w[0], family, p, w);
+        done_input(p);
+    }
 }
 
 static void answer(char *line) {
-    char *w[MOST_WORDS] = {0};
+    char *w[MOST_WORDS + 1] = {0};
     int n = 0;
     for (char *t = strtok(line, " \n"); t && n < MOST_WORDS; t = strtok(NULL, " \n")) w[n++] = t;
-    int words = n ? words_after(w[0]) : -1;
-    if (words < 0) printf("error unknown call");
-    else if (words != n - 1) printf("error wrong number of words");
-    else if (!strcmp(w[0], "write_command")) write_command(w);
-    else if (!strcmp(w[0], "last_known")) last_known(w);
-    else if (!strcmp(w[0], "fresh")) state(brundilope_fresh());
-    else if (!strcmp(w[0], "reset")) state(brundilope_reset(state_of(w)));
-    else if (!strcmp(w[0], "wanted")) wanted(w);
-    else if (!strcmp(w[0], "feed")) feed(w);
-    else if (!strcmp(w[0], "stream")) streams(w);
-    else {
-        struct bytes p = bytes_of(w[1]);
-        if (!on_input(w[0], p, w)) on_buffer(w[0], p, w);
-        done_input(p);
-    }
+    const struct call *call = n ? call_of(w[0]) : NULL;
+    if (!call) printf("error unknown call");
+    else if (call->words != n - 1) printf("error wrong number of words");
+    else if (call->family) {
+        size_t family = number(w[1]);
+        w[1] = w[0];
+        answer_family(family, w + 1);
+    } else answer_text(w);
     putchar('\n');
 }
 

@@ -3,16 +3,23 @@
 Damage is done before length and CRC are put on, so that every rule and every
 field is reached. The expected answers follow from documents 01 and 02 and from the
 way an input is built here; with None the two programs only have to agree.
+
+A part is made for each family, by that family's limits, and its calls are written
+without the word of their family; `in_each_family` puts it in.
 """
 
 from examples import SAMPLE, both, fed
-from generate import CODECS, CONTENTS_LIMIT, KINDS, LEAST, PACKET_LIMIT, WIDTHS, Maker, Record, little, number, shown
+from generate import (AROUND, AROUND_TEXT, CODECS, CONTENTS_LIMIT, KINDS, LEAST, UNKNOWN, WIDTHS, Maker, Record, little,
+                      number, shown)
+from reference import CALLS, FAMILIES, STATE_ROOM, in_family, names_family
 
 MAKER = Maker(1)
 HEAD = bytes.fromhex("c0de5a69000f") + b"123456789012345"
 LOGIN = HEAD[4:]
 IMEI = b"123456789012345"
+PACKED = bytes.fromhex("0" + IMEI.decode())
 LARGE = (255, 256, 65535, 65536, (1 << 32) - 1, 1 << 32, 1 << 63, (1 << 64) - 1)
+ROOMY = "ee" * (STATE_ROOM + 20)        # a lent buffer with room for every packet
 
 
 # ---------------------------------------------------------------- inputs
@@ -25,8 +32,15 @@ def udp(field):
     return number(len(HEAD) + len(field), 2) + HEAD + field
 
 
-# How a data field becomes an input, and the bytes around its records.
-SIDES = {"packet": (tcp, 15), "datagram": (udp, 26)}
+SIDES = {"packet": tcp, "datagram": udp}        # how a data field becomes an input
+
+
+def room_for_records(family, side):
+    return getattr(family, side) - AROUND[side]
+
+
+def longest_text(family, codec):
+    return family.packet - AROUND_TEXT[codec]
 
 
 def changed(data, place, value):
@@ -49,6 +63,31 @@ def of_elements(codec, *counts):
     return Record(bytes(8), 0, bytes(15), 0, 0, groups)
 
 
+def filling(codec, size):
+    """Records of so many bytes together, none of them over 255."""
+    many = -(-size // 255)
+    return [MAKER.record(codec, size // many + (place < size % many)) for place in range(many)]
+
+
+def ones_filling(family, room):
+    """Records of codec 08, the fewest that fill the room, by how many values of one byte each has."""
+    least = LEAST[0x08]
+    counts = []
+    while room >= least:
+        counts.append(min(255, (min(room, family.record or room) - least) // 2))
+        room -= least + 2 * counts[-1]
+    return counts
+
+
+def many_elements(codec):
+    """A record with as many elements as a count of one byte holds, or more where a count has two; all IDs its own."""
+    ones = [(item, bytes([item ^ 0x55])) for item in range(200)]
+    others = [(200 + item, bytes([item]) * 2) for item in range(55)]
+    empty = [(400 + item, b"") for item in range(20)]
+    groups = [ones, [], [], [], others + empty] if codec == 0x8E else [ones, others, [], [], []]
+    return Record(bytes(8), 0, bytes(15), 0, 0, groups)
+
+
 def data_field(codec, records, first=None, second=None):
     first = len(records) if first is None else first
     second = first if second is None else second
@@ -65,10 +104,11 @@ def command_field(codec, kind=5, text=b"getio", size=None, imei=b"\x03\x52\x09\x
     return bytes([codec, 1, kind]) + number(len(body) if size is None else size, 4) + body + b"\x01"
 
 
-def each_side():
+def each_side(family):
+    """Each codec over TCP and UDP, with the bytes that records have room for."""
     for codec in CODECS:
-        for side, (wrap, around) in SIDES.items():
-            yield codec, side, wrap, around
+        for side, wrap in SIDES.items():
+            yield codec, side, wrap, room_for_records(family, side)
 
 
 def reading(name, side, data, expected=None):
@@ -79,9 +119,20 @@ def refused(number, index=0):
     return f"refused {number} {index}"
 
 
+def accepted(side, codec, count):
+    """The answer to an input with HEAD, if it is a datagram."""
+    head = f" {int(IMEI)} {0xC0DE} {0x5A} {0x69}" if side == "datagram" else ""
+    return f"accepted {codec} {count}{head}"
+
+
+def over_255(family, index, otherwise):
+    """The answer where a record has more than 255 bytes."""
+    return refused(12, index) if family.record else otherwise
+
+
 # ---------------------------------------------------------------- heads
 
-def beginnings():
+def beginnings(_):
     """Every beginning of an input, none of it too, and a byte too many."""
     for side, data, least, call in (
             ("packet", tcp(data_field(0x8E, pair(0x8E))), 8, "read_packet"),
@@ -93,8 +144,9 @@ def beginnings():
         yield f"more than a {side}", f"{call} {shown(data + bytes(1))}", refused(4)
 
 
-def frames():
+def frames(family):
     """First four bytes, data length and CRC, bit by bit."""
+    most = family.packet - 12
     for side, field in (("packet", data_field(0x08, pair(0x08))), ("command", command_field(0x0C))):
         data = tcp(field)
         for bit in range(32):
@@ -102,10 +154,10 @@ def frames():
             yield reading("first bytes", side, number(flipped, 4) + data[4:], refused(2))
             length = len(field) ^ flipped
             yield reading("data length", side, data[:4] + number(length, 4) + data[8:],
-                          refused(4 if 3 <= length <= 1268 else 3))
+                          refused(4 if 3 <= length <= most else 3))
             crc = int.from_bytes(data[-4:], "big") ^ flipped
             yield reading("CRC field", side, data[:-4] + number(crc, 4), refused(5))
-        for length in (0, 1, 2, 1269, 1280):
+        for length in (0, 1, 2, most + 1, family.packet):
             yield reading("data length", side, data[:4] + number(length, 4) + data[8:], refused(3))
         for place in range(8, len(data) - 4):
             yield reading("data byte", side, changed(data, place, data[place] ^ 1), refused(5))
@@ -120,18 +172,18 @@ def frames():
         yield reading("datagram length", "datagram", number(length, 2) + data[2:], refused(4))
 
 
-def checksums():
+def checksums(family):
     """A data field of every length with its CRC, and with its last bit changed."""
-    for size in range(3, PACKET_LIMIT - 11):
+    for size in range(3, family.packet - 11):
         text = bytes((37 * place + size) & 255 for place in range(size - 8))
         data = tcp(command_field(0x0C, text=text)[:size])
         yield reading("CRC of each length", "command", data)
         yield reading("CRC of each length", "command", changed(data, size + 7, data[size + 7] ^ 0x80), refused(5))
 
 
-def codecs_and_counts():
+def codecs_and_counts(family):
     for codec in range(256):
-        for side, (wrap, _) in SIDES.items():
+        for side, wrap in SIDES.items():
             field = bytes([codec]) + data_field(0x08, pair(0x08))[1:]
             yield reading("codec", side, wrap(field), None if codec in CODECS else refused(6))
         known = codec in (0x0C, 0x0E)
@@ -139,7 +191,7 @@ def codecs_and_counts():
         yield reading("codec", "command", tcp(field), None if known else refused(6))
         yield ("codec", f"write_command {codec} 5 - - {'ee' * 20}",
                None if known else refused(6) + " " + "ee" * 20)
-    for codec, side, wrap, _ in each_side():
+    for codec, side, wrap, _ in each_side(family):
         for counts in ((0, 0), (0, 2), (2, 0), (1, 2), (2, 1), (3, 2), (255, 2), (2, 255), (130, 2)):
             yield reading("counts", side, wrap(data_field(codec, pair(codec), *counts)), refused(7))
         yield reading("no records", side, wrap(data_field(codec, [])), refused(7))
@@ -147,9 +199,9 @@ def codecs_and_counts():
 
 # ---------------------------------------------------------------- the walk
 
-def cuts():
+def cuts(family):
     """The records end within or before each field; bytes are left over."""
-    for codec, side, wrap, _ in each_side():
+    for codec, side, wrap, _ in each_side(family):
         field = data_field(codec, pair(codec))
         first = record(codec).size(codec)
         for size in range(len(field) - 3):
@@ -162,9 +214,9 @@ def cuts():
             yield reading("missing records", side, wrap(data_field(codec, pair(codec), count)), refused(8, 2))
 
 
-def fields():
+def fields(family):
     """Priority, generation type and total, in the first and in the second record."""
-    for codec, side, wrap, _ in each_side():
+    for codec, side, wrap, _ in each_side(family):
         for place in range(2):
             def attempt(name, expected, **values):
                 records = pair(codec)
@@ -182,9 +234,9 @@ def fields():
                 yield attempt("total", refused(9, place), total=total)
 
 
-def counts_and_lengths():
+def counts_and_lengths(family):
     """Group counts and variable lengths that say something else than is there."""
-    for codec, side, wrap, _ in each_side():
+    for codec, side, wrap, _ in each_side(family):
         for place in range(2):
             for group in range(5 if codec == 0x8E else 4):
                 for count in (0, 1, 3, 127, 128, 255) + ((256, 258, 65535) if codec == 0x8E else ()):
@@ -201,58 +253,101 @@ def counts_and_lengths():
                         yield reading("variable length", side, wrap(data_field(codec, records)))
 
 
-def past_the_record():
+def past_the_record(_):
     """A variable length that takes in just the second count, the CRC, or the packet's end."""
-    for side, (wrap, _) in SIDES.items():
+    for side, wrap in SIDES.items():
         for more in (1, 2, 4, 5, 6):
             records = pair(0x8E)
             records[1].lengths[1] = 3 + more
             yield reading("past the records", side, wrap(data_field(0x8E, records)), refused(8, 1))
 
 
-def sizes():
-    """Records of 255 and 256 bytes, inputs of 1,280 and 1,281, the most records."""
-    for codec, side, wrap, around in each_side():
-        def attempt(name, records, expected):
-            if expected is None and side == "packet":
-                expected = f"accepted {codec} {len(records)}"
-            return reading(name, side, wrap(data_field(codec, records)), expected)
+def sizes(family):
+    """Records of 255 and 256 bytes, inputs of the most bytes and of one more, the most records."""
+    for codec, side, wrap, room in each_side(family):
+        def attempt(name, records, expected=None):
+            right = accepted(side, codec, len(records))
+            return reading(name, side, wrap(data_field(codec, records)), expected or right)
 
-        full, over = (MAKER.record(codec, size) for size in (255, 256))
-        yield attempt("255 bytes", [full, full], None)
-        yield attempt("256 bytes", [over, full], refused(12))
-        yield attempt("256 bytes", [full, over], refused(12, 1))
+        full, over, least = (MAKER.record(codec, size) for size in (255, 256, LEAST[codec]))
+        yield attempt("255 bytes", [full, least])
+        yield attempt("256 bytes", [over, least], over_255(family, 0, None))
+        yield attempt("256 bytes", [least, over], over_255(family, 1, None))
         over.total = over.elements() + 1
-        yield attempt("256 bytes and a wrong total", [full, over], refused(9, 1))
-        each = (PACKET_LIMIT - around) // 6
-        last = PACKET_LIMIT - around - 5 * each
-        for more, expected in ((0, None), (1, refused(3))):
-            records = [MAKER.record(codec, each) for _ in range(5)] + [MAKER.record(codec, last + more)]
-            yield attempt(f"{PACKET_LIMIT + more} bytes", records, expected)
-        most = (PACKET_LIMIT - around) // LEAST[codec]
-        least = MAKER.record(codec, LEAST[codec])
-        yield attempt("most records", [least] * most, None)
+        yield attempt("256 bytes and a wrong total", [least, over], refused(9, 1))
+        yield attempt("the most bytes", filling(codec, room))
+        yield attempt("a byte more", filling(codec, room + 1), refused(3))
+        yield attempt("the most bytes in one record", [MAKER.record(codec, room)], over_255(family, 0, None))
+        yield attempt("a byte more in one record", [MAKER.record(codec, room + 1)], refused(3))
+        most = room // LEAST[codec]
+        yield attempt("most records", [least] * most)
         yield attempt("a record more", [least] * (most + 1), refused(3))
         yield reading("255 records", side, wrap(data_field(codec, [least] * most, 255)), refused(8, most))
 
 
-def wraps():
-    """Group counts that make 256 together: 0 in one byte."""
-    for codec, side, wrap, around in each_side():
+def wraps(family):
+    """Group counts that make 256 together, 0 in one byte, which no total of one byte can be; and 255, which one can."""
+    for codec, side, wrap, room in each_side(family):
+        least = MAKER.record(codec, LEAST[codec])
         for counts in ((128, 128), (255, 1), (1, 255), (129, 127), (64, 64, 64, 64), (256,), (257,),
-                       (255, 0, 0, 0, 1), (0, 0, 0, 0, 256)):
+                       (255, 0, 0, 0, 1), (0, 0, 0, 0, 256), (255,), (128, 127)):
             each = of_elements(codec, *counts)
-            if each.size(codec) > PACKET_LIMIT - around or (codec != 0x8E and (max(counts) > 255 or counts[4:])):
+            if codec != 0x8E and (max(counts) > 255 or counts[4:]):
                 continue
-            for total in (0, 1, 255, 256):
-                each.total = total
-                right = codec == 0x8E and total == sum(counts)
-                yield reading("256 elements", side, wrap(data_field(codec, [each])), refused(12 if right else 9))
+            for before in ([], [least]):
+                if sum(one.size(codec) for one in before + [each]) > room:
+                    continue
+                for total in (0, 1, 255, 256):
+                    each.total = total
+                    right = total == sum(counts) < 256 ** WIDTHS[codec][2]
+                    taken = over_255(family, len(before), accepted(side, codec, len(before) + 1))
+                    yield reading("256 elements", side, wrap(data_field(codec, before + [each])),
+                                  taken if right else refused(9, len(before)))
 
 
-def tags():
+def limits():
+    """What each family takes at most and what is a byte too long, in the numbers of the papers and in calls that have
+    their family's word; and a record of 256 bytes, in the same packet for both."""
+    for codec, side, wrap, _ in each_side(FAMILIES[1]):
+        data = shown(wrap(data_field(codec, [MAKER.record(codec, size) for size in (LEAST[codec], 256)])))
+        yield "256 bytes", f"read_{side} 1 {data}", refused(12, 1)
+        yield "256 bytes", f"read_{side} 2 {data}", accepted(side, codec, 2)
+    for family, most in ((1, 512), (2, 1280)):
+        for codec in CODECS:
+            yield from data_limits(family, most, codec)
+        for codec, around in ((0x0C, 20), (0x0E, 28)):
+            yield from command_limits(family, most, codec, around)
+
+
+def data_limits(family, most, codec):
+    for more in (0, 1):
+        records = filling(codec, most + more - 15)
+        packet = tcp(data_field(codec, records))
+        yield "limit", f"read_packet {family} {shown(packet)}", \
+            refused(3) if more else accepted("packet", codec, len(records))
+        name, line, expected = rebuilt("limit", codec, records, not more)
+        yield name, in_family(family, line), expected
+        told = fed(refused(3), 8, NONE, 2) if more else fed("fed 0 0", most, f"2 0 {most} {shown(packet)}", 1)
+        yield "limit", in_family(family, feeding(1, b"", packet, most)), both(FAMILIES[family], told)
+        records = filling(codec, most + more - 26)
+        yield "limit", f"read_datagram {family} {shown(udp(data_field(codec, records)))}", \
+            refused(3) if more else accepted("datagram", codec, len(records))
+
+
+def command_limits(family, most, codec, around):
+    given, imei = ("-", 0) if codec == 0x0C else (shown(IMEI), int(IMEI))
+    for more in (0, 1):
+        text = b"a" * (most + more - around)
+        data = tcp(command_field(codec, 5, text, imei=PACKED))
+        yield "limit", f"read_command {family} {shown(data)}", \
+            refused(3) if more else f"accepted {codec} 5 {imei} {around - 5} {len(text)}"
+        yield "limit", f"write_command {family} {codec} 5 {given} {shown(text)} {ROOMY}", \
+            f"{refused(14)} {ROOMY}" if more else f"written {most} {shown(data)}{ROOMY[2 * most:]}"
+
+
+def tags(_):
     """Records of 8E with variable values alone, empty ones and an ID twice among them: total, values, form both ways."""
-    for side, (wrap, _) in SIDES.items():
+    for side, wrap in SIDES.items():
         for values in ((b"",), (b"Ona",), (b"Ona", b"Jonas"), (b"", b"Ona", b"")):
             each = of_elements(0x8E)
             each.groups[4] = [(403, value) for value in values]
@@ -269,7 +364,7 @@ def tags():
 
 # ---------------------------------------------------------------- commands and IMEIs
 
-def command_rules():
+def command_rules(family):
     for codec in (0x0C, 0x0E):
         for kind in range(256):
             allowed = kind in (5, 6) or (codec == 0x0E and kind == 0x11)
@@ -289,16 +384,16 @@ def command_rules():
         field = command_field(codec)
         for kept in range(2, len(field) - 1):
             yield reading("cut", "command", tcp(field[:kept] + b"\x01"), refused(8 if kept < 7 else 14))
-        most = 1260 if codec == 0x0C else 1252
+        most = longest_text(family, codec)
         yield reading("longest text", "command", tcp(command_field(codec, 6, bytes(most))), None)
         yield reading("too long a text", "command", tcp(command_field(codec, 6, bytes(most + 1))), refused(3))
     for size in range(8):
         yield reading("0E under 8", "command", tcp(command_field(0x0E, 0x11, b"", imei=bytes(size))), refused(14))
-    for text in (b"\0", b"nACK", bytes(1252)):
+    for text in (b"\0", b"nACK", bytes(longest_text(family, 0x0E))):
         yield reading("text with type 11", "command", tcp(command_field(0x0E, 0x11, text)), refused(14))
 
 
-def imeis():
+def imeis(_):
     for place in range(15):
         for wrong in (0x00, 0x2F, 0x3A, 0xFF):
             bad = changed(IMEI, place, wrong)
@@ -324,9 +419,9 @@ def imeis():
 
 # ---------------------------------------------------------------- looking up
 
-def lookups():
+def lookups(family):
     """Every element by its number and by its ID; what is not there; the other record's IDs."""
-    for codec, side, wrap, _ in each_side():
+    for codec, side, wrap, _ in each_side(family):
         records = pair(codec)
         data = shown(wrap(data_field(codec, records)))
         for place, each in enumerate(records):
@@ -349,9 +444,34 @@ def lookups():
             yield "no such record", f"id_view_in_{side} {data} {beyond} 0", "bytes -"
 
 
-def twice():
+def long_records(family):
+    """Values by number and by ID in a record of many elements, where there is no limit; its form both ways."""
+    if family.record:
+        return
+    for codec, side, wrap, _ in each_side(family):
+        each = many_elements(codec)
+        records = [record(codec), each]
+        data = wrap(data_field(codec, records))
+        elements = [item for group in each.groups for item in group]
+        last = len(elements) - 1
+        for item in (0, 199, 200, 253, 254, last - 1, last):
+            ident, value = elements[item]
+            yield "long record", f"view_in_{side} {shown(data)} 1 {item}", f"bytes {shown(value)}"
+            yield "long record", f"id_view_in_{side} {shown(data)} 1 {ident}", f"bytes {shown(value)}"
+            yield "long record", f"value_in_{side} {shown(data)} 1 {item}", None
+            yield "long record", f"id_in_{side} {shown(data)} 1 {ident}", None
+        for beyond in (last + 1, last + 257):
+            yield "long record", f"value_in_{side} {shown(data)} 1 {beyond}", refused(16)
+        yield "long record", f"record_in_{side} {shown(data)} 1", f"accepted {'0 ' * 10}{len(elements)}"
+        form = whole_form(codec, records)
+        yield from lending("long record", f"form_of_{side} {shown(data)}", form)
+        yield from lending("long record", f"packet_of_form {shown(form)}", tcp(data_field(codec, records)))
+        yield from listing("long record", side, data, table(side, codec, records))
+
+
+def twice(family):
     """An ID twice: the first in byte order counts, an empty value too."""
-    for codec, side, wrap, _ in each_side():
+    for codec, side, wrap, _ in each_side(family):
         each = record(codec)
         each.groups[0] = [(109, b"\x01"), (105, b"\x02"), (105, b"\x03")]
         each.groups[3] = [(109, bytes(8)), (106, bytes(range(8)))]
@@ -366,7 +486,7 @@ def twice():
             yield "wide ID", f"id_in_{side} {data} 0 {ident}", refused(16)
 
 
-def last_known():
+def last_known(_):
     """In the newer's last record, else in the older's; the older judged only when needed."""
     for codec in CODECS:
         newer = tcp(data_field(codec, [record(codec, 0), record(codec, 1)]))
@@ -393,7 +513,7 @@ def lending(name, call, result, unit=1, more=()):
         yield name, f"{call} {shown(lent)}", expected
 
 
-def buffers():
+def buffers(family):
     """Results of each writer of bytes, and the longest commands."""
     data = data_field(0x8E, pair(0x8E))
     packet, datagram = tcp(data), udp(data)
@@ -410,12 +530,12 @@ def buffers():
         (f"packet_of_form {shown(form)}", packet))
     for call, result in writers:
         yield from lending("buffer", call, result)
-    for codec, most in ((12, 1260), (14, 1252)):
-        imei = "-" if codec == 12 else shown(IMEI)
-        for room in (1279, 1280, 1281):
-            yield "longest text", f"write_command {codec} 6 {imei} {'61' * most} {'ee' * room}", None
-        yield "too long a text", f"write_command {codec} 6 {imei} {'61' * (most + 1)} {'ee' * 1290}", \
-            f"refused 14 0 {'ee' * 1290}"
+    for codec in (0x0C, 0x0E):
+        call = f"write_command {codec} 6 {'-' if codec == 0x0C else shown(IMEI)}"
+        text = b"a" * longest_text(family, codec)
+        yield from lending("longest text", f"{call} {shown(text)}", tcp(command_field(codec, 6, text, imei=PACKED)))
+        for lent in ("-", ROOMY):
+            yield "too long a text", f"{call} {shown(text)}61 {lent}", f"refused 14 0 {lent}"
     yield "text with type 11", f"write_command 14 17 {shown(IMEI)} 00 {'ee' * 30}", f"refused 14 0 {'ee' * 30}"
 
 
@@ -456,7 +576,7 @@ def listing(name, side, data, result):
     return lending(name, f"contents_of_{side} {shown(data)}", result, unit=8, more=[CONTENTS_LIMIT])
 
 
-def sample_contents():
+def sample_contents(_):
     """The bench sheet's sample as a datagram and as a TCP packet: seven words, worked out by hand."""
     sample = bytes.fromhex(SAMPLE)
     fields = (1000, 0xFFFFFFFF_209CCA80, 0x01_0064_0000_07_0005)
@@ -469,9 +589,13 @@ def sample_contents():
         yield "sample", f"contents_of_datagram {data} {lent}", f"{refused(refusal)} {lent}"
 
 
-def contents():
+# In words, worked out by hand.
+LONGEST_TABLES = {(1, "packet"): 228, (1, "datagram"): 223, (2, "packet"): 601, (2, "datagram"): 596}
+
+
+def contents(family):
     """Tables of records of all kinds, of the most records, and the longest."""
-    for codec, side, wrap, around in each_side():
+    for codec, side, wrap, room in each_side(family):
         def attempt(name, records):
             return listing(name, side, wrap(data_field(codec, records)), table(side, codec, records))
 
@@ -484,15 +608,17 @@ def contents():
             same.groups[4] = [(5, b""), (5, b"last"), (5, b"")]
         yield from attempt("records", [record(codec), bare, outer, same, bare, record(codec, 1)])
         yield from attempt("no values", [bare])
-        yield from attempt("most records", [bare] * ((PACKET_LIMIT - around) // LEAST[codec]))
-        yield from attempt("255 bytes", [MAKER.record(codec, 255) for _ in range(4)])
+        yield from attempt("most records", [bare] * (room // LEAST[codec]))
+        yield from attempt("255 bytes", [MAKER.record(codec, 255) for _ in range(room // 255)])
+        if not family.record:
+            yield from attempt("one record", [MAKER.record(codec, room)])
     # A word for two bytes in a value of one byte, four for the other 30 of a record: the fewest records that fill an
-    # input give the longest table, 2 + 5 * 4 + 557 words or 5 values less.
-    for side, last, need in (("packet", 109, 579), ("datagram", 104, 574)):
-        records = [of_elements(0x08, ones) for ones in (112, 112, 112, 112, last)]
+    # input give the longest table, 2 + 3 * 4 + 587 words in a packet of family 2.
+    for side, wrap in SIDES.items():
+        records = [of_elements(0x08, ones) for ones in ones_filling(family, room_for_records(family, side))]
         result = table(side, 0x08, records)
-        assert len(result) == 8 * need
-        yield from listing("longest table", side, SIDES[side][0](data_field(0x08, records)), result)
+        assert len(result) == 8 * LONGEST_TABLES[family.number, side] <= 8 * CONTENTS_LIMIT
+        yield from listing("longest table", side, wrap(data_field(0x08, records)), result)
 
 
 # ---------------------------------------------------------------- TLV forms
@@ -509,11 +635,17 @@ def whole_form(codec, records=None):
 
 
 def rebuilding(name, form, expected=None):
-    lent = "ee" * 1300
-    return name, f"packet_of_form {shown(form)} {lent}", f"refused 17 0 {lent}" if expected == 17 else expected
+    return name, f"packet_of_form {shown(form)} {ROOMY}", f"{refused(17)} {ROOMY}" if expected == 17 else expected
 
 
-def form_entries():
+def rebuilt(name, codec, records, right=True):
+    """The form of records, which is that of a packet of the family or not."""
+    packet = tcp(data_field(codec, records))
+    written = f"written {len(packet)} {shown(packet)}{ROOMY[2 * len(packet):]}"
+    return rebuilding(name, whole_form(codec, records), written if right else 17)
+
+
+def form_entries(_):
     """Each entry cut, lengthened, renamed, lost, doubled or moved."""
     for codec in CODECS:
         form = whole_form(codec)
@@ -541,8 +673,8 @@ def form_entries():
             yield rebuilding("moved", joined(before + after[:1] + this + after[1:]))
 
 
-def form_rules():
-    """Forms of packets that a rule refuses, and those at the limits."""
+def form_rules(_):
+    """Forms of packets that a rule refuses."""
     yield rebuilding("no form", b"", 17)
     for codec in CODECS:
         def spoiled(**values):
@@ -558,25 +690,38 @@ def form_rules():
             yield rebuilding("event", whole_form(codec, [Record(bytes(8), 0, bytes(15), ident, 0, [[]] * 5)]))
             groups = [[(ident, b"\x01")]] + [[]] * 4
             yield rebuilding("ID", whole_form(codec, [Record(bytes(8), 0, bytes(15), 0, 0, groups)]))
-        for size in (255, 256):
-            yield rebuilding(f"{size} bytes", whole_form(codec, [MAKER.record(codec, size)]), 17 if size > 255 else None)
-        for more in (0, 1):
-            records = [MAKER.record(codec, 253) for _ in range(4)] + [MAKER.record(codec, 253 + more)]
-            yield rebuilding(f"{1280 + more} bytes", whole_form(codec, records), 17 if more else None)
-        least = MAKER.record(codec, LEAST[codec])
-        for many in (1265 // LEAST[codec], 1265 // LEAST[codec] + 1, 255, 256, 257):
-            form = whole_form(codec, [least] * many)
-            yield rebuilding(f"{many} records", form, None if many * LEAST[codec] <= 1265 else 17)
         for other in range(256):
             form = bytes([1, 0, 100, 0, other]) + whole_form(codec)[5:]
             yield rebuilding("codec", form, None if other in CODECS else 17)
 
 
+def form_limits(family):
+    """Forms of records and packets at the limits, and of as many elements as a count of one byte holds and more."""
+    room = room_for_records(family, "packet")
+    for codec in CODECS:
+        least = MAKER.record(codec, LEAST[codec])
+        unlimited = not family.record
+        yield rebuilt("255 bytes", codec, [MAKER.record(codec, 255)])
+        yield rebuilt("256 bytes", codec, [least, MAKER.record(codec, 256)], unlimited)
+        yield rebuilt("the most bytes", codec, filling(codec, room))
+        yield rebuilt("a byte more", codec, filling(codec, room + 1), False)
+        yield rebuilt("the most bytes in one record", codec, [MAKER.record(codec, room)], unlimited)
+        yield rebuilt("a byte more in one record", codec, [MAKER.record(codec, room + 1)], False)
+        yield rebuilt("most records", codec, [least] * (room // LEAST[codec]))
+        for many in (room // LEAST[codec] + 1, 255, 256, 257):
+            yield rebuilding(f"{many} records", whole_form(codec, [least] * many), 17)
+        for counts in ((255,), (128, 127), (256,), (255, 1), (128, 128), (64, 64, 64, 64)):
+            for records in ([of_elements(codec, *counts)], [least, of_elements(codec, *counts)]):
+                fits = sum(each.size(codec) for each in records) <= room
+                counted = sum(counts) < 256 ** WIDTHS[codec][2]
+                yield rebuilt("many elements", codec, records, unlimited and fits and counted)
+
+
 # ---------------------------------------------------------------- the order of refusals
 
-def walk_orders():
+def walk_orders(family):
     """Records that break several rules at once: the first in the walk counts."""
-    for codec, side, wrap, _ in each_side():
+    for codec, side, wrap, _ in each_side(family):
         def attempt(expected, first, second, count=2, last=None, more=b""):
             records = pair(codec)
             vars(records[0]).update(first)
@@ -595,12 +740,13 @@ def walk_orders():
         yield attempt(refused(10, 1), {}, {"priority": 3}, more=b"\0")
         yield attempt(refused(9, 1), {}, {"total": 1}, count=3)
         yield attempt(refused(8), {"total": 1, "counts": {3: 255}}, {"priority": 3})
-        long = vars(of_elements(codec, 120)) | {"total": 1}
-        yield attempt(refused(9), long, {"priority": 3})
-        yield attempt(refused(12), vars(of_elements(codec, 120)), {"priority": 3}, more=b"\0")
+        long = vars(of_elements(codec, (256 - LEAST[codec]) // (WIDTHS[codec][3] + 1) + 1))
+        yield attempt(refused(9), long | {"total": 1}, {"priority": 3})
+        yield attempt(over_255(family, 0, refused(10, 1)), long, {"priority": 3}, more=b"\0")
+        yield attempt(over_255(family, 0, refused(8, 2)), long, {}, more=b"\0")
 
 
-def head_orders():
+def head_orders(family):
     """Inputs that break several rules of their head, or a rule of it and one of the walk."""
     bad = data_field(0x08, pair(0x08), 3, 9)
     frame = tcp(bytes([7]) + bad[1:])
@@ -610,14 +756,14 @@ def head_orders():
                               (spoiled, 5), (frame, 6)):
             yield reading("order", side, data, refused(refusal))
     wrong = changed(udp(bytes([7]) + bad[1:]), 9, 0x41)
-    for data, refusal in ((wrong[:25], 1), (wrong + bytes(1280), 3), (wrong + b"\0", 4), (wrong, 15),
+    for data, refusal in ((wrong[:25], 1), (wrong + bytes(family.datagram), 3), (wrong + b"\0", 4), (wrong, 15),
                           (changed(wrong, 9, 0x31), 6), (udp(bad), 7)):
         yield reading("order", "datagram", data, refused(refusal))
     yield "order", f"read_login {shown(bytes(16))}", refused(1)
     yield "order", f"read_login {shown(bytes(18))}", refused(4)
 
 
-def command_orders():
+def command_orders(family):
     """Commands, read and to be written, that break several rules."""
     digit = bytes([0x1F] * 8)
     for field, refusal in (
@@ -626,7 +772,7 @@ def command_orders():
             (command_field(0x0E, 0x11, size=1, imei=digit), 14), (command_field(0x0E, 0x11, imei=digit), 15),
             (command_field(0x0E, 0x11), 14), (command_field(0x0C, 0x11, size=1), 13)):
         yield reading("order", "command", tcp(field), refused(refusal))
-    long = "61" * 1261
+    long = "61" * (longest_text(family, 0x0C) + 1)
     for words, refusal in ((f"13 4 30 {long}", 6), (f"14 4 30 {long}", 13), (f"12 17 30 {long}", 13),
                            (f"14 5 30 {long}", 15), (f"12 5 30 {long}", 15), (f"14 17 {shown(IMEI)} {long}", 14),
                            (f"12 5 - {long}", 14), (f"14 17 {shown(IMEI)} 61", 14), ("12 5 - 61", 18)):
@@ -635,7 +781,7 @@ def command_orders():
 
 # ---------------------------------------------------------------- every refusal in every call
 
-def refused_fields(codec):
+def refused_fields(family, codec):
     """(number, index, data field) for 6 to 12."""
     def spoiled(**values):
         records = pair(codec)
@@ -651,29 +797,30 @@ def refused_fields(codec):
     yield 10, 1, spoiled(priority=3)
     if codec == 0x10:
         yield 11, 1, spoiled(generation=8)
-    yield 12, 1, data_field(codec, [record(codec), MAKER.record(codec, 256)])
+    if family.record:
+        yield 12, 1, data_field(codec, [record(codec), MAKER.record(codec, 256)])
 
 
-def refused_inputs(side, codec):
+def refused_inputs(family, side, codec):
     """(number, index, input) for every refusal of a data packet or datagram."""
-    good = SIDES[side][0](data_field(codec, pair(codec)))
+    good = SIDES[side](data_field(codec, pair(codec)))
     yield 1, 0, b""
     yield 4, 0, good[:-1]
     if side == "packet":
         yield 2, 0, b"\x80" + good[1:]
-        yield 3, 0, good[:4] + number(1269, 4) + good[8:]
+        yield 3, 0, good[:4] + number(family.packet - 11, 4) + good[8:]
         yield 5, 0, changed(good, len(good) - 1, good[-1] ^ 1)
     else:
-        yield 3, 0, number(1279, 2) + good[2:] + bytes(1281 - len(good))
+        yield 3, 0, number(family.datagram - 1, 2) + good[2:] + bytes(family.datagram + 1 - len(good))
         yield 15, 0, changed(good, 22, 0x3A)
-    for refusal, index, field in refused_fields(codec):
-        yield refusal, index, SIDES[side][0](field)
+    for refusal, index, field in refused_fields(family, codec):
+        yield refusal, index, SIDES[side](field)
 
 
-def everywhere():
+def everywhere(family):
     """Each refusal of an input, in each call that takes it."""
-    for codec, side, wrap, _ in each_side():
-        for refusal, index, data in refused_inputs(side, codec):
+    for codec, side, wrap, _ in each_side(family):
+        for refusal, index, data in refused_inputs(family, side, codec):
             data, answer = shown(data), refused(refusal, index)
             yield reading("everywhere", side, bytes.fromhex(data.strip("-")), answer)
             yield "everywhere", f"record_in_{side} {data} 9", answer
@@ -701,7 +848,31 @@ def everywhere():
             yield "everywhere", f"last_known_view {good} {data} 500", "bytes -"
 
 
-def command_texts():
+def unknown_families():
+    """21 before all others, whatever the input is and however short the buffer, in each call that judges a family; with
+    its family's word."""
+    packet = tcp(data_field(0x8E, pair(0x8E)))
+    inputs = (b"", packet, udp(packet[8:-4]), tcp(command_field(0x0C)), whole_form(0x8E), packet[:-1], b"\x01" * 30,
+              bytes(2000))
+    for name, (answered, sorts, _) in CALLS.items():
+        if sorts[0] != "F":
+            continue
+        for data in inputs:
+            words = [{"P": shown(data), "W": shown(data)}.get(sort, "12") for sort in sorts[1:]]
+            lents = ("-", "ee" * 1280) if answered in ("write", "receipt") else (None,)
+            for lent in lents:
+                yield from unknown_calls(name, answered, words if lent is None else words[:-1] + [lent], lent)
+    for lent in ("-", "ee" * 40):
+        yield from unknown_calls("write_command", "write", ["12", "5", "-", "676574696f", lent], lent)
+
+
+def unknown_calls(name, answered, words, lent):
+    answer = "bytes -" if answered == "view" else refused(21)
+    for family in UNKNOWN:
+        yield "unknown family", " ".join((name, str(family), *words)), answer if lent is None else f"{answer} {lent}"
+
+
+def command_texts(_):
     """Each refusal of a command behind the view of its text."""
     good = tcp(command_field(0x0E))
     yield "text", f"command_text {shown(good)}", "bytes 676574696f"
@@ -724,11 +895,11 @@ def held_words(phase, held):
     return phase, len(held), shown(held.rstrip(b"\0"))
 
 
-def feeding(phase, held, data, room=1280):
-    return f"feed {phase} {len(held)} {shown(held)} 1280 {shown(data)} {room}"
+def feeding(phase, held, data, room=STATE_ROOM):
+    return f"feed {phase} {len(held)} {shown(held)} {STATE_ROOM} {shown(data)} {room}"
 
 
-def finishing(name, phase, item, answer, places=(0, 1, 7, 8, 9, 16)):
+def finishing(family, name, phase, item, answer, places=(0, 1, 7, 8, 9, 16)):
     """Feeds up to the byte before the item's last, up to it and beyond it, with so many bytes of the item held, or
     all but one. The answer is the head, the item and the phase of what the last byte gives."""
     head, told, after = answer
@@ -737,47 +908,53 @@ def finishing(name, phase, item, answer, places=(0, 1, 7, 8, 9, 16)):
         if not rest:
             break
         for behind in (b"", b"\0", LOGIN):
-            yield name, feeding(phase, held, rest + behind), both(fed(head, len(rest), told, after))
+            yield name, feeding(phase, held, rest + behind), both(family, fed(head, len(rest), told, after))
         for part in sorted({b"", rest[:1], rest[:-1]} - {rest}):
             more = fed("fed 0 0", len(part), NONE, *held_words(phase, held + part))
-            yield name, feeding(phase, held, part), both(more)
+            yield name, feeding(phase, held, part), both(family, more)
 
 
 def least_data(codec):
     return tcp(data_field(codec, [MAKER.record(codec, LEAST[codec])]))
 
 
-def good_packets():
+def good_packets(family):
     """(name, packet) for packets that a connection takes: of each codec, the shortest and the longest."""
     for codec in CODECS:
         yield "data", tcp(data_field(codec, pair(codec)))
         yield "shortest data", least_data(codec)
-        records = [MAKER.record(codec, 253) for _ in range(5)]
-        yield "longest data", tcp(data_field(codec, records))
-    for codec, most in ((0x0C, 1260), (0x0E, 1252)):
+        room = room_for_records(family, "packet")
+        yield "longest data", tcp(data_field(codec, filling(codec, room)))
+        if not family.record:
+            yield "longest record", tcp(data_field(codec, [MAKER.record(codec, room)]))
+    for codec in (0x0C, 0x0E):
         yield "command", tcp(command_field(codec))
         yield "shortest command", tcp(command_field(codec, text=b""))
+        most = longest_text(family, codec)
         yield "longest command", tcp(command_field(codec, 6, bytes(range(1, 21)) * (most // 20) + bytes(most % 20)))
 
 
-def refused_headers():
-    """(number, first 8 bytes): a login is none either."""
+def refused_headers(family):
+    """(number, first 8 bytes): a login is none either, nor is the longest packet of a family with longer ones."""
     for place in range(4):
         yield 2, changed(bytes(7) + b"\x21", place, 1)
     yield 2, LOGIN[:8]
     yield 2, b"\x80" + bytes(7)
     yield 2, bytes(3) + b"\xff" * 5
-    for length in (0, 1, 2, 1269, 1280, 65536 + 33, 1 << 31, (1 << 32) - 12, (1 << 32) - 1):
+    longer = [other.packet - 12 for other in FAMILIES.values() if other.packet > family.packet]
+    for length in (0, 1, 2, family.packet - 11, family.packet, *longer, 65536 + 33, 1 << 31, (1 << 32) - 12,
+                   (1 << 32) - 1):
         yield 3, bytes(4) + number(length, 4)
 
 
-def refused_packets():
+def refused_packets(family):
     """(number, index, packet) for the refusals of whole packets."""
     for codec in CODECS:
-        for refusal, index, data in refused_inputs("packet", codec):
+        for refusal, index, data in refused_inputs(family, "packet", codec):
             if refusal in (5, 7, 8, 9, 10, 11, 12):
                 yield refusal, index, data
         yield 7, 0, tcp(data_field(codec, []))
+        yield 8, 2, tcp(data_field(codec, pair(codec))[:-1] + b"\0\x02")
     good = tcp(command_field(0x0E))
     for place in range(1, 5):
         yield 5, 0, changed(good, len(good) - place, good[-place] ^ 128)
@@ -798,139 +975,192 @@ def refused_packets():
     yield 15, 0, tcp(command_field(0x0E, imei=bytes(7) + b"\x0a"))
 
 
-def feeds():
+def feeds(family):
     """Each item with its every refusal, cut where something is judged."""
-    yield from finishing("login", 0, LOGIN, ("fed 0 0", f"1 {int(IMEI)} 0 -", 1))
-    yield from finishing("login", 0, LOGIN[:2] + b"0" * 15, ("fed 0 0", "1 0 0 -", 1))
+    yield from finishing(family, "login", 0, LOGIN, ("fed 0 0", f"1 {int(IMEI)} 0 -", 1))
+    yield from finishing(family, "login", 0, LOGIN[:2] + b"0" * 15, ("fed 0 0", "1 0 0 -", 1))
     for bad in (bytes(17), changed(LOGIN, 0, 1), changed(LOGIN, 1, 16), changed(LOGIN, 2, 0x2F),
                 changed(LOGIN, 16, 0x3A), tcp(command_field(0x0C))[:17]):
-        yield from finishing("login refused", 0, bad, (refused(15), NONE, 2))
-    for refusal, header in refused_headers():
-        yield from finishing("header refused", 1, header, (refused(refusal), NONE, 2))
-    for name, data in good_packets():
-        yield from finishing(name, 1, data, ("fed 0 0", f"2 0 {len(data)} {shown(data)}", 1))
-    for refusal, index, data in refused_packets():
-        yield from finishing("packet refused", 1, data, (refused(refusal, index), NONE, 2), (0, 9))
-    for length in (3, 1268):
+        yield from finishing(family, "login refused", 0, bad, (refused(15), NONE, 2))
+    for refusal, header in refused_headers(family):
+        yield from finishing(family, "header refused", 1, header, (refused(refusal), NONE, 2))
+    for name, data in good_packets(family):
+        yield from finishing(family, name, 1, data, ("fed 0 0", f"2 0 {len(data)} {shown(data)}", 1))
+    for refusal, index, data in refused_packets(family):
+        yield from finishing(family, "packet refused", 1, data, (refused(refusal, index), NONE, 2), (0, 9))
+    for length in (3, family.packet - 12):
         header = bytes(4) + number(length, 4)
-        yield "header", feeding(1, b"", header), both(fed("fed 0 0", 8, NONE, *held_words(1, header)))
+        yield "header", feeding(1, b"", header), both(family, fed("fed 0 0", 8, NONE, *held_words(1, header)))
 
 
-def unreachable():
+def unreachable(family):
     """States that no feeds from a fresh one give, a closed one first: phase, fill, bytes held, how many are lent."""
     good, bad = tcp(command_field(0x0C)), tcp(b"\x0d\x01\x01")
     for held in (b"", LOGIN[:5], good[:12]):
         fill = len(held)
-        yield 2, fill, held, 1280
+        yield 2, fill, held, STATE_ROOM
         for phase in (3, 4, 127, 128, 255):
-            yield phase, fill, held, 1280
+            yield phase, fill, held, STATE_ROOM
         for phase in (0, 1):
-            for lent in (0, 1, 8, 17, 1268, 1279, 1281, 2560):
+            for lent in (0, 1, 8, 17, 512, STATE_ROOM - 12, STATE_ROOM - 1, STATE_ROOM + 1, 2 * STATE_ROOM):
                 yield phase, fill, held, lent
-            for wrong in (1281, 65536 + fill, (1 << 32) + fill, (1 << 63) + fill, (1 << 64) - 1, (1 << 64) - 1280):
-                yield phase, wrong, held, 1280
-            for spare in (fill, fill + 1, 1279):
-                yield phase, fill, held.ljust(spare, b"\0") + b"\x01", 1280
-    yield 0, 0, LOGIN, 1280
-    yield 0, 16, LOGIN, 1280
-    yield 0, 1280, b"", 1280
+            for wrong in (513, STATE_ROOM + 1, 65536 + fill, (1 << 32) + fill, (1 << 63) + fill, (1 << 64) - 1,
+                          (1 << 64) - STATE_ROOM):
+                yield phase, wrong, held, STATE_ROOM
+            for spare in (fill, fill + 1, STATE_ROOM - 1):
+                yield phase, fill, held.ljust(spare, b"\0") + b"\x01", STATE_ROOM
+    yield 0, 0, LOGIN, STATE_ROOM
+    yield 0, 16, LOGIN, STATE_ROOM
+    yield 0, STATE_ROOM, b"", STATE_ROOM
     for held in (LOGIN, LOGIN + b"\0", changed(LOGIN, 9, 0x41), bytes(17)):
-        yield 0, len(held), held, 1280
-    for _, header in refused_headers():
-        for more in (0, 1, 30, 1272):
-            yield 1, 8 + more, header, 1280
+        yield 0, len(held), held, STATE_ROOM
+    for _, header in refused_headers(family):
+        for more in (0, 1, 30, STATE_ROOM - 8):
+            yield 1, 8 + more, header, STATE_ROOM
     for data in (good, bad, changed(good, 24, 0), least_data(0x08)):
-        for more in (0, 1, 8, 1280 - len(data)):
-            yield 1, len(data) + more, data, 1280
-    for data in (tcp(command_field(0x0C, 6, bytes(1260))), bytes(6) + b"\x04\xf4"):
-        yield 1, 1280, data, 1280
+        for more in (0, 1, 8, STATE_ROOM - len(data)):
+            yield 1, len(data) + more, data, STATE_ROOM
+    longest = tcp(command_field(0x0C, 6, bytes(longest_text(family, 0x0C))))
+    for data in (longest, longest[:8]):
+        yield 1, family.packet, data, STATE_ROOM
 
 
 def unused(number, phase, fill, held):
     """The answer of a feed that uses and changes nothing."""
-    return f"refused {number} 0 0 {NONE} {phase} {fill} {shown(held.rstrip(bytes(1)))}"
+    return fed(refused(number), 0, NONE, phase, fill, shown(held.rstrip(b"\0")))
 
 
-def refused_states():
+def lent_alone(lent):
+    """The answer of a feed where a state by value cannot be such a one."""
+    return f"- lent {' '.join(lent)}"
+
+
+def refused_states(family):
     """19 comes first: with no bytes too, and with no room for a packet; any state can be reset."""
-    for phase, fill, held, lent in unreachable():
+    for phase, fill, held, lent in unreachable(family):
         answer = unused(19, phase, fill, held[:lent])
-        expected = both(answer if lent == 1280 else "-", answer)
-        for data, room in ((b"", 1280), (LOGIN, 1280), (tcp(command_field(0x0C)), 1280), (b"", 0), (LOGIN, 1279)):
+        expected = both(family, answer) if lent == STATE_ROOM else lent_alone(answer)
+        for data, room in ((b"", STATE_ROOM), (LOGIN, STATE_ROOM), (tcp(command_field(0x0C)), STATE_ROOM), (b"", 0),
+                           (LOGIN, 511)):
             yield "no state", f"feed {phase} {fill} {shown(held)} {lent} {shown(data)} {room}", expected
         yield "no state", f"wanted {phase} {fill} {shown(held)} {lent}", "wanted 0"
-        yield "reset", f"reset {phase} {fill} {shown(held)}", "state 0 0 -"
-    yield "fresh", "fresh", "state 0 0 -"
+        yield "reset", f"reset {phase} {fill} {shown(held)}", f"state family {family.number} 0 0 -"
 
 
-def packet_rooms():
-    """A packet's buffer too short, whatever is fed, just long enough and longer."""
-    good = tcp(command_field(0x0C))
+def starts(family):
+    """A start; and resets of states that feeds give."""
+    fresh = f"family {family.number} 0 0 -"
+    yield "start", "start", f"started 0 0 {fresh}"
+    for phase, held in ((0, b""), (0, LOGIN[:5]), (1, b""), (1, tcp(command_field(0x0C))[:12])):
+        yield "reset", f"reset {phase} {len(held)} {shown(held)}", f"state {fresh}"
+
+
+def unknown_starts():
+    """A start with an unknown family gives a closed connection of family 1, and so does the reset of a state of such a
+    family. A feed of that state gets 19, and nothing is wanted. All calls have their family's word."""
+    closed, good = "family 1 2 0 -", tcp(command_field(0x0C))
+    for family in UNKNOWN:
+        yield "start", f"start {family}", f"refused 21 0 {closed}"
+        for sizes, data in (("1", b""), ("1", LOGIN), ("99999", LOGIN + good), ("7", b"\xff" * 30)):
+            ended = f"items end 21 0 0 {closed}"
+            yield "start", f"stream {family} {sizes} {shown(data)}", f"{ended} lent {ended}"
+        for phase, held in ((0, b""), (0, LOGIN[:5]), (1, b""), (1, good[:12]), (2, b""), (3, b"")):
+            state = f"{phase} {len(held)} {shown(held)}"
+            told, gathered = unused(19, phase, len(held), held)
+            value = f"{told} family {family} {gathered}" if family < 256 else "-"
+            expected = f"{value} lent {told} {gathered}"
+            for data, room in ((b"", STATE_ROOM), (LOGIN, STATE_ROOM), (good, STATE_ROOM), (LOGIN, 512), (b"", 0)):
+                yield "unknown family", in_family(family, feeding(phase, held, data, room)), expected
+            yield "unknown family", f"wanted {family} {state} {STATE_ROOM}", "wanted 0"
+            if family < 256:
+                yield "unknown family", f"reset {family} {state}", f"state {closed}"
+
+
+def packet_rooms(family):
+    """A packet's buffer too short, whatever is fed, just long enough for the family's longest packet and longer."""
+    good, longest = tcp(command_field(0x0C)), tcp(command_field(0x0C, text=bytes(longest_text(family, 0x0C))))
+    most = family.packet
     for phase, held, data, value in (
             (0, b"", b"", fed("fed 0 0", 0, NONE, 0)),
             (0, LOGIN[:3], LOGIN[3:], fed("fed 0 0", 14, f"1 {int(IMEI)} 0 -", 1)),
             (1, good[:9], b"", fed("fed 0 0", 0, NONE, *held_words(1, good[:9]))),
             (1, b"", good[:9], fed("fed 0 0", 9, NONE, *held_words(1, good[:9]))),
             (1, good[:9], good[9:], fed("fed 0 0", len(good) - 9, f"2 0 {len(good)} {shown(good)}", 1)),
+            (1, b"", longest, fed("fed 0 0", most, f"2 0 {most} {shown(longest)}", 1)),
+            (1, longest[:9], longest[9:], fed("fed 0 0", most - 9, f"2 0 {most} {shown(longest)}", 1)),
             (1, b"", b"\x01" * 8, fed(refused(2), 8, NONE, 2))):
-        for room in (0, 1, len(good), 1279, 1280, 1281, 2000):
-            lent = value if room >= 1280 else unused(18, phase, len(held), held)
-            yield "packet's room", feeding(phase, held, data, room), both(value, lent)
+        for room in (0, 1, len(good), 511, 512, 513, 1279, 1280, 1281, STATE_ROOM + 1, 2 * STATE_ROOM):
+            lent = value if room >= most else unused(18, phase, len(held), held)
+            yield "packet's room", feeding(phase, held, data, room), both(family, value, lent)
 
 
-def wanted():
+def wanted(family):
     """How many bytes are wanted in each state on the way to an item."""
     for held in range(17):
-        yield "wanted", f"wanted 0 {held} {shown(LOGIN[:held])} 1280", f"wanted {17 - held}"
-    for _, data in good_packets():
+        yield "wanted", f"wanted 0 {held} {shown(LOGIN[:held])} {STATE_ROOM}", f"wanted {17 - held}"
+    for _, data in good_packets(family):
         for held in (0, 1, 7, 8, 9, 12, len(data) - 1):
             whole = len(data) if held >= 8 else 8
-            yield "wanted", f"wanted 1 {held} {shown(data[:held])} 1280", f"wanted {whole - held}"
+            yield "wanted", f"wanted 1 {held} {shown(data[:held])} {STATE_ROOM}", f"wanted {whole - held}"
     # what is held need not be the beginning of an item that is accepted
     for held in range(1, 17):
-        yield "wanted", f"wanted 0 {held} {'ff' * held} 1280", f"wanted {17 - held}"
+        yield "wanted", f"wanted 0 {held} {'ff' * held} {STATE_ROOM}", f"wanted {17 - held}"
         if held < 8:
-            yield "wanted", f"wanted 1 {held} {'ff' * held} 1280", f"wanted {8 - held}"
+            yield "wanted", f"wanted 1 {held} {'ff' * held} {STATE_ROOM}", f"wanted {8 - held}"
 
 
-def streaming(name, sizes, data, items, number=0, index=0, used=None, phase=1, held=b""):
+def streaming(family, name, sizes, data, items, number=0, index=0, used=None, phase=1, held=b""):
     """A stream cut into pieces of these sizes; items are the login and the packets."""
     used = len(data) if used is None else used
     told = [f"login {int(item[2:])}" if len(item) == 17 else f"packet {shown(item)}" for item in items]
-    answer = " ".join(("items", *told, f"end {number} {index} {used}", *map(str, held_words(phase, held))))
-    return name, f"stream {sizes} {shown(data)}", both(answer)
+    end = f"end {number} {index} {used} family {family.number}"
+    answer = " ".join(("items", *told, end, *map(str, held_words(phase, held))))
+    return name, f"stream {sizes} {shown(data)}", f"{answer} lent {answer}"
 
 
-def streams():
+def streams(family):
     """Whole connections, cut in every way; those that end within an item, and those that are closed."""
     short = [LOGIN, tcp(command_field(0x0C, text=b"")), least_data(0x08), tcp(command_field(0x0E))]
     data = b"".join(short)
     for cut in range(len(data)):
-        yield streaming("two pieces", f"{cut},{len(data)}", data, short)
-    whole = [LOGIN] + [packet for _, packet in good_packets()]
+        yield streaming(family, "two pieces", f"{cut},{len(data)}", data, short)
+    whole = [LOGIN] + [packet for _, packet in good_packets(family)]
     for sizes in ("1", "0,1", "2", "7", "8", "9", "16", "17", "18", "8,9", "17,8", "1,1280", "1279", "1280", "99999"):
-        yield streaming("pieces", sizes, data, short)
+        yield streaming(family, "pieces", sizes, data, short)
     for sizes in ("17", "255", "1279", "1280", "99999"):
-        yield streaming("pieces", sizes, b"".join(whole), whole)
-    yield streaming("nothing", "1", b"", [], phase=0)
+        yield streaming(family, "pieces", sizes, b"".join(whole), whole)
+    yield streaming(family, "nothing", "1", b"", [], phase=0)
     ends = [sum(map(len, short[:many])) for many in range(len(short) + 1)]
     for size in range(len(data)):
         done = max(many for many in range(len(ends)) if ends[many] <= size)
         for sizes in ("1", "99999"):
-            yield streaming("beginning", sizes, data[:size], short[:done], phase=min(done, 1),
+            yield streaming(family, "beginning", sizes, data[:size], short[:done], phase=min(done, 1),
                             held=data[ends[done]:size])
-    closing = [(refusal, 0, header) for refusal, header in refused_headers()] + list(refused_packets())
+    closing = [(refusal, 0, header) for refusal, header in refused_headers(family)] + list(refused_packets(family))
     for refusal, index, last in closing:
         for sizes in ("1", "8", "99999"):
-            yield streaming("closed", sizes, data + last + LOGIN, short, refusal, index, len(data + last), 2)
+            yield streaming(family, "closed", sizes, data + last + LOGIN, short, refusal, index, len(data + last), 2)
     for sizes in ("1", "16", "17", "99999"):
-        yield streaming("login refused", sizes, bytes(17) + data, [], 15, 0, 17, 2)
-        yield streaming("a second login", sizes, LOGIN + data, [LOGIN], 2, 0, 25, 2)
+        yield streaming(family, "login refused", sizes, bytes(17) + data, [], 15, 0, 17, 2)
+        yield streaming(family, "a second login", sizes, LOGIN + data, [LOGIN], 2, 0, 25, 2)
+
+
+PARTS = (beginnings, frames, checksums, codecs_and_counts, cuts, fields, counts_and_lengths, past_the_record, sizes,
+         wraps, tags, command_rules, imeis, lookups, long_records, twice, last_known, buffers, sample_contents, contents,
+         form_entries, form_rules, form_limits, walk_orders, head_orders, command_orders, everywhere, command_texts,
+         feeds, refused_states, starts, packet_rooms, wanted, streams)
+
+
+def in_each_family(parts):
+    """The calls of parts in each family; those that name none are made once."""
+    for family in FAMILIES.values():
+        for part in parts:
+            for name, line, expected in part(family):
+                if names_family(line) or family == FAMILIES[2]:
+                    yield f"{name}, family {family.number}", in_family(family.number, line), expected
 
 
 def edge_calls():
-    for part in (beginnings, frames, checksums, codecs_and_counts, cuts, fields, counts_and_lengths, past_the_record,
-                 sizes, wraps, tags, command_rules, imeis, lookups, twice, last_known, buffers, sample_contents, contents,
-                 form_entries, form_rules, walk_orders, head_orders, command_orders, everywhere, command_texts,
-                 feeds, refused_states, packet_rooms, wanted, streams):
+    yield from in_each_family(PARTS)
+    for part in (limits, unknown_families, unknown_starts):
         yield from part()

@@ -1,10 +1,11 @@
-"""The papers' examples and one of our own as calls: (name, call line, expected answer or None).
+"""The papers' examples and one of our own as calls of family 2: (name, call line, expected answer or None).
 
 P1 to P13 are the bench sheet of document 01; compare/vectors/006.txt holds the
 streams of document 006, compare/vectors/request-2.txt our own, for request 2 of
 document 02, samples/lines.txt the lines of samples. The expected answers are
 those of the papers, but for TLV forms and the packets behind them, which the
-reference makes.
+reference makes. The calls are written here without the word of their family;
+`example_calls` puts it in.
 """
 
 import os
@@ -20,6 +21,8 @@ SAMPLE = ("0038cafe0105000f313233343536373839303132333435080100000000000003e801f
 SAMPLE_FORM = ("01006400081b006500e80300000000000001ffffffff80ca9c2064000000070500000000"
                "03000100150003")
 GETIO = "000000000000000d0c010500000005676574696f01000000cb"
+FAMILY = reference.FAMILIES[2]          # the bench sheet's (document 02, request 5)
+ROOM = reference.STATE_ROOM
 
 
 def changed(text, place, value):
@@ -79,24 +82,25 @@ def refused_calls(name, kind, text, number):
 
 
 def fed(head, used, item, phase, fill=0, held="-"):
-    """The answer of a feed."""
-    return f"{head} {used} {item} {phase} {fill} {held}"
+    """The answer of a feed: what is told, and the state without its family."""
+    return f"{head} {used} {item}", f"{phase} {fill} {held}"
 
 
-def both(value, lent=None):
-    """The answers of a call by value and with a lent state, which are mostly the same."""
-    return f"{value} lent {lent or value}"
+def both(family, value, lent=None):
+    """The answers of a feed by value, whose state has the family too, and with a lent state; mostly the same."""
+    told, state = value
+    return f"{told} family {family.number} {state} lent {' '.join(lent or value)}"
 
 
 def packet_fed(name, text):
     """A packet fed whole to a connection that expects one."""
     size = len(text) // 2
-    return name, f"feed 1 0 - 1280 {text} 1280", both(fed("fed 0 0", size, f"2 0 {size} {text}", 1))
+    return name, f"feed 1 0 - {ROOM} {text} {ROOM}", both(FAMILY, fed("fed 0 0", size, f"2 0 {size} {text}", 1))
 
 
 def login_calls(name, text, imei):
     return [(name, f"read_login {text}", f"accepted {imei}"),
-            (name, f"feed 0 0 - 1280 {text} 1280", both(fed("fed 0 0", 17, f"1 {imei} 0 -", 1))),
+            (name, f"feed 0 0 - {ROOM} {text} {ROOM}", both(FAMILY, fed("fed 0 0", 17, f"1 {imei} 0 -", 1))),
             (name, f"answer_login {text} 1 ee", "written 1 01"),
             (name, f"answer_login {text} 0 ee", "written 1 00")]
 
@@ -117,9 +121,9 @@ def data_calls(name, kind, text, codec, count, reply):
     accepted = f"accepted {codec} {count}"
     if kind == "datagram":
         accepted += f" {data[8:23].decode()} {data[2] * 256 + data[3]} {data[4]} {data[5]}"
-        packet, read = reference.tcp_packet(data[23:]), reference.read_datagram(data)
+        packet, read = reference.tcp_packet(data[23:]), reference.read_datagram(FAMILY, data)
     else:
-        packet, read = data, reference.read_packet(data)
+        packet, read = data, reference.read_packet(FAMILY, data)
     form = reference.tlv_form(data, read)
     lent = "ee" * (len(form) + 2)
     return [(name, f"read_{kind} {text}", accepted),
@@ -180,9 +184,14 @@ def sample_line_calls():
     assert not lines
 
 
-def example_calls():
+def bare_calls():
     yield from bench_calls()
     yield from sample_line_calls()
     for name in ("006.txt", "request-2.txt"):
         with open(os.path.join(VECTORS, name), encoding="ascii") as file:
             yield from vector_calls(line for line in file if line.strip() and not line.startswith("#"))
+
+
+def example_calls():
+    for name, line, expected in bare_calls():
+        yield name, reference.in_family(FAMILY.number, line), expected

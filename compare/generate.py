@@ -3,11 +3,13 @@
 
     python3 generate.py COUNT SEED
 
-The inputs are built here; of the reference only its checksum is used.
-Most damage is done before the CRC is put on, so that it reaches the rule it is
-aimed at. An aim is the number of a refusal, or 0 for any damage; an input with
-no aims is valid. With several aims the order of the rules decides, and damage
-may also miss its aim.
+The inputs are built here; of the reference only its checksum, its table of
+families and how a line names one are used. They are built to the limits of the
+family that their line names, now and then to those of another one. Most damage
+is done before the CRC is put on, so that it reaches the rule it is aimed at. An
+aim is the number of a refusal, or 0 for any damage; an input with no aims is
+valid in the family to whose limits it is built. With several aims the order of
+the rules decides, and damage may also miss its aim.
 """
 
 import random
@@ -15,10 +17,10 @@ import sys
 
 sys.dont_write_bytecode = True
 
-from reference import crc16
+from reference import FAMILIES, STATE_ROOM, crc16, in_family
 
-PACKET_LIMIT = 1280
-RECORD_LIMIT = 255
+# Numbers that are no family's; some of them are one's in fewer bits.
+UNKNOWN = (0, max(FAMILIES) + 1, 255, 256, *(256 + number for number in FAMILIES), (1 << 32) + 1, (1 << 64) - 1)
 CONTENTS_LIMIT = 640            # words that hold every table of contents
 CODECS = (0x08, 0x8E, 0x10)
 OTHER_CODECS = (0x00, 0x07, 0x09, 0x0C, 0x0D, 0x0E, 0x0F, 0x11, 0x80, 0x8D, 0x8F, 0xFF)
@@ -28,6 +30,10 @@ WIDTHS = {0x08: (1, 0, 1, 1), 0x8E: (2, 0, 2, 2), 0x10: (2, 1, 1, 2)}
 LEAST = {0x08: 30, 0x8E: 38, 0x10: 32}
 KINDS = (1, 2, 4, 8, 9)
 
+# The bytes around the records of a TCP packet and of a datagram, and around the text of a command.
+AROUND = {"packet": 15, "datagram": 26}
+AROUND_TEXT = {0x0C: 20, 0x0E: 28}
+
 # The aims of damage; those that are missed more often stand here twice.
 TCP_AIMS = (1, 2, 3, 4, 5, 6, 7, 8, 8, 9, 9, 10, 11, 12, 12)
 UDP_AIMS = (1, 3, 4, 6, 7, 8, 8, 9, 9, 10, 11, 12, 12, 15)
@@ -35,19 +41,20 @@ COMMAND_AIMS = (1, 2, 3, 4, 5, 6, 7, 8, 13, 14, 14, 15)
 IDS = (0, 1, 2, 3, 21, 66, 127, 128, 239, 241, 255, 256, 257, 277, 10500, 32768, 65535)
 
 
-def reachable(codec):
-    """reach[n]: can elements of this codec have n bytes together?"""
+def fewest_elements(codec):
+    """fewest[n]: of how few elements can n bytes of this codec be made? Of NEVER, if of none."""
     ident = WIDTHS[codec][3]
-    reach = [True] + [False] * 1500
-    for size in range(1, 1501):
-        steps = [ident + kind for kind in KINDS[:4]]
-        reach[size] = any(step <= size and reach[size - step] for step in steps)
+    steps = [ident + kind for kind in KINDS[:4]]
+    fewest = [0]
+    for size in range(1, 2 * STATE_ROOM):       # inputs that are too long are at most twice as long
+        fewest.append(min((fewest[size - step] + 1 for step in steps if step <= size), default=NEVER))
         if codec == 0x8E and size >= 4:
-            reach[size] = True
-    return reach
+            fewest[size] = 1
+    return fewest
 
 
-REACH = {codec: reachable(codec) for codec in CODECS}
+NEVER = 1 << 30
+FEWEST = {codec: fewest_elements(codec) for codec in CODECS}
 
 
 def number(value, width):
@@ -143,6 +150,7 @@ class Record:
 class Maker:
     def __init__(self, seed):
         self.rng = random.Random(seed)
+        self.family = FAMILIES[2]       # whose limits inputs are built to
 
     # ------------------------------------------------------------ small choices
 
@@ -228,10 +236,11 @@ class Maker:
         return ident & 0xFF if codec == 0x08 else ident
 
     def groups_of(self, codec, room):
-        """Groups whose elements have room bytes together, or a little less."""
-        reach = REACH[codec]
+        """Groups whose elements have room bytes together, or a little less, and no more than the total can count."""
+        fewest = FEWEST[codec]
         width = WIDTHS[codec][3]
-        while not reach[room]:
+        left = 256 ** WIDTHS[codec][2] - 1
+        while fewest[room] > left:
             room -= 1
         groups = [[], [], [], [], []]
         style = self.pick((5, 5, 5, 4, 3, 2, 1))    # how many of the groups are used
@@ -242,17 +251,18 @@ class Maker:
             if place < 4:
                 size = KINDS[place]
                 used = width + size
-                if used > room or not reach[room - used]:
+                if used > room or fewest[room - used] >= left:
                     place = self.upto(5 if codec == 0x8E else 4)
                     size = KINDS[place]
                     used = width + size
             if place == 4:
                 size = self.pick((0, 0, 1, 2, 3, 4, 7, 8, 15, 16, 40, 200, room - 4, room - 4))
                 used = 4 + size
-            if size < 0 or used > room or not reach[room - used]:
+            if size < 0 or used > room or fewest[room - used] >= left:
                 continue
             groups[place].append((self.ident(codec), self.bytes(size)))
             room -= used
+            left -= 1
         return groups
 
     def record(self, codec, size=None):
@@ -271,11 +281,12 @@ class Maker:
         return Record(self.bytes(8), self.upto(3), rng.randbytes(15) if self.chance(0.8) else self.bytes(15),
                       event, self.upto(8) if codec == 0x10 else 0, groups)
 
-    def size(self, codec):
-        """A record size: anything up to the limit, often close to it."""
+    def size(self, codec, room):
+        """A record size: anything up to the limit or the room, often close to 255 bytes."""
+        longest = min(self.family.record or room, room)
         if self.chance(0.5):
-            return self.pick((250, 252, 253, 254, 255, 255, 255))
-        return LEAST[codec] + self.upto(RECORD_LIMIT - LEAST[codec] + 1)
+            return min(self.pick((250, 252, 253, 254, 255, 255, 255, 256, 256, 257)), longest)
+        return LEAST[codec] + self.upto(longest - LEAST[codec] + 1)
 
     def filled(self, codec, room):
         """Records of room bytes together, or a little less."""
@@ -283,10 +294,10 @@ class Maker:
         small = self.pick((0, 0, 1, 8))        # records close to the least size
         records = []
         while room >= least:
-            if room < 2 * least or (room <= RECORD_LIMIT and not small and self.chance(0.5)):
+            if room < 2 * least or (room <= (self.family.record or room) and not small and self.chance(0.5)):
                 size = room
             else:
-                size = least + self.upto(small) if small else self.size(codec)
+                size = least + self.upto(small) if small else self.size(codec, room)
                 size = min(size, room - least)
             records.append(self.record(codec, max(size, least)))
             room -= records[-1].size(codec)
@@ -298,7 +309,7 @@ class Maker:
         if style < 0.72:
             records = [self.record(codec) for _ in range(self.pick((1, 1, 2, 2, 3, 3, 4, 5, 6)))]
         elif style < 0.86:
-            records = [self.record(codec, self.size(codec)) for _ in range(self.pick((1, 1, 2, 3, 4)))]
+            records = [self.record(codec, self.size(codec, room)) for _ in range(self.pick((1, 1, 2, 3, 4)))]
         else:
             records = self.filled(codec, room - self.pick((0, 0, 0, 1, 2, 3, 20)))
         return self.fitting(codec, records, room)
@@ -344,9 +355,9 @@ class Maker:
             (after + later) // 2, 255 - right, 32768 - right, 65535 - right, 65535 - self.upto(40)))
 
     def long_record(self, codec, room, total=None):
-        """A record over the limit; with the total wrong if asked for."""
+        """A record over 255 bytes; with the total wrong if asked for."""
         style = self.rng.random()
-        if style < 0.25 and codec != 0x8E:
+        if style < 0.25 and codec != 0x8E and room > 1000:
             # 256 elements or a few more, which wrap in a one-byte total
             count = self.pick((256, 256, 257, 300 if codec == 0x08 else 260))
             record = self.record(codec, LEAST[codec])
@@ -357,7 +368,7 @@ class Maker:
                 record.groups[place] += [(self.ident(codec), self.bytes(KINDS[place]))
                                          for _ in range(many)]
             return record
-        size = self.pick((256, 256, 256, 257, 258, 260, 300, 511, 512, 256 + self.upto(700)))
+        size = self.pick((256, 256, 256, 257, 258, 260, 300, 511, 512, room, 256 + self.upto(max(room - 255, 1))))
         record = self.record(codec, min(size, room))
         if total or (total is None and self.chance(0.2)):
             self.wrong_total(record)
@@ -456,13 +467,14 @@ class Maker:
         if 2 in aims:
             for _ in range(self.pick((1, 1, 2))):
                 start[self.upto(4)] = self.pick((1, 128, 255, 1 + self.upto(255)))
-        if 3 in aims and 3 <= length <= PACKET_LIMIT - 12:
-            length = self.pick((0, 1, 2, 1269, 1270, 1280, 65535, 65536, 65536 + length,
+        most = self.family.packet - 12
+        if 3 in aims and 3 <= length <= most:
+            length = self.pick((0, 1, 2, most + 1, most + 2, most + 12, 501, 1269, 65535, 65536, 65536 + length,
                                 (1 << 24) + length, (1 << 31) + length, (1 << 32) - 1, (1 << 32) - 12,
                                 (1 << 32) - 8, self.rng.getrandbits(32)))
         elif 4 in aims:
             length += self.pick((-12, -8, -4, -1, -1, 1, 1, 4, 8, 12, self.upto(300)))
-            length = max(3, min(PACKET_LIMIT - 12, length))
+            length = max(3, min(most, length))
         crc = crc16(field)
         if 5 in aims:
             crc = self.pick((crc ^ 1 << self.upto(32), crc ^ 1 << self.upto(16), crc ^ 0x10000,
@@ -476,10 +488,15 @@ class Maker:
             data = data[:self.upto(8)]
         return data
 
-    def too_long(self, codec, spare):
-        """Records that make a packet a little longer than the limit allows."""
-        over = self.pick((1, 1, 2, 3, 40, 110))
-        return self.filled(codec, PACKET_LIMIT - spare + over)
+    def too_long(self, codec, room):
+        """Records of a few bytes more than there is room for."""
+        return self.filled(codec, room + self.pick((1, 1, 2, 3, 40, 110)))
+
+    def records_aimed(self, codec, room, over):
+        """The records of an input and the room that damage may use: too many of them, or as many as fit."""
+        if over:
+            return self.too_long(codec, room), 2 * room
+        return self.records(codec, room), room
 
     def aims(self, numbers, valid):
         """What is to be damaged: nothing with this chance, else mostly one thing."""
@@ -499,12 +516,7 @@ class Maker:
         """A TCP data packet: its bytes, codec and records."""
         aims = self.aims(TCP_AIMS, valid)
         codec = 0x10 if 11 in aims else self.pick(CODECS)
-        room = PACKET_LIMIT - 15
-        if 3 in aims and self.chance(0.4):
-            room = 2000
-            records = self.too_long(codec, 15)
-        else:
-            records = self.records(codec, room)
+        records, room = self.records_aimed(codec, self.family.packet - AROUND["packet"], 3 in aims and self.chance(0.4))
         clean = 3 + sum(record.size(codec) for record in records)
         field = self.data_field(codec, records, aims, room)
         # the length is repaired in half of the cases, but more often for 8
@@ -535,8 +547,7 @@ class Maker:
         """A UDP datagram: its bytes, codec and records."""
         aims = self.aims(UDP_AIMS, valid)
         codec = 0x10 if 11 in aims else self.pick(CODECS)
-        room = 2000 if 3 in aims else PACKET_LIMIT - 26
-        records = self.too_long(codec, 26) if 3 in aims else self.records(codec, room)
+        records, room = self.records_aimed(codec, self.family.datagram - AROUND["datagram"], 3 in aims)
         clean = 3 + sum(record.size(codec) for record in records)
         field = self.data_field(codec, records, aims, room)
         imei = b"\x00\x0f" + self.digits()
@@ -576,7 +587,7 @@ class Maker:
 
     def command_body(self, codec, aims):
         """Type, size, and IMEI with text, with damage towards 3, 13, 14 and 15."""
-        most = 1252 if codec == 0x0E else 1260
+        most = self.family.packet - AROUND_TEXT[codec]
         kind = self.pick((0x05, 0x06, 0x05, 0x06, 0x11) if codec == 0x0E else (0x05, 0x06))
         text = b"" if kind == 0x11 else self.text(most)
         if 3 in aims and self.chance(0.4):
@@ -659,9 +670,9 @@ class Maker:
         codec = self.pick((0x0C, 0x0E, 0x0E))
         kind = self.pick((0x05, 0x06, 0x05, 0x06, 0x11) if codec == 0x0E else (0x05, 0x06))
         imei = self.digits() if codec == 0x0E else b""
-        most = 1252 if codec == 0x0E else 1260
+        most = self.family.packet - AROUND_TEXT[codec]
         text = b"" if kind == 0x11 and self.chance(0.7) else self.text(most)
-        size = (28 if codec == 0x0E else 20) + len(text)
+        size = AROUND_TEXT[codec] + len(text)
         aims = self.aims((6, 13, 14, 15), 0.45)
         if 0 in aims:
             aims = {aim for aim in (6, 13, 14, 15) if self.chance(0.5)}
@@ -702,7 +713,8 @@ class Maker:
     def form(self):
         """A TLV form and the size of its packet."""
         codec = self.pick(CODECS)
-        records = self.records(codec, PACKET_LIMIT - 15)
+        room = self.family.packet - AROUND["packet"]
+        records = self.records(codec, room)
         style = self.rng.random()
         if style < 0.45:
             damage = None
@@ -714,8 +726,8 @@ class Maker:
             damage = "raw"
         record = self.pick(records)
         if damage == "record":
-            self.spoil_record(codec, records, record)
-        size = 15 + sum(record.size(codec) for record in records)
+            self.spoil_record(codec, records, record, room)
+        size = AROUND["packet"] + sum(record.size(codec) for record in records)
         entries = self.form_entries(codec, records)
         if damage == "entry":
             entries = self.spoil_entries(codec, entries)
@@ -727,9 +739,9 @@ class Maker:
                               (form + form[5:] * (65536 // max(len(form) - 5, 1)))[:65536]))
         return form, size
 
-    def spoil_record(self, codec, records, record):
-        """A form of a packet that breaks a rule of its records."""
-        style = self.upto(8)        # in 08 and 10 some are another damage
+    def spoil_record(self, codec, records, record, room):
+        """A form of a packet that breaks a rule of its records, in most families."""
+        style = self.upto(9)        # in 08 and 10 some are another damage
         if style == 0:
             record.priority = self.pick((3, 255))
         elif style == 1:
@@ -740,13 +752,16 @@ class Maker:
             place = self.upto(4)
             record.groups[place].append((self.pick((256, 257, 65535)), self.bytes(KINDS[place])))
         elif style in (2, 3, 4):
-            records[records.index(record)] = self.long_record(codec, 1265)
+            records[records.index(record)] = self.long_record(codec, room)
         elif style == 5:
-            records[:] = self.too_long(codec, 15)
+            records[:] = self.too_long(codec, room)
         elif style == 6 and codec != 0x8E:
             record.groups[4].append((self.ident(codec), self.bytes(self.upto(9))))
+        elif style == 7:            # as many as a group's count of one byte holds, or one more
+            records[:] = [self.record(codec, LEAST[codec])]
+            records[0].groups[0] = [(self.ident(codec), self.bytes(1)) for _ in range(self.pick((255, 256)))]
         elif self.chance(0.3):
-            records[:] = [self.record(codec, LEAST[codec]) for _ in range(self.pick((43, 255, 256, 257)))]
+            records[:] = [self.record(codec, LEAST[codec]) for _ in range(self.pick((17, 43, 255, 256, 257)))]
         else:
             del records[:]
 
@@ -900,18 +915,19 @@ class Maker:
         phase = self.pick((0, 1, 1, 1))
         item = self.item(phase, 0.5)
         fill = min(self.pick((0, 0, 1, 7, 8, 9, 16, max(len(item) - 1, 0), self.upto(len(item) + 1))), len(item))
-        held, rest, lent = item[:fill], item[fill:], PACKET_LIMIT
+        held, rest, lent = item[:fill], item[fill:], STATE_ROOM
         if self.chance(0.8):
             return phase, fill, held, lent, rest
         style = self.upto(6)
         if style == 0:
             phase = self.pick((2, 2, 2, 3, 255, 1 - phase, self.upto(256)))
         elif style == 1:
-            fill = self.pick((fill + 1, max(fill - 1, 0), 17, 1279, 1280, 1281, (1 << 32) + fill, (1 << 64) - 1))
+            fill = self.pick((fill + 1, max(fill - 1, 0), 17, 511, 512, 513, 1279, 1280, 1281, (1 << 32) + fill,
+                              (1 << 64) - 1))
         elif style == 2:
             held += bytes(self.pick((0, 0, 1, 8, max(1279 - fill, 0), self.upto(1280)))) + b"\x01"
         elif style == 3:
-            lent = self.pick((0, fill & 1023, 17, 1279, 1281, self.upto(1500)))
+            lent = self.pick((0, fill & 1023, 17, 512, 1279, 1281, self.upto(1500)))
         elif style == 4:
             held, fill = item, len(item)
         else:
@@ -946,7 +962,8 @@ class Maker:
             return words
         if name == "wanted":
             return f"{words} {lent}"
-        room = PACKET_LIMIT if self.chance(0.8) else self.pick((0, 1279, self.upto(1280), 1281, 1400))
+        room = STATE_ROOM if self.chance(0.6) else \
+            self.pick((0, 511, 512, 512, 513, 1279, 1280, 1281, 1400, self.upto(512), self.upto(1280)))
         return f"{words} {lent} {shown(self.next_bytes(rest))} {room}"
 
     # ------------------------------------------------------------ calls
@@ -1004,8 +1021,23 @@ class Maker:
             return data, codec or 8, records or [self.record(8)]
         return maker()
 
+    def number_of(self, name):
+        """The number of the family that a call names, mostly a known one. A state by value has one of a byte."""
+        if not self.chance(0.08 if name in ("start", "reset", "wanted", "feed") else 0.03):
+            return self.pick(tuple(FAMILIES))
+        return self.pick([number for number in UNKNOWN if number < 256 or name != "reset"])
+
     def line(self):
         name = self.pick(NAMES)
+        number = self.number_of(name)
+        other = number not in FAMILIES or self.chance(0.15)
+        self.family = self.pick(tuple(FAMILIES.values())) if other else FAMILIES[number]
+        return in_family(number, self.call(name))
+
+    def call(self, name):
+        """A call, without the word of its family."""
+        if name == "start":
+            return name
         if name in ("read_command", "command_text"):
             data, _, _ = self.any_input(lambda: (self.command(), None, None))
             return f"{name} {shown(data)}"
@@ -1060,7 +1092,7 @@ NAMES = (
     "acknowledge_packet", "acknowledge_datagram", "answer_login", "write_command",
     "form_of_packet", "form_of_datagram", "packet_of_form", "contents_of_packet", "contents_of_datagram",
     "line_of_packet", "line_of_datagram", "lines_of_packet", "lines_of_datagram", "read_line", "element_in_line",
-    "element_at", "wrong_byte", "feed", "feed", "stream", "wanted", "reset")
+    "element_at", "wrong_byte", "feed", "feed", "feed", "stream", "wanted", "reset", "start")
 
 
 def lines(count, seed):

@@ -1,14 +1,16 @@
 """Billing lines at the edges of their rules: (name, call line, expected answer or None).
 
 The expected answers follow from request 4 of document 02 and from the way an
-input is built here; with None the two programs only have to agree.
+input is built here; with None the two programs only have to agree. Lines are
+written in each family (as in edges.py); their readers name none.
 """
 
-from edges import LARGE, SIDES, changed, data_field, each_side, lending, of_elements, pair, refused, tcp
+from edges import (LARGE, SIDES, changed, data_field, each_side, in_each_family, lending, many_elements, of_elements,
+                   ones_filling, pair, refused, room_for_records, tcp)
 from examples import SAMPLE
-from generate import KINDS, PACKET_LIMIT, Record, joined, quoted, shown
+from generate import KINDS, Record, joined, quoted, shown
 
-LINES_LIMIT = 4 * PACKET_LIMIT
+LINES_LIMIT = 5120                  # bytes that hold the lines of every input
 SAMPLE_LINE = b"1000,-0.0000001,54.7146368,5,21=3\n"
 
 # The leading fields of a line that is right, and of each element that is put behind them.
@@ -55,7 +57,7 @@ def reading_back(name, text, each, codec):
             yield name, f"{call} {'7e' * (len(value) + 2)}", answer
 
 
-def sample():
+def sample(_):
     """The line that the request gives, of the bench sheet's sample as a datagram and as a TCP packet."""
     data = bytes.fromhex(SAMPLE)
     for side, of in (("datagram", data), ("packet", tcp(data[23:]))):
@@ -65,9 +67,9 @@ def sample():
     yield "sample", f"element_in_line {shown(SAMPLE_LINE)} 0 -", "accepted 21 0 3 0 34 -"
 
 
-def records():
+def records(family):
     """Records of all kinds, and both ends of each field's range, in each codec."""
-    for codec, side, wrap, _ in each_side():
+    for codec, side, wrap, _ in each_side(family):
         ends = []
         for byte, place in ((0x00, "00000000 00000000"), (0xFF, "ffffffff ffffffff"), (0x00, "80000000 7fffffff"),
                             (0x80, "7fffffff 80000000"), (0x01, "00000001 fffffffe"), (0x7F, "00989680 ff676980")):
@@ -75,16 +77,17 @@ def records():
             groups = [[(byte if codec == 0x08 else 257 * byte, fill * kind)] for kind in KINDS[:4]]
             groups.append([(257 * byte, fill * 3)] if codec == 0x8E else [])
             ends.append(Record(8 * fill, 0, bytes.fromhex(place) + 7 * fill, 0, 0, groups))
-        for several in (pair(codec) + [of_elements(codec)], ends, [of_elements(codec)]):
+        long = [] if family.record else [[pair(codec)[0], many_elements(codec)]]
+        for several in (pair(codec) + [of_elements(codec)], ends, [of_elements(codec)], *long):
             yield from writing("records", side, wrap(data_field(codec, several)), codec, several)
 
 
-def tags():
+def tags(_):
     """Tags of every byte, and those that would add a field or a line."""
     texts = [bytes(range(64 * part, 64 * part + 64)) for part in range(4)]
     texts += [b"", b'"', b",", b"\\", b"\n", b"\r\n", b'","', b'",7="', b'"\n1000,0.0000000,0.0000000,0',
               b"\\22", b"=", b" ", b"~", b"\x7f", b"\xff", b"\0", "Žydrūnė".encode(), b'""', b"1", b"\\" * 60]
-    for side, (wrap, _) in SIDES.items():
+    for side, wrap in SIDES.items():
         for data in texts:
             each = of_elements(0x8E)
             each.groups[4] = [(403, data)]
@@ -95,22 +98,22 @@ def tags():
     yield from lending("tag", f"lines_of_packet {shown(tcp(data_field(0x8E, [each])))}", line)
 
 
-def longest():
+def longest(family):
     """Inputs of the most bytes whose lines are longest, in a buffer that holds the lines of any."""
-    for side, (wrap, around) in SIDES.items():
-        each = of_elements(0x08, 112)
-        each.groups[0] = [(255, b"\xff")] * 112
-        each.time, each.place = b"\xff" * 8, bytes.fromhex("80000000 80000000") + b"\xff" * 7
-        last = of_elements(0x08)
-        last.groups[0] = each.groups[0][:(PACKET_LIMIT - around - 4 * 254 - 30) // 2]
-        several = [each] * 4 + [last]
-        data, text = wrap(data_field(0x08, several)), b"".join(one.line(0x08) for one in several)
-        assert PACKET_LIMIT - 1 <= len(data) <= PACKET_LIMIT and len(text) <= LINES_LIMIT
+    for side, wrap in SIDES.items():
+        room = room_for_records(family, side)
+        several = [of_elements(0x08, ones) for ones in ones_filling(family, room)]
+        for each in several:
+            each.groups[0] = [(255, b"\xff")] * each.elements()
+            each.time, each.place = b"\xff" * 8, bytes.fromhex("80000000 80000000") + b"\xff" * 7
+        data, text = wrap(data_field(0x08, several)), b"".join(each.line(0x08) for each in several)
+        most = getattr(family, side)
+        assert most - 1 <= len(data) <= most and len(text) <= LINES_LIMIT
         yield from lending("longest", f"lines_of_{side} {shown(data)}", text, more=[LINES_LIMIT])
-        bytes_of_tag = of_elements(0x8E)
-        bytes_of_tag.groups[4] = [(65535, bytes(213))]
-        data = wrap(data_field(0x8E, [bytes_of_tag] * 4))
-        yield from lending("longest", f"line_of_{side} {shown(data)} 3", bytes_of_tag.line(0x8E), more=[LINES_LIMIT])
+        each = of_elements(0x8E)
+        each.groups[4] = [(65535, bytes((family.record or room) - each.size(0x8E) - 4))]
+        data = wrap(data_field(0x8E, [each]))
+        yield from lending("longest", f"line_of_{side} {shown(data)} 0", each.line(0x8E), more=[LINES_LIMIT])
 
 
 # ---------------------------------------------------------------- reading fields
@@ -310,5 +313,6 @@ def damages():
 
 
 def line_edge_calls():
-    for part in (sample, records, tags, longest, leading_fields, element_fields, orders, ends, elements, damages):
+    yield from in_each_family((sample, records, tags, longest))
+    for part in (leading_fields, element_fields, orders, ends, elements, damages):
         yield from part()

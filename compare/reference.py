@@ -1,5 +1,5 @@
 #!/usr/bin/env python3
-"""A second implementation of the rules of document 01 and of requests 1, 2 and 4 of document 02.
+"""A second implementation of the rules of document 01 and of requests 1, 2, 4 and 5 of document 02.
 
     python3 reference.py     answers calls from standard input, one a line
 
@@ -7,23 +7,29 @@ It is written from the papers alone and is meant to be read beside them; only ho
 the calls for C lay an answer out (`flat`), the words of a table of contents,
 what a feed of a lent state adds to document 02, and how a line is gone along or
 its wrong byte said are from include/brundilope.h. Billing lines are in lines.py.
-Byte strings in a call are lower-case hexadecimal, '-' stands for none. A buffer
-of 64-bit words is given and shown as its bytes, each word's lowest first; one
-that is no whole number of words is an error. The bytes of a connection's state
-are given and shown without the zeros at their end, a feed's packet buffer is
-given as its length.
+Byte strings in a call are lower-case hexadecimal, '-' stands for none. A call
+that names a family has its number as the first word. A buffer of 64-bit words is
+given and shown as its bytes, each word's lowest first; one that is no whole
+number of words is an error. The bytes of a connection's state are given and
+shown without the zeros at their end, a feed's packet buffer is given as its
+length.
 """
 
 import re
 import struct
 import sys
-from collections import namedtuple
+from collections import Counter, namedtuple
 
 import lines
 
-PACKET_LIMIT = 1280
-RECORD_LIMIT = 255
-LENGTH_LIMIT = PACKET_LIMIT - 12    # the greatest data length of a TCP packet
+# The families of unit: the most bytes of a TCP packet, of a datagram and of a record. None: no such limit.
+Family = namedtuple("Family", "number packet datagram record")
+FAMILIES = {family.number: family for family in (
+    Family(1, packet=512, datagram=512, record=255),
+    Family(2, packet=1280, datagram=1280, record=None),
+)}
+AROUND = 12                         # bytes of a TCP packet around its data field
+STATE_ROOM = max(family.packet for family in FAMILIES.values())     # bytes that a connection's state holds
 
 # The widths of a codec's IO part. Generation 0 means: no such field.
 Widths = namedtuple("Widths", "event generation count id variable")
@@ -72,6 +78,12 @@ class Refused(Exception):
     def __init__(self, number, index=0, place=""):
         super().__init__(number, index, place)
         self.number, self.index, self.place = number, index, place
+
+
+def family_of(number):
+    if number not in FAMILIES:
+        raise Refused(21)
+    return FAMILIES[number]
 
 
 # ---------------------------------------------------------------- numbers
@@ -158,7 +170,7 @@ def read_elements(space, widths, size):
     return elements
 
 
-def read_record(space, widths, index):
+def read_record(space, widths, longest, index):
     space.index = index
     start = space.at
     timestamp = big(space.take(8, "timestamp"))
@@ -186,13 +198,13 @@ def read_record(space, widths, index):
     if total != len(elements):      # variable values count too: so says request 2, not 006
         fixed = sum(element.kind != VARIABLE_KIND for element in elements)
         raise Refused(9, index, "variable left out" if total == fixed else "")
-    if space.at - start > RECORD_LIMIT:
+    if longest is not None and space.at - start > longest:
         raise Refused(12, index)
     return Record(timestamp, priority, longitude, latitude, altitude, angle,
                   satellites, speed, event, generation, elements, start, space.at - start)
 
 
-def read_data_field(data, start, end):
+def read_data_field(family, data, start, end):
     """A data field: codec, count, records, count. It has at least 3 bytes."""
     codec = data[start]
     if codec not in WIDTHS:
@@ -201,7 +213,7 @@ def read_data_field(data, start, end):
     if count == 0 or count != data[end - 1]:
         raise Refused(7, place="differ" if count != data[end - 1] else "zero")
     space = Space(data, start + 2, end - 1)
-    records = [read_record(space, WIDTHS[codec], index) for index in range(count)]
+    records = [read_record(space, WIDTHS[codec], family.record, index) for index in range(count)]
     if space.at != space.end:
         raise Refused(8, count, "left over")
     return codec, records
@@ -209,41 +221,41 @@ def read_data_field(data, start, end):
 
 # ---------------------------------------------------------------- reading inputs
 
-def check_header(data):
+def check_header(family, data):
     """The data length in the first 8 bytes of a TCP packet: refusals 2 and 3."""
     if data[:4] != bytes(4):
         raise Refused(2)
     length = big(data[4:8])
-    if not 3 <= length <= LENGTH_LIMIT:
+    if not 3 <= length <= family.packet - AROUND:
         raise Refused(3, place="under" if length < 3 else "over")
     return length
 
 
-def check_frame(data):
+def check_frame(family, data):
     """What all TCP packets share: refusals 1 to 5."""
     if len(data) < 8:
         raise Refused(1)
-    length = check_header(data)
-    if len(data) != length + 12:
-        raise Refused(4, place="missing" if len(data) < length + 12 else "too many")
+    size = check_header(family, data) + AROUND
+    if len(data) != size:
+        raise Refused(4, place="missing" if len(data) < size else "too many")
     if big(data[-4:]) != crc16(data[8:-4]):
         raise Refused(5, place="upper" if any(data[-4:-2]) else "lower")
 
 
-def read_packet(data):
-    check_frame(data)
-    return Packet(*read_data_field(data, 8, len(data) - 4))
+def read_packet(family, data):
+    check_frame(family, data)
+    return Packet(*read_data_field(family, data, 8, len(data) - 4))
 
 
-def read_datagram(data):
+def read_datagram(family, data):
     if len(data) < 26:
         raise Refused(1)
-    if len(data) > PACKET_LIMIT:
+    if len(data) > family.datagram:
         raise Refused(3)
     if len(data) != 2 + big(data[:2]):
         raise Refused(4, place="missing" if len(data) < 2 + big(data[:2]) else "too many")
     imei = login_imei(data[6:23])
-    codec, records = read_data_field(data, 23, len(data))
+    codec, records = read_data_field(family, data, 23, len(data))
     return Datagram(codec, records, imei, big(data[2:4]), data[4], data[5])
 
 
@@ -255,8 +267,8 @@ def read_login(data):
     return login_imei(data)
 
 
-def read_command(data):
-    check_frame(data)
+def read_command(family, data):
+    check_frame(family, data)
     codec = data[8]
     if codec not in TYPES:
         raise Refused(6)
@@ -310,10 +322,10 @@ def element_with(packet, number, ident):
     return element
 
 
-def last_known(newer, older, ident):
+def last_known(family, newer, older, ident):
     """Which packet (0 newer, 1 older) and the element in its last record."""
     for which, data in enumerate((newer, older)):
-        element = first_with(read_packet(data).records[-1], ident)
+        element = first_with(read_packet(family, data).records[-1], ident)
         if element is not None:
             return which, element
     raise Refused(16, place="ID")
@@ -434,7 +446,25 @@ def record_size(widths, elements):
     return size
 
 
-def read_form(form):
+def check_sizes(family, sizes):
+    """Records of so many bytes and the packet around them have to keep to the family's limits. So there are never 256
+    records, which no count could hold: these are too long for a packet of any family."""
+    if family.record is not None and max(sizes) > family.record:
+        raise Refused(17, place="record's size")
+    if AROUND + 3 + sum(sizes) > family.packet:
+        raise Refused(17, place="packet's size")
+
+
+def check_counts(widths, elements):
+    """A record's groups, and its elements together, have to be counted by numbers of the codec's width."""
+    most = 256 ** widths.count - 1
+    if max(Counter(kind for kind, _, _ in elements).values(), default=0) > most:
+        raise Refused(17, place="group's count")
+    if len(elements) > most:
+        raise Refused(17, place="total")
+
+
+def read_form(family, form):
     """The codec of a form and its records, each (fields, elements); 17 unless every rule is kept."""
     entries = form_entries(form)
     codec = form_codec(entries)
@@ -448,14 +478,11 @@ def read_form(form):
             raise Refused(17, place="no record before it")
         elements = records[-1][1]
         elements.append(form_element(widths, kind, body, elements[-1][0] if elements else 0))
-    sizes = [record_size(widths, elements) for _, elements in records]
-    # A group or a total that its count cannot hold has 256 elements, and 256 records are over the packet's limit.
     if not records:
         raise Refused(17, place="no record")
-    if max(sizes) > RECORD_LIMIT:
-        raise Refused(17, place="record's size")
-    if 3 + sum(sizes) > LENGTH_LIMIT:
-        raise Refused(17, place="packet's size")
+    check_sizes(family, [record_size(widths, elements) for _, elements in records])
+    for _, elements in records:
+        check_counts(widths, elements)
     return codec, records
 
 
@@ -477,9 +504,9 @@ def record_bytes(widths, fields, elements):
     return b"".join(parts)
 
 
-def packet_of_form(form):
-    """The packet with this TLV form."""
-    codec, records = read_form(form)
+def packet_of_form(family, form):
+    """The family's packet with this TLV form."""
+    codec, records = read_form(family, form)
     count = bytes([len(records)])
     body = b"".join(record_bytes(WIDTHS[codec], *record) for record in records)
     return tcp_packet(bytes([codec]) + count + body + count)
@@ -487,7 +514,7 @@ def packet_of_form(form):
 
 # ---------------------------------------------------------------- writing commands and answers
 
-def write_command(codec, kind, imei, text):
+def write_command(family, codec, kind, imei, text):
     if codec not in TYPES:
         raise Refused(6)
     if kind not in TYPES[codec]:
@@ -500,30 +527,33 @@ def write_command(codec, kind, imei, text):
         raise Refused(15, place="length")
     body = packed + text
     field = bytes([codec, 1, kind]) + len(body).to_bytes(4, "big") + body + b"\x01"
-    if len(field) > LENGTH_LIMIT or (kind == NO_MATCH and text):
-        raise Refused(14, place="over" if len(field) > LENGTH_LIMIT else "text with 11")
+    if AROUND + len(field) > family.packet:
+        raise Refused(14, place="over")
+    if kind == NO_MATCH and text:
+        raise Refused(14, place="text with 11")
     return tcp_packet(field)
 
 
-def packet_acknowledgement(data):
+def packet_acknowledgement(family, data):
+    """The acknowledgement, and the refusal of the packet behind it or None."""
     try:
-        count = len(read_packet(data).records)
-    except Refused:
-        count = 0
-    return count.to_bytes(4, "big")
+        return len(read_packet(family, data).records).to_bytes(4, "big"), None
+    except Refused as refusal:
+        return bytes(4), refusal
 
 
-def datagram_acknowledgement(data):
-    count = len(read_datagram(data).records)
+def datagram_acknowledgement(family, data):
+    count = len(read_datagram(family, data).records)
     return b"\x00\x05" + data[2:6] + bytes([count])
 
 
 def login_answer(data, known):
+    """The answer, and the refusal of the login behind it or None."""
     try:
         read_login(data)
-    except Refused:
-        known = 0
-    return bytes([known])
+        return bytes([known]), None
+    except Refused as refusal:
+        return bytes(1), refusal
 
 
 # ---------------------------------------------------------------- billing lines (document 02, request 4)
@@ -560,33 +590,33 @@ def element_from(data, at):
         raise Refused(20, place=wrong.why) from None
 
 
-# ---------------------------------------------------------------- connections (document 02, request 1)
+# ---------------------------------------------------------------- connections (document 02, requests 1 and 5)
 
 EXPECTS_LOGIN, EXPECTS_PACKET, CLOSED = range(3)    # the phases
 NO_ITEM = Item(0, 0, b"")
 
 
 class Connection:
-    """A connection, which takes its bytes one by one."""
+    """A connection of a family, which takes its bytes one by one."""
 
-    def __init__(self):
-        self.phase, self.held = EXPECTS_LOGIN, b""
+    def __init__(self, family, phase=EXPECTS_LOGIN):
+        self.family, self.phase, self.held = family, phase, b""
 
     def due(self):
         """How many bytes are held when something is judged next."""
         if self.phase == EXPECTS_LOGIN:
             return 17
-        return 8 if len(self.held) < 8 else big(self.held[4:8]) + 12
+        return 8 if len(self.held) < 8 else big(self.held[4:8]) + AROUND
 
     def judged(self):
         """The item that the bytes held are, now that they are as many as were due."""
         if self.phase == EXPECTS_LOGIN:
             return Item(1, read_login(self.held), b"")
         if len(self.held) == 8:
-            check_header(self.held)
+            check_header(self.family, self.held)
             return NO_ITEM
         reader = read_command if self.held[8] in TYPES else read_packet
-        reader(self.held)
+        reader(self.family, self.held)
         return Item(2, 0, self.held)
 
     def feed(self, data):
@@ -607,22 +637,32 @@ class Connection:
         return len(data), NO_ITEM, None
 
     def state(self):
-        return self.phase, len(self.held), self.held.ljust(PACKET_LIMIT, b"\0")
+        return self.phase, len(self.held), self.held.ljust(STATE_ROOM, b"\0")
 
 
-def connection_in(phase, fill, held):
+def started(number):
+    """A connection as it starts: fresh and of this family, or 21 and a closed one of family 1."""
+    try:
+        return Connection(family_of(number)), None
+    except Refused as refusal:
+        return Connection(FAMILIES[1], CLOSED), refusal
+
+
+def connection_in(number, phase, fill, held):
     """The connection in a state; 19 if it is closed, or if no feeds from a fresh one give it. That is found out by
     feeding: a state tells only of the item not yet finished, so its bytes, behind a login where one has been, are all
     that can matter."""
+    if number not in FAMILIES:
+        raise Refused(19, place="family")
     if phase == CLOSED:
         raise Refused(19, place="closed")
     if phase > CLOSED:
         raise Refused(19, place="phase")
-    if len(held) != PACKET_LIMIT:
+    if len(held) != STATE_ROOM:
         raise Refused(19, place="length")
-    if fill > PACKET_LIMIT:
+    if fill > STATE_ROOM:
         raise Refused(19, place="fill")
-    connection = Connection()
+    connection = Connection(FAMILIES[number])
     if phase == EXPECTS_PACKET:
         connection.feed(b"\x00\x0f" + b"0" * 15)
     _, item, refusal = connection.feed(held[:fill])
@@ -641,64 +681,64 @@ def shown(data):
     return data.hex() or "-"
 
 
-def packet_words(data):
-    packet = read_packet(data)
+def packet_words(family, data):
+    packet = read_packet(family, data)
     return packet.codec, len(packet.records)
 
 
-def datagram_words(data):
-    datagram = read_datagram(data)
+def datagram_words(family, data):
+    datagram = read_datagram(family, data)
     return (datagram.codec, len(datagram.records)) + datagram[2:]
 
 
 def record_words(reader):
-    def call(data, number):
-        record = record_at(reader(data), number)
+    def call(family, data, number):
+        record = record_at(reader(family, data), number)
         return record[FIXED_FIELDS] + (len(record.elements),)
     return call
 
 
-def command_text(data):
-    return part(data, read_command(data))
+def command_text(family, data):
+    return part(data, read_command(family, data))
 
 
-def last_known_words(newer, older, ident):
-    which, element = last_known(newer, older, ident)
+def last_known_words(family, newer, older, ident):
+    which, element = last_known(family, newer, older, ident)
     return (which,) + element
 
 
-def last_known_view(newer, older, ident):
-    which, element = last_known(newer, older, ident)
+def last_known_view(family, newer, older, ident):
+    which, element = last_known(family, newer, older, ident)
     return part((newer, older)[which], element)
 
 
 def lookup(reader, find):
-    return lambda data, number, wanted: find(reader(data), number, wanted)
+    return lambda family, data, number, wanted: find(reader(family, data), number, wanted)
 
 
 def lookup_view(reader, find):
-    return lambda data, number, wanted: part(data, find(reader(data), number, wanted))
+    return lambda family, data, number, wanted: part(data, find(reader(family, data), number, wanted))
 
 
 def form_of(reader):
-    return lambda data: tlv_form(data, reader(data))
+    return lambda family, data: tlv_form(data, reader(family, data))
 
 
-def contents_of_packet(data):
-    return contents(read_packet(data), 0, 0, 0, 0)
+def contents_of_packet(family, data):
+    return contents(read_packet(family, data), 0, 0, 0, 0)
 
 
-def contents_of_datagram(data):
-    datagram = read_datagram(data)
+def contents_of_datagram(family, data):
+    datagram = read_datagram(family, data)
     return contents(datagram, datagram.packet, datagram.unused, datagram.avl, datagram.imei)
 
 
 def line_of(reader):
-    return lambda data, number: record_line(data, record_at(reader(data), number))
+    return lambda family, data, number: record_line(data, record_at(reader(family, data), number))
 
 
 def lines_of(reader):
-    return lambda data: b"".join(record_line(data, record) for record in reader(data).records)
+    return lambda family, data: b"".join(record_line(data, record) for record in reader(family, data).records)
 
 
 def line_words(data):
@@ -714,108 +754,127 @@ def wrong_byte(data):
     return f"byte {len(data)}", None
 
 
+# ---------------------------------------------------------------- the calls with a connection
+
 def lent_held(held, length):
     return held.ljust(length, b"\0")[:length]
 
 
-def state_words(phase, fill, held):
+def gathered_words(phase, fill, held):
+    """A state without its family, as a call with a lent state leaves it."""
     return f"{phase} {fill} {shown(held.rstrip(bytes(1)))}"
 
 
-def fed_words(used, item, refusal, state):
+def state_words(number, *gathered):
+    return f"family {number} {gathered_words(*gathered)}"
+
+
+def start(number):
+    connection, refusal = started(number)
+    head = f"refused {refusal.number} {refusal.index}" if refusal else "started 0 0"
+    return f"{head} {state_words(connection.family.number, *connection.state())}", refusal
+
+
+def reset(number, *_):
+    """Any state is reset to how its family starts; a family that is not known is not told."""
+    connection, _ = started(number)
+    return "state " + state_words(connection.family.number, *connection.state()), None
+
+
+def fed_words(used, item, refusal):
     head = f"refused {refusal.number} {refusal.index}" if refusal else "fed 0 0"
-    return f"{head} {used} {item.kind} {item.imei} {len(item.packet)} {shown(item.packet)} {state_words(*state)}"
+    return f"{head} {used} {item.kind} {item.imei} {len(item.packet)} {shown(item.packet)}"
 
 
-def fed(phase, fill, held, data, room):
-    """A feed with room for the packet."""
+def fed(number, phase, fill, held, data, room):
+    """A feed with room for the packet: what is told, the refusal in it or None, and the state without its family."""
     try:
-        connection = connection_in(phase, fill, held)
-        if room < PACKET_LIMIT:
-            raise Refused(18, place="by one" if room == PACKET_LIMIT - 1 else "by more")
+        connection = connection_in(number, phase, fill, held)
+        if room < connection.family.packet:
+            raise Refused(18, place="by one" if room == connection.family.packet - 1 else "by more")
     except Refused as refusal:
-        return fed_words(0, NO_ITEM, refusal, (phase, fill, held)), refusal
+        return fed_words(0, NO_ITEM, refusal), refusal, (phase, fill, held)
     used, item, refusal = connection.feed(data)
-    return fed_words(used, item, refusal, connection.state()), refusal
+    return fed_words(used, item, refusal), refusal, connection.state()
 
 
-def feed(phase, fill, held, length, data, room):
-    """A feed by value, whose answer has the room, if the state has its length; and one with a lent state and buffer."""
+def feed(number, phase, fill, held, length, data, room):
+    """A feed by value, whose answer has the room, if a state by value can be such a one; and one with a lent state and
+    buffer."""
     held = lent_held(held, length)
-    value = fed(phase, fill, held, data, PACKET_LIMIT)[0] if length == PACKET_LIMIT else "-"
-    lent, refusal = fed(phase, fill, held, data, room)
-    return f"{value} lent {lent}", refusal
+    value = "-"
+    if length == STATE_ROOM and number < BOUNDS["c"]:
+        told, _, state = fed(number, phase, fill, held, data, STATE_ROOM)
+        value = f"{told} {state_words(number, *state)}"
+    told, refusal, state = fed(number, phase, fill, held, data, room)
+    return f"{value} lent {told} {gathered_words(*state)}", refusal
 
 
-def wanted(phase, fill, held, length):
+def wanted(number, phase, fill, held, length):
     try:
-        connection = connection_in(phase, fill, lent_held(held, length))
+        connection = connection_in(number, phase, fill, lent_held(held, length))
     except Refused as refusal:
         return "wanted 0", refusal
     return f"wanted {connection.due() - len(connection.held)}", None
 
 
-def stream(_, data):
+def stream(number, _, data):
     """The items and the end of a stream. Where it is cut changes nothing."""
-    connection, used, refusal = Connection(), 0, None
-    answer = "items"
+    connection, refusal = started(number)
+    used, answer = 0, "items"
     while used < len(data) and not refusal:
         more, item, refusal = connection.feed(data[used:])
         used += more
         answer += ("", f" login {item.imei}", f" packet {shown(item.packet)}")[item.kind]
-    number, index = (refusal.number, refusal.index) if refusal else (0, 0)
-    answer += f" end {number} {index} {used} {state_words(*connection.state())}"
+    ended, index = (refusal.number, refusal.index) if refusal else (0, 0)
+    answer += f" end {ended} {index} {used} {state_words(connection.family.number, *connection.state())}"
     return f"{answer} lent {answer}", refusal
 
 
-def fresh(*_):
-    """A fresh connection, which is also what any other is reset to."""
-    return "state " + state_words(*Connection().state()), None
-
-
 # Each call: its sort of answer, the sorts of its words, its function. The last
-# word of a 'write' or 'element' call, the lent buffer, does not go to the function.
-# That of a 'whole' call gives the answer itself, and the refusal in it or behind it.
+# word of a 'write', 'receipt' or 'element' call, the lent buffer, does not go to the
+# function. That of a 'receipt' call gives the refusal behind it, too, and that of a
+# 'whole' call the answer itself, and the refusal in it or behind it.
 CALLS = {
-    "read_packet": ("read", "P", packet_words),
-    "read_datagram": ("read", "P", datagram_words),
+    "read_packet": ("read", "FP", packet_words),
+    "read_datagram": ("read", "FP", datagram_words),
     "read_login": ("read", "P", lambda data: (read_login(data),)),
-    "read_command": ("read", "P", read_command),
-    "command_text": ("view", "P", command_text),
-    "record_in_packet": ("read", "PN", record_words(read_packet)),
-    "record_in_datagram": ("read", "PN", record_words(read_datagram)),
-    "value_in_packet": ("read", "PNN", lookup(read_packet, element_at)),
-    "value_in_datagram": ("read", "PNN", lookup(read_datagram, element_at)),
-    "id_in_packet": ("read", "PNI", lookup(read_packet, element_with)),
-    "id_in_datagram": ("read", "PNI", lookup(read_datagram, element_with)),
-    "view_in_packet": ("view", "PNN", lookup_view(read_packet, element_at)),
-    "view_in_datagram": ("view", "PNN", lookup_view(read_datagram, element_at)),
-    "id_view_in_packet": ("view", "PNI", lookup_view(read_packet, element_with)),
-    "id_view_in_datagram": ("view", "PNI", lookup_view(read_datagram, element_with)),
-    "last_known": ("read", "PPI", last_known_words),
-    "last_known_view": ("view", "PPI", last_known_view),
-    "acknowledge_packet": ("write", "PP", packet_acknowledgement),
-    "acknowledge_datagram": ("write", "PP", datagram_acknowledgement),
-    "answer_login": ("write", "PKP", login_answer),
-    "write_command": ("write", "BBPPP", write_command),
-    "form_of_packet": ("write", "PP", form_of(read_packet)),
-    "form_of_datagram": ("write", "PP", form_of(read_datagram)),
-    "packet_of_form": ("write", "PP", packet_of_form),
-    "contents_of_packet": ("write", "PW", contents_of_packet),
-    "contents_of_datagram": ("write", "PW", contents_of_datagram),
-    "line_of_packet": ("write", "PNP", line_of(read_packet)),
-    "line_of_datagram": ("write", "PNP", line_of(read_datagram)),
-    "lines_of_packet": ("write", "PP", lines_of(read_packet)),
-    "lines_of_datagram": ("write", "PP", lines_of(read_datagram)),
+    "read_command": ("read", "FP", read_command),
+    "command_text": ("view", "FP", command_text),
+    "record_in_packet": ("read", "FPN", record_words(read_packet)),
+    "record_in_datagram": ("read", "FPN", record_words(read_datagram)),
+    "value_in_packet": ("read", "FPNN", lookup(read_packet, element_at)),
+    "value_in_datagram": ("read", "FPNN", lookup(read_datagram, element_at)),
+    "id_in_packet": ("read", "FPNI", lookup(read_packet, element_with)),
+    "id_in_datagram": ("read", "FPNI", lookup(read_datagram, element_with)),
+    "view_in_packet": ("view", "FPNN", lookup_view(read_packet, element_at)),
+    "view_in_datagram": ("view", "FPNN", lookup_view(read_datagram, element_at)),
+    "id_view_in_packet": ("view", "FPNI", lookup_view(read_packet, element_with)),
+    "id_view_in_datagram": ("view", "FPNI", lookup_view(read_datagram, element_with)),
+    "last_known": ("read", "FPPI", last_known_words),
+    "last_known_view": ("view", "FPPI", last_known_view),
+    "acknowledge_packet": ("receipt", "FPP", packet_acknowledgement),
+    "acknowledge_datagram": ("write", "FPP", datagram_acknowledgement),
+    "answer_login": ("receipt", "PKP", login_answer),
+    "write_command": ("write", "FBBPPP", write_command),
+    "form_of_packet": ("write", "FPP", form_of(read_packet)),
+    "form_of_datagram": ("write", "FPP", form_of(read_datagram)),
+    "packet_of_form": ("write", "FPP", packet_of_form),
+    "contents_of_packet": ("write", "FPW", contents_of_packet),
+    "contents_of_datagram": ("write", "FPW", contents_of_datagram),
+    "line_of_packet": ("write", "FPNP", line_of(read_packet)),
+    "line_of_datagram": ("write", "FPNP", line_of(read_datagram)),
+    "lines_of_packet": ("write", "FPP", lines_of(read_packet)),
+    "lines_of_datagram": ("write", "FPP", lines_of(read_datagram)),
     "read_line": ("read", "P", line_words),
     "element_in_line": ("element", "PNP", element_in_line),
     "element_at": ("element", "PNP", element_from),
     "wrong_byte": ("whole", "P", wrong_byte),
-    "fresh": ("whole", "", fresh),
-    "reset": ("whole", "BNP", fresh),
-    "wanted": ("whole", "BNPL", wanted),
-    "feed": ("whole", "BNPLPL", feed),
-    "stream": ("whole", "SP", stream),
+    "start": ("whole", "C", start),
+    "reset": ("whole", "cBNP", reset),
+    "wanted": ("whole", "CBNPL", wanted),
+    "feed": ("whole", "CBNPLPL", feed),
+    "stream": ("whole", "CSP", stream),
 }
 
 # How many fields an answer of C has besides the number and the index, all 0 on a refusal.
@@ -829,8 +888,9 @@ FIELDS = {
 }
 
 # The sorts of words: P bytes; W a buffer of 64-bit words; S sizes of pieces, which go over and over; numbers below
-# these bounds.
-BOUNDS = {"N": 1 << 64, "I": 1 << 16, "L": 1 << 16, "B": 1 << 8, "K": 2}
+# these bounds. F is a family, refused with 21 before anything else; C a connection's, c that of a state by value.
+BOUNDS = {"F": 1 << 64, "C": 1 << 64, "c": 1 << 8, "N": 1 << 64, "I": 1 << 16, "L": 1 << 16, "B": 1 << 8, "K": 2}
+FAMILY_SORTS = ("F", "C", "c")
 DECIMAL = re.compile(r"[0-9]{1,20}")
 SIZES = re.compile(r"(?=.*[1-9])[0-9]{1,9}(,[0-9]{1,9})*")
 
@@ -855,6 +915,19 @@ def argument(sort, word):
     return int(word)
 
 
+def names_family(line):
+    """Is it a call that names a family?"""
+    return CALLS.get(line.split(" ", 1)[0].strip(), ("", ""))[1][:1] in FAMILY_SORTS
+
+
+def in_family(number, line):
+    """A call line that lacks its family's word, with it; unchanged if the call names none."""
+    if not names_family(line):
+        return line
+    name, *words = line.split()
+    return " ".join((name, str(number), *words))
+
+
 def unit(name):
     """How many bytes a writer counts as one."""
     return WORD if CALLS[name][1].endswith("W") else 1
@@ -868,8 +941,8 @@ def written(result, lent, one):
 
 
 def evaluate(line):
-    """The answer to a call line, and the refusal behind it or None. A view, how many
-    bytes are wanted or which byte is wrong shows no refusal; it is given all the same."""
+    """The answer to a call line, and the refusal behind it or None. A view, a receipt,
+    how many bytes are wanted or which byte is wrong shows no refusal; it is given all the same."""
     words = line.split()
     if not words or words[0] not in CALLS:
         return "error unknown call", None
@@ -882,8 +955,10 @@ def evaluate(line):
         return "error " + str(error), None
     if answered == "whole":
         return function(*arguments)
-    lent = arguments.pop() if answered in ("write", "element") else b""
+    lent = arguments.pop() if answered in ("write", "receipt", "element") else b""
     try:
+        if sorts[0] == "F":
+            arguments[0] = family_of(arguments[0])
         result = function(*arguments)
         if answered == "read":
             return "accepted " + " ".join(map(str, result)), None
@@ -894,13 +969,14 @@ def evaluate(line):
             tag, data = (1, value) if isinstance(value, bytes) else (0, b"")
             after = written(data, lent, 1)
             return f"accepted {ident} {tag} {0 if tag else value} {len(data)} {behind} {after}", None
+        result, behind = result if answered == "receipt" else (result, None)
         one = unit(words[0])
-        return f"written {len(result) // one} {written(result, lent, one)}", None
+        return f"written {len(result) // one} {written(result, lent, one)}", behind
     except Refused as refusal:
         text = f"refused {refusal.number} {refusal.index}"
         if answered == "view":
             text = "bytes -"
-        elif answered in ("write", "element"):
+        elif answered in ("write", "receipt", "element"):
             text += " " + shown(lent)
         return text, refusal
 
