@@ -155,7 +155,7 @@ fn take_packet(limits: Limits, p: &[u8], out: &mut [u8]) -> Written
             CommandAnswer::Accepted(_) => put_packet(p, out),
             CommandAnswer::Refused(r) => Written::Refused(r),
         },
-        Row::Unknown => match packet::judge_within(limits, p, 0) {
+        Row::Unknown => match packet::judge_packet(limits, p, 0) {
             DataWalk::Taken {
                 codec: _,
                 count: _,

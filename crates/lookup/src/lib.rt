@@ -44,7 +44,7 @@ pub enum Part {
 pub fn packet_part(family: usize, p: &[u8], n: usize) -> Part
     ensures { λ r. ⌜ partAs r ≡ partOf (tcpSource (limitsOf family) (now (p .entry))) n ⌝ }
 {
-    match packet::judge_packet(family, p, n) {
+    match packet::judge_packet(wire::limits_of(family), p, n) {
         DataWalk::Refused(r) => Part::Refused(r),
         DataWalk::Taken { codec, count, span } => {
             if n < count {

@@ -17,7 +17,7 @@ pub enum PacketAnswer {
 }
 
 // The packet's codec and count, and where the record with number `want` lies behind its first 10 bytes.
-pub fn judge_within(limits: Limits, p: &[u8], want: usize) -> DataWalk
+pub fn judge_packet(limits: Limits, p: &[u8], want: usize) -> DataWalk
     ensures { λ r. ⌜ r ≡ dataWalk want (readPacket limits (now (p .entry))) ⌝ }
 {
     let n = match frame::unframed(limits.largest, p) {
@@ -28,17 +28,10 @@ pub fn judge_within(limits: Limits, p: &[u8], want: usize) -> DataWalk
     walk::read_data(limits.longest, &p[8..end], want)
 }
 
-// The same by the limits of a family.
-pub fn judge_packet(family: usize, p: &[u8], want: usize) -> DataWalk
-    ensures { λ r. ⌜ r ≡ dataWalk want (readPacket (limitsOf family) (now (p .entry))) ⌝ }
-{
-    judge_within(wire::limits_of(family), p, want)
-}
-
 pub fn read_packet(family: usize, p: &[u8]) -> PacketAnswer
     ensures { λ r. ⌜ packetAs r ≡ answerPacket (limitsOf family) (now (p .entry)) ⌝ }
 {
-    match judge_packet(family, p, 0) {
+    match judge_packet(wire::limits_of(family), p, 0) {
         DataWalk::Taken {
             codec,
             count,
@@ -54,7 +47,7 @@ pub fn read_packet(family: usize, p: &[u8]) -> PacketAnswer
 fn record_count(family: usize, p: &[u8]) -> u8
     ensures { λ r. ⌜ r ≡ acknowledged (readPacket (limitsOf family) (now (p .entry))) ⌝ }
 {
-    match judge_packet(family, p, 0) {
+    match judge_packet(wire::limits_of(family), p, 0) {
         DataWalk::Taken {
             codec: _,
             count,

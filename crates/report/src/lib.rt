@@ -40,9 +40,9 @@ a field's bytes are not all there, or bytes are left over\n\
 IO total wrong\n\
 priority over 2\n\
 generation type over 7\n\
-record over 255 bytes\n\
+record over 255 bytes (family 1)\n\
 message type not allowed for its codec\n\
-text size breaks its rule\n\
+text size breaks its rule, or a command to write is over its family's limit\n\
 IMEI length or digit wrong\n\
 no such record, element or ID\n\
 not the TLV form of any acceptable TCP data packet of the family\n\

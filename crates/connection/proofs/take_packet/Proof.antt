@@ -36,8 +36,8 @@ enum-known-r c = search needs
 enum-told-3 : tie.Need-enum-told-3
 enum-told-3 c = search needs
 
-judge-within-requires : tie.Need-judge-within-requires
-judge-within-requires c κs = search needs
+judge-packet-requires : tie.Need-judge-packet-requires
+judge-packet-requires c κs = search needs
 
 enum-told-4 : tie.Need-enum-told-4
 enum-told-4 c = search needs
@@ -64,11 +64,11 @@ same-length-2 c = search needs
 
 returns-3 : tie.Need-returns-3
 unfolding rowAs isAccepted
-returns-3 c = let p = c .before .before .before .before .before .before .before .before .before .before .before .before .before .args .p .now in let out = c .before .before .before .before .before .before .before .before .before .before .before .before .before .args .out .now in let row = ap isAccepted (sym (c .before .before .before .before .before .before .before .before .before .layout-of .ensures) ∙ ap rowAs (c .before .before .before .before .before .before .before .enum-told3 .given .1)) in let k = data-taken (c .before .before .before .before .before .before .before .before .before .before .before .before .before .args .limits) p row (taken 0 (readPacket (c .before .before .before .before .before .before .before .before .before .before .before .before .before .args .limits) p) (sym (c .before .before .before .before .before .before .judge-within .ensures) ∙ c .before .before .before .before .enum-told4 .given .1) .accepts) in (c .before .before .put-packet2 .ensures .0 ∙ ap (λ r. writing r out) (sym k), c .before .before .put-packet2 .ensures .1 ∙ ap (λ r. leaving r out) (sym k))
+returns-3 c = let p = c .before .before .before .before .before .before .before .before .before .before .before .before .before .args .p .now in let out = c .before .before .before .before .before .before .before .before .before .before .before .before .before .args .out .now in let row = ap isAccepted (sym (c .before .before .before .before .before .before .before .before .before .layout-of .ensures) ∙ ap rowAs (c .before .before .before .before .before .before .before .enum-told3 .given .1)) in let k = data-taken (c .before .before .before .before .before .before .before .before .before .before .before .before .before .args .limits) p row (taken 0 (readPacket (c .before .before .before .before .before .before .before .before .before .before .before .before .before .args .limits) p) (sym (c .before .before .before .before .before .before .judge-packet .ensures) ∙ c .before .before .before .before .enum-told4 .given .1) .accepts) in (c .before .before .put-packet2 .ensures .0 ∙ ap (λ r. writing r out) (sym k), c .before .before .put-packet2 .ensures .1 ∙ ap (λ r. leaving r out) (sym k))
 
 returns-4 : tie.Need-returns-4
 unfolding rowAs isAccepted writtenAs writing leaving onAccepted
-returns-4 c = let p = c .before .before .before .before .before .before .before .before .before .before .args .p .now in let out = c .before .before .before .before .before .before .before .before .before .before .args .out .now in let row = ap isAccepted (sym (c .before .before .before .before .before .before .layout-of .ensures) ∙ ap rowAs (c .before .before .before .before .enum-told3 .given .1)) in let k = data-not (c .before .before .before .before .before .before .before .before .before .before .args .limits) p row (not-taken 0 (readPacket (c .before .before .before .before .before .before .before .before .before .before .args .limits) p) (sym (c .before .before .before .judge-within .ensures) ∙ c .before .r2 .given .1)) in (ap (λ r. writing r out) (sym k), ap (λ r. leaving r out) (sym k))
+returns-4 c = let p = c .before .before .before .before .before .before .before .before .before .before .args .p .now in let out = c .before .before .before .before .before .before .before .before .before .before .args .out .now in let row = ap isAccepted (sym (c .before .before .before .before .before .before .layout-of .ensures) ∙ ap rowAs (c .before .before .before .before .enum-told3 .given .1)) in let k = data-not (c .before .before .before .before .before .before .before .before .before .before .args .limits) p row (not-taken 0 (readPacket (c .before .before .before .before .before .before .before .before .before .before .args .limits) p) (sym (c .before .before .before .judge-packet .ensures) ∙ c .before .r2 .given .1)) in (ap (λ r. writing r out) (sym k), ap (λ r. leaving r out) (sym k))
 
 pub take-packet-spec : {M : Type 1} → statement M
 take-packet-spec =
@@ -82,7 +82,7 @@ take-packet-spec =
     put-packet-requires
     enum-known-r
     enum-told-3
-    judge-within-requires
+    judge-packet-requires
     enum-told-4
     put-packet-requires-2
     enum-known-r-2
