@@ -9,6 +9,14 @@ use crate::refusal::Refusal;
 /// when it is made, and what it gives keeps it. Whatever [`Fmx640`](Family::Fmx640) accepts,
 /// [`Standard`](Family::Standard) accepts with the same result.
 ///
+/// ```
+/// use brundilope::{read_packet, samples, Family};
+///
+/// assert_eq!(read_packet(Family::Standard, samples::LONG_TAGS)?.count, 1);
+/// assert_eq!(read_packet(Family::Fmx640, samples::LONG_TAGS).unwrap_err().number, 12);
+/// # Ok::<(), brundilope::Refusal>(())
+/// ```
+///
 /// It has the number that settings and other programs name it by, and prints it with its units:
 ///
 /// ```

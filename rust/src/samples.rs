@@ -1,4 +1,4 @@
-//! The maker's examples and one of our own, from the files under samples/, for trying things out.
+//! The maker's examples and two of our own, from the files under samples/, for trying things out.
 
 /// The bytes of a line of hexadecimal text.
 const fn hex<const N: usize>(line: &str) -> [u8; N] {
@@ -30,6 +30,9 @@ pub const CODEC8E: &[u8] = &hex::<86>(include_str!("../../samples/codec8e.hex"))
 /// Made, not published: TCP packet, codec 8 Extended, two records with variable values: a driver's name and an empty
 /// value, then two names of the same ID.
 pub const DRIVER_TAGS: &[u8] = &hex::<143>(include_str!("../../samples/driver-tags.hex"));
+/// Made, not published: TCP packet, codec 8 Extended, one record with eleven drivers' names, over the record limit of
+/// [`Family::Fmx640`](crate::Family::Fmx640).
+pub const LONG_TAGS: &[u8] = &hex::<272>(include_str!("../../samples/long-tags.hex"));
 /// TCP packet, codec 16, two records.
 pub const CODEC16: &[u8] = &hex::<107>(include_str!("../../samples/codec16.hex"));
 /// Command `getio`, codec 12.

@@ -193,7 +193,7 @@ fn empty_inputs_get_their_refusals() {
 #[test]
 fn all_samples_are_accepted() {
     use samples::*;
-    for packet in [CODEC8, CODEC8E, DRIVER_TAGS, CODEC16] {
+    for packet in [CODEC8, CODEC8E, DRIVER_TAGS, LONG_TAGS, CODEC16] {
         assert!(read_packet(Family::Standard, packet).is_ok());
     }
     for command in [CODEC12_COMMAND, CODEC12_RESPONSE, CODEC14_COMMAND, CODEC14_RESPONSE] {
