@@ -4,16 +4,14 @@ use native.Mathlib.Omega.{arith}
 use mathlib.Core.Path.{_≡_, refl, sym, ap, _∙_, subst}
 use mathlib.Core.Bool.{true, false}
 use mathlib.Core.List.{List, [], _∷_, _++_}
-use lib.ListN.{length, take, drop, length-drop}
+use lib.ListN.{length, drop, length-drop}
 use lib.Dec.{leb, eqb, lit≤, lit<}
-use borrow.Author.Tests.{le-leb, leb-true, eqb-true}
+use borrow.Author.Tests.{le-leb, leb-true, ne-eqb}
 use Rattle.wire.specs.declared.Limits.{Limits}
-use Rattle.wire.specs.declared.Refusal.{Refusal}
 use Rattle.wire.specs.Limits.{limitsOf, isKnown, Below}
 use Rattle.wire.specs.Numbers.{Bytes, numberAt, be}
 use Rattle.wire.specs.Sequences.{All}
-use Rattle.wire.specs.Reading.{Read}
-use Rattle.wire.specs.Answers.{Answer, accepted, refused, refusal, check, told, onAccepted}
+use Rattle.wire.specs.Answers.{Answer, accepted, refused, refusal, check, onAccepted}
 use Rattle.wire.proofs.LimitLaws.{limits-most, first-second}
 use Rattle.wire.proofs.Widths.{bytes-drop}
 use Rattle.wire.proofs.Accepting.{check-accepted, check-passed, onAccepted-accepted, onAccepted-passed, onAccepted-refused}
@@ -32,14 +30,14 @@ use Rattle.command.specs.Layouts.{types, layoutOf, member}
 use Rattle.command.specs.Commands.{Command, commandField, mismatch, readCommand, answerCommand}
 use Rattle.command.specs.Writing.{givenImei, packetOf, bytesWithin, commandBytes}
 use Rattle.command.proofs.PacketLaws.{command-exact}
-use Rattle.lookup.specs.Lookups.{Source, Found, LastKnown, tcpSource, udpSource, valueInLast, inOlder, orElse, lastKnown}
+use Rattle.lookup.specs.Lookups.{Source, LastKnown, tcpSource, udpSource, valueInLast, inOlder, orElse, lastKnown}
 use Rattle.tlv.specs.Decoding.{decoded}
 use Rattle.tlv.specs.PacketOf.{readForm, formOfPacket, formOfDatagram, packetWithin, packetOfForm}
 use Rattle.tlv.proofs.FormLaws.{form-decoded}
-use Rattle.tlv.proofs.PacketOfLaws.{FormOf, form-exact, form-refusal}
+use Rattle.tlv.proofs.PacketOfLaws.{form-exact, form-refusal}
 use Rattle.contents.specs.Contents.{contentsOfPacket, contentsOfDatagram}
 use Rattle.line.specs.RecordLines.{lineOfPacket, lineOfDatagram, linesOfPacket, linesOfDatagram}
-use Rattle.claims.specs.Families.{SamePacket, SameDatagram, SameCommand, AcceptedToo, Never12, FamiliesKept}
+use Rattle.claims.specs.Families.{SamePacket, SameDatagram, SameCommand, AcceptedToo, Never12, Says21, FamiliesKept}
 use Rattle.claims.proofs.NeverLaws.{NeverSays, says-check, says-then, says-told, says-given, never-header, data-never12}
 
 -- ---- the rules
@@ -260,10 +258,30 @@ no-form family f first rest r known b is many =
     let each = subst (All (RecordRules (limits .longest) (widthsOf (decoded f .codec)))) is (rules .each) in
     omega (arith, few (limits .longest) (widthsOf (decoded f .codec)) first rest r each, many))
 
+-- ---- number 21
+
+no-family : (family : ℕ) → (family ≡ 1 → ⊥) → (family ≡ 2 → ⊥) → limitsOf family ≡ record { largest = 0; datagram = 0; longest = 0 }
+unfolding limitsOf
+no-family family h k = simp (ne-eqb family 1 h, ne-eqb family 2 k)
+
+says-21 : (family : ℕ) → (family ≡ 1 → ⊥) → (family ≡ 2 → ⊥) → Says21 (limitsOf family)
+unfolding readPacket readDatagram readCommand unframe judgeHeader tcpAcknowledgement packetOfForm commandBytes check onAccepted
+says-21 family h k =
+    rw (no-family family h k)
+    (record {
+      packets = λ p. refl;
+      datagrams = λ p. refl;
+      commands = λ p. refl;
+      acknowledgements = λ p. refl;
+      forms = λ f. refl;
+      written = λ codec type imei text. refl;
+    })
+
 pub families-kept : FamiliesKept
 unfolding limitsOf
 families-kept =
     record {
+      others = says-21;
       inOrder = in-order;
       firstInSecond = in-order (limitsOf 1) (limitsOf 2) first-second (lit< tt);
       unlimited = never12;

@@ -1,7 +1,7 @@
 -- A reader that never stops with a number.
 use Prim.Native.Nat.{ℕ, zero, suc, _+_, _-_, _≤_}
 use native.Mathlib.Omega.{arith}
-use mathlib.Core.Path.{_≡_, refl, sym, ap, _∙_}
+use mathlib.Core.Path.{_≡_, refl, ap, _∙_}
 use mathlib.Core.Bool.{Bool, true, false}
 use mathlib.Core.List.{List, [], _∷_}
 use lib.ListN.{length, take, drop, length-take, length-drop}
@@ -19,7 +19,7 @@ use Rattle.datagram.specs.Datagrams.{readHeader}
 use Rattle.avl.specs.declared.Widths.{Widths}
 use Rattle.avl.specs.Codecs.{widthsOf, isDataCodec, kinds}
 use Rattle.avl.specs.DataField.{readData}
-use Rattle.avl.specs.Records.{Element, AvlRecord, elementCount}
+use Rattle.avl.specs.Records.{AvlRecord, elementCount}
 use Rattle.avl.specs.RecordReader.{valueSize, element, group, groups, fixedFields, avlRecord, tagged, inRecord, avlRecords, atEnd, allRecords}
 use Rattle.avl.proofs.RecordLaws.{fixed-exact, groups-exact, record-exact}
 use Rattle.wire.proofs.Exactness.{number-exact}

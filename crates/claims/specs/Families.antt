@@ -66,7 +66,20 @@ pub record Never12 (limits : Limits) : Type 0 where
   pub packets : (p : List ℕ) (r : Refusal) → Bytes p → readPacket limits p ≡ refused r → r .number ≡ 12 → ⊥
   pub datagrams : (p : List ℕ) (r : Refusal) → Bytes p → readDatagram limits p ≡ refused r → r .number ≡ 12 → ⊥
 
+-- ---- number 21
+
+-- whatever is given: no byte of it matters. Look-ups, forms, tables and lines are made of what these read
+pub record Says21 (limits : Limits) : Type 0 where
+  pub packets : (p : List ℕ) → readPacket limits p ≡ refused (refusal 21)
+  pub datagrams : (p : List ℕ) → readDatagram limits p ≡ refused (refusal 21)
+  pub commands : (p : List ℕ) → readCommand limits p ≡ refused (refusal 21)
+  pub acknowledgements : (p : List ℕ) → tcpAcknowledgement limits p ≡ refused (refusal 21)
+  pub forms : (f : List ℕ) → packetOfForm limits f ≡ refused (refusal 21)
+  pub written : (codec type : ℕ) (imei text : List ℕ) → commandBytes limits codec type imei text ≡ refused (refusal 21)
+
 pub record FamiliesKept : Type 0 where
+  -- any number but 1 and 2 is no family
+  pub others : (family : ℕ) → (family ≡ 1 → ⊥) → (family ≡ 2 → ⊥) → Says21 (limitsOf family)
   -- over the order of limits, once for all families to come
   pub inOrder : (a b : Limits) → Below a b → b .longest < 256 ^ 2 → AcceptedToo a b
   pub firstInSecond : AcceptedToo (limitsOf 1) (limitsOf 2)

@@ -57,23 +57,23 @@ fn record_count(family: usize, p: &[u8]) -> u8
     }
 }
 
-fn unwritten(number: usize) -> Written
-    ensures { λ r. ⌜ r ≡ Written.Refused (record { number = number; index = 0 }) ⌝ }
-{
-    Written::Refused(Refusal { number, index: 0 })
-}
-
 // The acknowledgement (the paper's receipt): the number of records in four bytes, zeros for a refused packet; 21 comes first.
 pub fn acknowledge_packet(family: usize, p: &[u8], out: &mut [u8]) -> Written
     ensures answer { λ r. ⌜ writtenAs r ≡ writing (tcpAcknowledgement (limitsOf family) (now (p .entry))) (now (out .entry)) ⌝ }
     ensures buffer { λ r. ⌜ now (out .exit) ≡ leaving (tcpAcknowledgement (limitsOf family) (now (p .entry))) (now (out .entry)) ⌝ }
 {
     if wire::limits_of(family).largest < 1 {
-        return unwritten(21);
+        return Written::Refused(Refusal {
+            number: 21,
+            index: 0,
+        });
     }
     let count = record_count(family, p);
     if out.len() < 4 {
-        return unwritten(18);
+        return Written::Refused(Refusal {
+            number: 18,
+            index: 0,
+        });
     }
     out[0] = 0;
     out[1] = 0;

@@ -1,12 +1,11 @@
 -- What holds of the limits of every family.
 use Prim.Native.Nat.{ℕ, _≤_, _<_}
 use native.Mathlib.Omega.{arith}
-use mathlib.Core.Path.{_≡_, refl}
-use mathlib.Core.Bool.{Bool, true, false}
+use mathlib.Core.Path.{_≡_}
+use mathlib.Core.Bool.{true}
 use lib.Dec.{eqb, lit≤}
 use borrow.Author.Tests.{ne-eqb}
 use Rattle.wire.specs.declared.Limits.{Limits}
-use Rattle.wire.specs.Numbers.{pick}
 use Rattle.wire.specs.Limits.{largestOfAll, limitsOf, isKnown, Below}
 use Rattle.wire.proofs.Accepting.{pick-either, by-length}
 
@@ -23,16 +22,16 @@ limits-most family =
     (record { packets = lit≤ tt; datagrams = lit≤ tt; records = lit≤ tt })
     (pick-either Most (eqb family 2) _ _ (record { packets = lit≤ tt; datagrams = lit≤ tt; records = lit≤ tt }) (record { packets = lit≤ tt; datagrams = lit≤ tt; records = lit≤ tt }))
 
--- a family that is known has room for a login, and for datagrams; of one that is not, no limit is above 0
+-- a family that is known has room for a login
 abbrev Known : Limits → Type 0
-Known limits = (isKnown (limits .largest) ≡ true → 17 ≤ limits .largest) × (isKnown (limits .datagram) ≡ isKnown (limits .largest))
+Known limits = isKnown (limits .largest) ≡ true → 17 ≤ limits .largest
 
 pub limits-known : (family : ℕ) → Known (limitsOf family)
 unfolding limitsOf
 limits-known family =
     pick-either Known (eqb family 1) _ _
-    (λ e. lit≤ tt, refl)
-    (pick-either Known (eqb family 2) _ _ (λ e. lit≤ tt, refl) (λ e. absurd (let z : _≡_ {A = ℕ} 0 1 = cc e in omega arith), refl))
+    (λ e. lit≤ tt)
+    (pick-either Known (eqb family 2) _ _ (λ e. lit≤ tt) (λ e. absurd (let z : _≡_ {A = ℕ} 0 1 = cc e in omega arith)))
 
 -- and its number fits a byte
 pub known-small : (family : ℕ) → 1 ≤ limitsOf family .largest → family < 256

@@ -1,11 +1,9 @@
-use Rattle.wire.specs.declared.Limits.{Limits}
-use Rattle.wire.specs.Limits.{limitsOf}
 use Rattle.wire.specs.Answers.{onAccepted}
 use Rattle.wire.specs.Buffers.{writing, leaving, writtenAs}
 use Rattle.wire.proofs.Accepting.{check-passed, check-failed}
 use Rattle.command.specs.Writing.{bytesWithin, commandBytes}
 use borrow.Author.Tests.{le-leb, lt-leb}
-use mathlib.Core.Path.{_≡_, refl, sym, ap, _∙_}
+use mathlib.Core.Path.{refl, ap}
 use borrow.Author.Needs.{needs}
 use Rattle.command.proofs.write_command.Statement.{statement}
 use Rattle.command.proofs.write_command.Tie as tie

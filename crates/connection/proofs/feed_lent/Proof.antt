@@ -20,7 +20,7 @@ use Rattle.connection.proofs.feed_lent.Tie as tie
 roomy : (family : ℕ) {limits : Limits} (g : Gathered) → limits ≡ limitsOf family → opened limits 1280 g ≡ accepted (heldBy g) → (limits .largest ≤ 1280) × (17 ≤ limits .largest)
 roomy family {limits} g e o =
     let known = open-is limits 1280 g o .0 .known in
-    (subst Most (sym e) (limits-most family) .packets, subst (λ (l : Limits). isKnown (l .largest) ≡ true → 17 ≤ l .largest) (sym e) (limits-known family .0) (le-leb 1 (limits .largest) known))
+    (subst Most (sym e) (limits-most family) .packets, subst (λ (l : Limits). isKnown (l .largest) ≡ true → 17 ≤ l .largest) (sym e) (limits-known family) (le-leb 1 (limits .largest) known))
 
 limits-of-requires : tie.Need-limits-of-requires
 limits-of-requires c κs = search needs

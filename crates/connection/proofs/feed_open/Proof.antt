@@ -3,7 +3,6 @@ use Rattle.connection.proofs.FeedLaws.{by-taken}
 use Rattle.connection.specs.Feeding.{outcome}
 use lib.Dec.{lit≤}
 use mathlib.Core.Path.{sym, _∙_}
-use native.Mathlib.Omega.{arith}
 use borrow.Author.Needs.{needs}
 use Rattle.connection.proofs.feed_open.Statement.{statement}
 use Rattle.connection.proofs.feed_open.Tie as tie

@@ -16,28 +16,22 @@ use Rattle.packet.proofs.acknowledge_packet.Tie as tie
 limits-of-requires : tie.Need-limits-of-requires
 limits-of-requires c κs = search needs
 
-unwritten-requires : tie.Need-unwritten-requires
-unwritten-requires c κs = search needs
-
 returns : tie.Need-returns
 unfolding writtenAs writing leaving onAccepted
-returns c = let limits = limitsOf (c .before .before .before .before .before .before .args .family) in
-    let least : limits .largest < 1 = omega (arith, c .before .if1 .taken, ap (λ (l : Limits). l .largest) (c .before .before .before .limits-of .ensures)) in
-    rw (unknown-family limits (c .before .before .before .before .before .before .args .p .now) least) (ap writtenAs (c .unwritten .ensures), refl)
+returns c = let limits = limitsOf (c .before .before .before .before .before .args .family) in
+    let least : limits .largest < 1 = omega (arith, c .if1 .taken, ap (λ (l : Limits). l .largest) (c .before .before .limits-of .ensures)) in
+    rw (unknown-family limits (c .before .before .before .before .before .args .p .now) least) (refl, refl)
 
 record-count-requires : tie.Need-record-count-requires
 record-count-requires c κs = search needs
 
-unwritten-requires-2 : tie.Need-unwritten-requires-2
-unwritten-requires-2 c κs = search needs
-
 returns-2 : tie.Need-returns-2
 unfolding writtenAs
-returns-2 c = let limits = limitsOf (c .before .before .before .before .before .before .before .before .args .family) in
-    let bytes : List ℕ = 0 ∷ 0 ∷ 0 ∷ c .before .before .record-count .result ∷ [] in
-    let least : 1 ≤ limits .largest = omega (arith, c .before .before .before .if1 .left, ap (λ (l : Limits). l .largest) (c .before .before .before .before .before .limits-of .ensures)) in
-    rw (acknowledgement-bytes limits (c .before .before .before .before .before .before .before .before .args .p .now) (c .before .before .record-count .ensures) (c .before .before .record-count .ok) least)
-    (ap writtenAs (c .unwritten2 .ensures) ∙ sym (writing-short bytes (c .before .before .before .before .before .before .before .before .args .out .now) (c .before .if2 .taken)), sym (leaving-short bytes (c .before .before .before .before .before .before .before .before .args .out .now) (c .before .if2 .taken)))
+returns-2 c = let limits = limitsOf (c .before .before .before .before .before .before .before .args .family) in
+    let bytes : List ℕ = 0 ∷ 0 ∷ 0 ∷ c .before .record-count .result ∷ [] in
+    let least : 1 ≤ limits .largest = omega (arith, c .before .before .if1 .left, ap (λ (l : Limits). l .largest) (c .before .before .before .before .limits-of .ensures)) in
+    rw (acknowledgement-bytes limits (c .before .before .before .before .before .before .before .args .p .now) (c .before .record-count .ensures) (c .before .record-count .ok) least)
+    (sym (writing-short bytes (c .before .before .before .before .before .before .before .args .out .now) (c .if2 .taken)), sym (leaving-short bytes (c .before .before .before .before .before .before .before .args .out .now) (c .if2 .taken)))
 
 slice-write-out : tie.Need-slice-write-out
 slice-write-out c = search needs
@@ -67,10 +61,8 @@ acknowledge-packet-spec =
     tie.close
     (tie.spec
     limits-of-requires
-    unwritten-requires
     returns
     record-count-requires
-    unwritten-requires-2
     returns-2
     slice-write-out
     slice-write-out-2

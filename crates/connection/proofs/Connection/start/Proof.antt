@@ -1,5 +1,4 @@
 use Rattle.connection.specs.State.{padded, phaseNumber, kept, fresh, started}
-use Rattle.connection.specs.declared.Started.{Started}
 use Rattle.wire.specs.declared.Limits.{Limits}
 use Rattle.wire.specs.Limits.{limitsOf}
 use Rattle.wire.specs.Answers.{refusal}
@@ -7,7 +6,7 @@ use Rattle.wire.proofs.LimitLaws.{known-small}
 use Rattle.wire.proofs.Accepting.{pick-true, pick-false}
 use borrow.Author.Tests.{le-leb, lt-leb}
 use mathlib.Core.List.{List}
-use mathlib.Core.Path.{_≡_, sym, ap, _∙_}
+use mathlib.Core.Path.{sym, ap, _∙_}
 use Prim.Native.Nat.{ℕ, _≤_, _<_}
 use native.Mathlib.Omega.{arith}
 use borrow.Author.Needs.{needs}
