@@ -2,9 +2,10 @@
  * Brundilope: packets of Teltonika AVL trackers, read and written.
  *
  * Every call judges its input itself and answers every input. `number` is 0 where the input is accepted. Else it is
- * the refusal's number, and `index` is the record's index from 0, which goes with 8 to 12 in data packets and
- * datagrams (left-over bytes: the number of records). `index` is 0 otherwise, and on a refusal all other fields are 0;
- * only a feed still says how many bytes it used, and a feed or a start what the connection's state is.
+ * the refusal's number, `index` is the record's index from 0, which goes with 8 to 12 in data packets and datagrams
+ * (left-over bytes: the number of records), and `place` is the offset at which the offending field starts in the
+ * input. Both are 0 otherwise, and on a refusal all other fields are 0; only a feed still says how many bytes it used,
+ * and a feed or a start what the connection's state is.
  *
  *    1  under 8 bytes (TCP packet), 17 (login), 26 (UDP)
  *    2  first four bytes not zero
@@ -27,6 +28,25 @@
  *   19  connection closed, or a state that no feeds from a fresh one give
  *   20  not a billing line
  *   21  unknown family
+ *
+ * `place`, counted from the first byte of the packet, datagram or login, in a feed from the first byte of the item:
+ *
+ *    2  0
+ *    3  4, the data length; 0 on a datagram
+ *    5  the CRC field
+ *    6  the codec
+ *    7  the first count if that is 0 (a quantity: if it is not 1), else the second
+ *    8  the first field whose bytes are not all there, each row of the layout being a field (an ID, a length, a value);
+ *       or the first of the bytes that are left over. It may be where the input ends
+ *    9  the record, as 12
+ *   10  the priority
+ *   11  the generation type
+ *   13  the message type
+ *   14  the size; with type 0x11 the text
+ *   15  the length of the IMEI; else the byte of its first wrong digit
+ *
+ * It is 0 with all other numbers, and where a writer refuses its own arguments (6, 13, 14, 15). A call that reads a
+ * packet to write something else of it, or to look something up, gives the packet's own.
  *
  * A call that judges or builds a packet or datagram names the family of the unit as a number, its first argument; a
  * connection names it when it starts. There are two, and whatever family 1 accepts, family 2 accepts with the same
@@ -77,6 +97,7 @@ extern "C" {
 struct brundilope_packet {
     size_t number;
     size_t index;
+    size_t place;
     uint8_t codec; /* 0x08, 0x8E or 0x10 */
     uint8_t count; /* of records, 1 to 255 */
 };
@@ -85,6 +106,7 @@ struct brundilope_packet {
 struct brundilope_datagram {
     size_t number;
     size_t index;
+    size_t place;
     uint8_t codec; /* 0x08, 0x8E or 0x10 */
     uint8_t count; /* of records, 1 to 255 */
     uint16_t packet_id;
@@ -97,6 +119,7 @@ struct brundilope_datagram {
 struct brundilope_login {
     size_t number;
     size_t index;
+    size_t place;
     uint64_t imei; /* below 10^15 */
 };
 
@@ -104,6 +127,7 @@ struct brundilope_login {
 struct brundilope_command {
     size_t number;
     size_t index;
+    size_t place;
     uint8_t codec; /* 0x0C or 0x0E */
     uint8_t type;  /* 0x05 command, 0x06 response, 0x11 IMEI doesn't match (0x0E only) */
     uint64_t imei; /* below 10^15; 0 in 0x0C */
@@ -115,6 +139,7 @@ struct brundilope_command {
 struct brundilope_record {
     size_t number;
     size_t index;
+    size_t place;
     uint64_t timestamp; /* ms since 1970, UTC */
     uint8_t priority;   /* 0 to 2 */
     int32_t longitude;  /* degrees times 10^7, as latitude */
@@ -132,6 +157,7 @@ struct brundilope_record {
 struct brundilope_value {
     size_t number;
     size_t index;
+    size_t place;
     uint16_t id;
     uint8_t kind; /* 1, 2, 4, 8: a value of so many bytes; 9: of variable length, which may be 0 */
     size_t offset;
@@ -142,6 +168,7 @@ struct brundilope_value {
 struct brundilope_known {
     size_t number;
     size_t index;
+    size_t place;
     bool older; /* the value is in the older packet, else in the newer */
     uint16_t id;
     uint8_t kind;
@@ -153,6 +180,7 @@ struct brundilope_known {
 struct brundilope_written {
     size_t number;
     size_t index;
+    size_t place;
     size_t written;
 };
 
@@ -160,6 +188,7 @@ struct brundilope_written {
 struct brundilope_line {
     size_t number;
     size_t index;
+    size_t place;
     uint64_t timestamp; /* ms since 1970, UTC */
     int32_t longitude;  /* degrees times 10^7, as latitude */
     int32_t latitude;
@@ -172,6 +201,7 @@ struct brundilope_line {
 struct brundilope_line_element {
     size_t number;
     size_t index;
+    size_t place;
     uint16_t id;
     bool tag;       /* a value of variable length, else one of 1, 2, 4 or 8 bytes */
     uint64_t value; /* its number; 0 for a tag */
@@ -336,6 +366,7 @@ struct brundilope_connection {
 struct brundilope_started {
     size_t number;
     size_t index;
+    size_t place;
     struct brundilope_connection state;
 };
 
@@ -343,6 +374,7 @@ struct brundilope_started {
 struct brundilope_fed {
     size_t number;
     size_t index;
+    size_t place;
     size_t used;   /* how many of the bytes were used */
     uint8_t item;  /* 1 a login, 2 a packet; 0 none: more bytes are needed, unless `number` says why */
     uint64_t imei; /* of the login, below 10^15; else 0 */
@@ -355,6 +387,7 @@ struct brundilope_fed {
 struct brundilope_taken {
     size_t number;
     size_t index;
+    size_t place;
     size_t used;
     uint8_t item;
     uint64_t imei;

@@ -23,11 +23,11 @@ use Rattle.avl.proofs.RecordLaws.{all-sound, all-complete}
 data-sound : (longest : ℕ) (d : List ℕ) (a : AvlData) → Bytes d → 3 ≤ length d → readData longest d ≡ accepted a → DataRules longest a × (d ≡ dataBytes a)
 unfolding readData dataBytes
 data-sound longest d a h l e =
-    let c₁ = check-accepted (isDataCodec (codecOf d)) 6 _ e in
-    let c₂ = check-accepted _ 7 _ (c₁ .1) in
-    let c₃ = check-accepted _ 7 _ (c₂ .1) in
+    let c₁ = check-accepted (isDataCodec (codecOf d)) 6 _ _ e in
+    let c₂ = check-accepted _ 7 _ _ (c₁ .1) in
+    let c₃ = check-accepted _ 7 _ _ (c₂ .1) in
     let c₄ = onAccepted-accepted _ _ (c₃ .1) in
-    let c₅ = told-accepted _ (c₄ .1) in
+    let c₅ = told-accepted _ _ (c₄ .1) in
     let rs = c₄ .0 in
     let w = all-sound longest (widthsOf (codecOf d)) (firstCount d) (inner d) (bytes-inner d h) .if-got _ _ (c₅ .1) in
     let small : firstCount d < 256 = first-lt d h in
@@ -49,22 +49,22 @@ codec-fits codec e = go (eqb codec 0x08) (eqb codec 0x8E) refl refl e
 
 -- with a known codec and equal counts, a data field is what the walk makes of its space
 pub data-walked : (longest codec count : ℕ) (b : List ℕ) → isDataCodec codec ≡ true → 1 ≤ count → count ≤ 255
-    → readData longest (enclosed codec count b) ≡ onAccepted (told (allRecords longest (widthsOf codec) count b 0)) (λ rs. accepted (record { codec = codec; records = rs }))
+    → readData longest (enclosed codec count b) ≡ onAccepted (told 2 (allRecords longest (widthsOf codec) count b 0)) (λ rs. accepted (record { codec = codec; records = rs }))
 unfolding readData
 data-walked longest codec count b known some few =
     let c = codec-fits codec known in
     let m : count < 256 = omega arith in
     simp (codec-enclosed codec count b c m, first-enclosed codec count b c m, last-enclosed codec count b c m, inner-enclosed codec count b c m)
-    (check-passed _ 6 _ known
-    ∙ check-passed _ 7 _ (le-leb 1 count some)
-    ∙ check-passed _ 7 _ (eq-eqb count count refl))
+    (check-passed _ 6 _ _ known
+    ∙ check-passed _ 7 _ _ (le-leb 1 count some)
+    ∙ check-passed _ 7 _ _ (eq-eqb count count refl))
 
 pub data-complete : (longest : ℕ) (a : AvlData) → DataRules longest a → readData longest (dataBytes a) ≡ accepted a
 unfolding dataBytes
 data-complete longest a h =
     let w = widthsOf (a .codec) in
     data-walked longest (a .codec) (length (a .records)) (joined (recordBytes w) (a .records)) (h .codecKnown) (h .someRecords) (h .countFits)
-    ∙ onAccepted-passed _ _ (told-got _ (all-complete longest w (a .records) (h .each)))
+    ∙ onAccepted-passed _ _ (told-got _ _ (all-complete longest w (a .records) (h .each)))
 
 -- the judge accepts exactly what keeps the rules
 pub data-exact : (longest : ℕ) (d : List ℕ) (a : AvlData) → Bytes d → 3 ≤ length d

@@ -49,11 +49,11 @@ module _ (d : List ℕ) where
   pub field-read : (longest : ℕ) (a : AvlData) → readData longest d ≡ accepted a → FieldRead a
   unfolding readData codecOf firstCount inner
   field-read longest a e =
-      let c₁ = check-accepted _ 6 _ e in
-      let c₂ = check-accepted _ 7 _ (c₁ .1) in
-      let c₃ = check-accepted _ 7 _ (c₂ .1) in
+      let c₁ = check-accepted _ 6 _ _ e in
+      let c₂ = check-accepted _ 7 _ _ (c₁ .1) in
+      let c₃ = check-accepted _ 7 _ _ (c₂ .1) in
       let c₄ = onAccepted-accepted _ _ (c₃ .1) in
-      let c₅ = told-accepted _ (c₄ .1) in
+      let c₅ = told-accepted _ _ (c₄ .1) in
       let r = all-read longest (widthsOf codec) count (inner d) 0 .if-got _ _ (c₅ .1) in
       let same : length d - 1 - 2 ≡ length d - 3 = omega arith in
       record {

@@ -7,7 +7,7 @@ use mathlib.Core.List.{List, _∷_, _++_}
 use lib.ListN.{length, take, drop, length-append}
 use lib.Dec.{eqb, leb}
 use borrow.Author.Tests.{leb-true, leb-false, eqb-false}
-use Rattle.wire.specs.declared.Fault.{Fault}
+use Rattle.wire.specs.declared.Refusal.{Refusal}
 use Rattle.wire.specs.Numbers.{Bytes, numberAt, be, pick}
 use Rattle.wire.proofs.Widths.{length-digits}
 use Rattle.wire.specs.Reading.{Read, got, bad, Reader, _>>=_, _>>_, pure, here, require, number, bytes, upTo, repeat}
@@ -23,11 +23,11 @@ module _ {A : Type 0} {Q : A → ℕ → Type 0} {r : Read A} where
   pub meets-is : {q : Read A} → r ≡ q → Meets q Q → Meets r Q
   meets-is e h = record { if-got = λ a n k. h .if-got a n (sym e ∙ k) }
 
-  meets-not : {x : Fault} → r ≡ bad x → Meets r Q
+  meets-not : {x : Refusal} → r ≡ bad x → Meets r Q
   meets-not e = record { if-got = λ a n k. absurd (let z : _≡_ {A = ℕ} 0 1 = cc in omega arith) }
 
   -- by which way a test goes
-  meets-either : (a b : ℕ) → (a ≤ b → Meets r Q) → (b < a → (x : Fault) × (r ≡ bad x)) → Meets r Q
+  meets-either : (a b : ℕ) → (a ≤ b → Meets r Q) → (b < a → (x : Refusal) × (r ≡ bad x)) → Meets r Q
   meets-either a b h k = go (leb a b) refl
     where
       go : (t : Bool) → leb a b ≡ t → Meets r Q

@@ -4,3 +4,4 @@ pub mod ByteLaws
 pub mod Samples
 pub mod Inversion
 pub mod FieldLaws
+pub mod OffendingLaws

@@ -32,18 +32,19 @@ use Rattle.capi.specs.declared.LineC.{LineC}
 use Rattle.capi.specs.declared.LineElementC.{LineElementC}
 
 unfoldable pub flatWritten : Answer ℕ → WrittenC
-flatWritten (accepted n) = record { number = 0; index = 0; written = n }
-flatWritten (refused x) = record { number = x .number; index = x .index; written = 0 }
+flatWritten (accepted n) = record { number = 0; index = 0; place = 0; written = n }
+flatWritten (refused x) = record { number = x .number; index = x .index; place = x .place; written = 0 }
 
 unfoldable pub flatPacket : Answer DataResult → PacketC
-flatPacket (accepted d) = record { number = 0; index = 0; codec = d .codec; count = d .count }
-flatPacket (refused x) = record { number = x .number; index = x .index; codec = 0; count = 0 }
+flatPacket (accepted d) = record { number = 0; index = 0; place = 0; codec = d .codec; count = d .count }
+flatPacket (refused x) = record { number = x .number; index = x .index; place = x .place; codec = 0; count = 0 }
 
 unfoldable pub flatDatagram : Answer DatagramResult → DatagramC
 flatDatagram (accepted g) =
     record {
       number = 0;
       index = 0;
+      place = 0;
       codec = g .payload .codec;
       count = g .payload .count;
       packet = g .header .packet;
@@ -51,15 +52,15 @@ flatDatagram (accepted g) =
       avl = g .header .avl;
       imei = g .header .imei;
     }
-flatDatagram (refused x) = record { number = x .number; index = x .index; codec = 0; count = 0; packet = 0; unused = 0; avl = 0; imei = 0 }
+flatDatagram (refused x) = record { number = x .number; index = x .index; place = x .place; codec = 0; count = 0; packet = 0; unused = 0; avl = 0; imei = 0 }
 
 unfoldable pub flatLogin : Answer ℕ → LoginC
-flatLogin (accepted imei) = record { number = 0; index = 0; imei = imei }
-flatLogin (refused x) = record { number = x .number; index = x .index; imei = 0 }
+flatLogin (accepted imei) = record { number = 0; index = 0; place = 0; imei = imei }
+flatLogin (refused x) = record { number = x .number; index = x .index; place = x .place; imei = 0 }
 
 unfoldable pub flatCommand : Answer CommandFields → CommandC
-flatCommand (accepted f) = record { number = 0; index = 0; codec = f .codec; kind = f .kind; imei = f .imei; offset = f .offset; size = f .size }
-flatCommand (refused x) = record { number = x .number; index = x .index; codec = 0; kind = 0; imei = 0; offset = 0; size = 0 }
+flatCommand (accepted f) = record { number = 0; index = 0; place = 0; codec = f .codec; kind = f .kind; imei = f .imei; offset = f .offset; size = f .size }
+flatCommand (refused x) = record { number = x .number; index = x .index; place = x .place; codec = 0; kind = 0; imei = 0; offset = 0; size = 0 }
 
 -- 1 a login, 2 a packet, else 0; what belongs to none of these is 0
 unfoldable pub itemNumber : Item → ℕ
@@ -86,6 +87,7 @@ flatLent l =
     record {
       number = itemRefusal (l .item) .number;
       index = itemRefusal (l .item) .index;
+      place = itemRefusal (l .item) .place;
       used = l .used;
       item = itemNumber (l .item);
       imei = itemImei (l .item);
@@ -96,13 +98,14 @@ flatLent l =
 
 -- of a start
 unfoldable pub flatStarted : Started → StartedC
-flatStarted s = record { number = s .refusal .number; index = s .refusal .index; state = s .state }
+flatStarted s = record { number = s .refusal .number; index = s .refusal .index; place = s .refusal .place; state = s .state }
 
 unfoldable pub flatFed : Fed → FedC
 flatFed f =
     record {
       number = itemRefusal (f .item) .number;
       index = itemRefusal (f .item) .index;
+      place = itemRefusal (f .item) .place;
       used = f .used;
       item = itemNumber (f .item);
       imei = itemImei (f .item);
@@ -116,6 +119,7 @@ flatRecord (accepted f) =
     record {
       number = 0;
       index = 0;
+      place = 0;
       timestamp = f .timestamp;
       priority = f .priority;
       longitude = f .longitude;
@@ -132,6 +136,7 @@ flatRecord (refused x) =
     record {
       number = x .number;
       index = x .index;
+      place = x .place;
       timestamp = 0;
       priority = 0;
       longitude = pos 0;
@@ -146,19 +151,20 @@ flatRecord (refused x) =
     }
 
 unfoldable pub flatValue : Answer Value → ValueC
-flatValue (accepted v) = record { number = 0; index = 0; id = v .id; kind = v .kind; offset = v .offset; size = v .size }
-flatValue (refused x) = record { number = x .number; index = x .index; id = 0; kind = 0; offset = 0; size = 0 }
+flatValue (accepted v) = record { number = 0; index = 0; place = 0; id = v .id; kind = v .kind; offset = v .offset; size = v .size }
+flatValue (refused x) = record { number = x .number; index = x .index; place = x .place; id = 0; kind = 0; offset = 0; size = 0 }
 
 unfoldable pub flatKnown : Answer KnownResult → KnownC
 flatKnown (accepted k) =
-    record { number = 0; index = 0; older = k .older; id = k .value .id; kind = k .value .kind; offset = k .value .offset; size = k .value .size }
-flatKnown (refused x) = record { number = x .number; index = x .index; older = false; id = 0; kind = 0; offset = 0; size = 0 }
+    record { number = 0; index = 0; place = 0; older = k .older; id = k .value .id; kind = k .value .kind; offset = k .value .offset; size = k .value .size }
+flatKnown (refused x) = record { number = x .number; index = x .index; place = x .place; older = false; id = 0; kind = 0; offset = 0; size = 0 }
 
 unfoldable pub flatLine : Answer LineFields → LineC
 flatLine (accepted f) =
     record {
       number = 0;
       index = 0;
+      place = 0;
       timestamp = f .timestamp;
       longitude = f .longitude;
       latitude = f .latitude;
@@ -167,8 +173,8 @@ flatLine (accepted f) =
       start = f .start;
     }
 flatLine (refused x) =
-    record { number = x .number; index = x .index; timestamp = 0; longitude = pos 0; latitude = pos 0; speed = 0; elements = 0; start = 0 }
+    record { number = x .number; index = x .index; place = x .place; timestamp = 0; longitude = pos 0; latitude = pos 0; speed = 0; elements = 0; start = 0 }
 
 unfoldable pub flatElement : Answer LineElement → LineElementC
-flatElement (accepted e) = record { number = 0; index = 0; id = e .id; tag = e .tag; value = e .value; size = e .size; next = e .next }
-flatElement (refused x) = record { number = x .number; index = x .index; id = 0; tag = false; value = 0; size = 0; next = 0 }
+flatElement (accepted e) = record { number = 0; index = 0; place = 0; id = e .id; tag = e .tag; value = e .value; size = e .size; next = e .next }
+flatElement (refused x) = record { number = x .number; index = x .index; place = x .place; id = 0; tag = false; value = 0; size = 0; next = 0 }

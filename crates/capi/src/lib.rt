@@ -1,4 +1,4 @@
-// The calls for C: flat answers. `number` is 0 where the input is accepted, else the refusal's number, with the record's index in `index`; all other fields are then 0.
+// The calls for C: flat answers. `number` is 0 where the input is accepted, else the refusal's number, with the record's index in `index` and the offending field's offset in `place`; all other fields are then 0.
 use command::CommandAnswer;
 use connection::Connection;
 use connection::Item;
@@ -38,6 +38,7 @@ ghost use Rattle.scan.specs.Answers.{answerLine, elementAs, answerElement, leav
 pub struct WrittenC {
     pub number: usize,
     pub index: usize,
+    pub place: usize,
     pub written: usize,
 }
 
@@ -45,6 +46,7 @@ pub struct WrittenC {
 pub struct PacketC {
     pub number: usize,
     pub index: usize,
+    pub place: usize,
     pub codec: u8,
     pub count: u8,
 }
@@ -53,6 +55,7 @@ pub struct PacketC {
 pub struct DatagramC {
     pub number: usize,
     pub index: usize,
+    pub place: usize,
     pub codec: u8,
     pub count: u8,
     pub packet: u16,
@@ -65,6 +68,7 @@ pub struct DatagramC {
 pub struct LoginC {
     pub number: usize,
     pub index: usize,
+    pub place: usize,
     pub imei: u64,
 }
 
@@ -72,6 +76,7 @@ pub struct LoginC {
 pub struct CommandC {
     pub number: usize,
     pub index: usize,
+    pub place: usize,
     pub codec: u8,
     pub kind: u8,
     pub imei: u64,
@@ -86,11 +91,13 @@ fn flat_written(w: Written) -> WrittenC
         Written::Bytes(n) => WrittenC {
             number: 0,
             index: 0,
+            place: 0,
             written: n,
         },
         Written::Refused(r) => WrittenC {
             number: r.number,
             index: r.index,
+            place: r.place,
             written: 0,
         },
     }
@@ -104,12 +111,14 @@ pub extern "C" fn brundilope_read_packet(family: usize, p: &[u8]) -> PacketC
         PacketAnswer::Accepted { codec, count } => PacketC {
             number: 0,
             index: 0,
+            place: 0,
             codec,
             count,
         },
         PacketAnswer::Refused(r) => PacketC {
             number: r.number,
             index: r.index,
+            place: r.place,
             codec: 0,
             count: 0,
         },
@@ -136,6 +145,7 @@ pub extern "C" fn brundilope_read_datagram(family: usize, p: &[u8]) -> DatagramC
         } => DatagramC {
             number: 0,
             index: 0,
+            place: 0,
             codec,
             count,
             packet: header.packet,
@@ -146,6 +156,7 @@ pub extern "C" fn brundilope_read_datagram(family: usize, p: &[u8]) -> DatagramC
         DatagramAnswer::Refused(r) => DatagramC {
             number: r.number,
             index: r.index,
+            place: r.place,
             codec: 0,
             count: 0,
             packet: 0,
@@ -176,11 +187,13 @@ pub extern "C" fn brundilope_read_login(p: &[u8]) -> LoginC
         LoginAnswer::Imei(imei) => LoginC {
             number: 0,
             index: 0,
+            place: 0,
             imei,
         },
         LoginAnswer::Refused(r) => LoginC {
             number: r.number,
             index: r.index,
+            place: r.place,
             imei: 0,
         },
     }
@@ -202,6 +215,7 @@ pub extern "C" fn brundilope_read_command(family: usize, p: &[u8]) -> CommandC
         CommandAnswer::Accepted(f) => CommandC {
             number: 0,
             index: 0,
+            place: 0,
             codec: f.codec,
             kind: f.kind,
             imei: f.imei,
@@ -211,6 +225,7 @@ pub extern "C" fn brundilope_read_command(family: usize, p: &[u8]) -> CommandC
         CommandAnswer::Refused(r) => CommandC {
             number: r.number,
             index: r.index,
+            place: r.place,
             codec: 0,
             kind: 0,
             imei: 0,
@@ -241,6 +256,7 @@ pub extern "C" fn brundilope_write_command(
 pub struct RecordC {
     pub number: usize,
     pub index: usize,
+    pub place: usize,
     pub timestamp: u64,
     pub priority: u8,
     pub longitude: i32,
@@ -258,6 +274,7 @@ pub struct RecordC {
 pub struct ValueC {
     pub number: usize,
     pub index: usize,
+    pub place: usize,
     pub id: u16,
     pub kind: u8,
     pub offset: usize,
@@ -268,6 +285,7 @@ pub struct ValueC {
 pub struct KnownC {
     pub number: usize,
     pub index: usize,
+    pub place: usize,
     pub older: bool,
     pub id: u16,
     pub kind: u8,
@@ -282,6 +300,7 @@ fn flat_record(a: RecordAnswer) -> RecordC
         RecordAnswer::Fields(f) => RecordC {
             number: 0,
             index: 0,
+            place: 0,
             timestamp: f.timestamp,
             priority: f.priority,
             longitude: f.longitude,
@@ -297,6 +316,7 @@ fn flat_record(a: RecordAnswer) -> RecordC
         RecordAnswer::Refused(r) => RecordC {
             number: r.number,
             index: r.index,
+            place: r.place,
             timestamp: 0,
             priority: 0,
             longitude: 0,
@@ -319,6 +339,7 @@ fn flat_value(a: ValueAnswer) -> ValueC
         ValueAnswer::Found(v) => ValueC {
             number: 0,
             index: 0,
+            place: 0,
             id: v.id,
             kind: v.kind,
             offset: v.offset,
@@ -327,6 +348,7 @@ fn flat_value(a: ValueAnswer) -> ValueC
         ValueAnswer::Refused(r) => ValueC {
             number: r.number,
             index: r.index,
+            place: r.place,
             id: 0,
             kind: 0,
             offset: 0,
@@ -395,6 +417,7 @@ pub extern "C" fn brundilope_last_known(
         KnownAnswer::Found { older: past, value } => KnownC {
             number: 0,
             index: 0,
+            place: 0,
             older: past,
             id: value.id,
             kind: value.kind,
@@ -404,6 +427,7 @@ pub extern "C" fn brundilope_last_known(
         KnownAnswer::Refused(r) => KnownC {
             number: r.number,
             index: r.index,
+            place: r.place,
             older: false,
             id: 0,
             kind: 0,
@@ -472,6 +496,7 @@ pub extern "C" fn brundilope_packet_of_form(family: usize, f: &[u8], out: &mut [
 pub struct FedC {
     pub number: usize,
     pub index: usize,
+    pub place: usize,
     pub used: usize,
     pub item: u8,
     pub imei: u64,
@@ -485,6 +510,7 @@ pub struct FedC {
 pub struct LentC {
     pub number: usize,
     pub index: usize,
+    pub place: usize,
     pub used: usize,
     pub item: u8,
     pub imei: u64,
@@ -498,6 +524,7 @@ pub struct LentC {
 pub struct StartedC {
     pub number: usize,
     pub index: usize,
+    pub place: usize,
     pub state: Connection,
 }
 
@@ -511,6 +538,7 @@ pub extern "C" fn brundilope_start(family: usize) -> StartedC
     StartedC {
         number: refusal.number,
         index: refusal.index,
+        place: refusal.place,
         state,
     }
 }
@@ -529,6 +557,7 @@ fn flat_lent(l: Lent) -> LentC
     let mut r = LentC {
         number: 0,
         index: 0,
+        place: 0,
         used: l.used,
         item: 0,
         imei: 0,
@@ -549,6 +578,7 @@ fn flat_lent(l: Lent) -> LentC
         Item::Refused(x) => {
             r.number = x.number;
             r.index = x.index;
+            r.place = x.place;
         }
     }
     r
@@ -587,6 +617,7 @@ pub extern "C" fn brundilope_feed(state: Connection, bytes: &[u8]) -> FedC
     FedC {
         number: flat.number,
         index: flat.index,
+        place: flat.place,
         used: flat.used,
         item: flat.item,
         imei: flat.imei,
@@ -609,6 +640,7 @@ pub extern "C" fn brundilope_wanted(family: usize, phase: u8, fill: usize, held:
 pub struct LineC {
     pub number: usize,
     pub index: usize,
+    pub place: usize,
     pub timestamp: u64,
     pub longitude: i32,
     pub latitude: i32,
@@ -621,6 +653,7 @@ pub struct LineC {
 pub struct LineElementC {
     pub number: usize,
     pub index: usize,
+    pub place: usize,
     pub id: u16,
     pub tag: bool,
     pub value: u64,
@@ -678,6 +711,7 @@ pub extern "C" fn brundilope_read_line(s: &[u8]) -> LineC
         LineAnswer::Fields(f) => LineC {
             number: 0,
             index: 0,
+            place: 0,
             timestamp: f.timestamp,
             longitude: f.longitude,
             latitude: f.latitude,
@@ -688,6 +722,7 @@ pub extern "C" fn brundilope_read_line(s: &[u8]) -> LineC
         LineAnswer::Refused(r) => LineC {
             number: r.number,
             index: r.index,
+            place: r.place,
             timestamp: 0,
             longitude: 0,
             latitude: 0,
@@ -705,6 +740,7 @@ fn flat_element(a: LineElementAnswer) -> LineElementC
         LineElementAnswer::Found(e) => LineElementC {
             number: 0,
             index: 0,
+            place: 0,
             id: e.id,
             tag: e.tag,
             value: e.value,
@@ -714,6 +750,7 @@ fn flat_element(a: LineElementAnswer) -> LineElementC
         LineElementAnswer::Refused(r) => LineElementC {
             number: r.number,
             index: r.index,
+            place: r.place,
             id: 0,
             tag: false,
             value: 0,

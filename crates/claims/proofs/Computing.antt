@@ -1,5 +1,5 @@
 -- Naming `computing` on an `unfolding` line opens all that the tables compute with.
-use Rattle.wire.specs.Answers.{onAccepted, told, check}
+use Rattle.wire.specs.Answers.{onAccepted, from, told, unplaced, checkAt}
 use Rattle.wire.specs.Limits.{limitsOf}
 use Rattle.wire.specs.Envelope.{enclosed, codecOf, firstCount, lastCount, inner}
 use Rattle.wire.specs.Imei.{textDigit, readImei, packed, pairUpTo, readPacked}
@@ -44,5 +44,5 @@ use Rattle.scan.specs.Walking.{lineResult}
 use Rattle.scan.specs.Answers.{answerLine, lineAs, tagBytes, elementResult, answerElement, leavingElement, elementAs}
 
 unfoldable pub computing : Unit {0}
-unfolding onAccepted told check limitsOf enclosed codecOf firstCount lastCount inner textDigit readImei packed pairUpTo readPacked numberAt digits valueFrom littleAt le signed andThen _>>=_ _>>_ pure here require span number bytes upTo repeat feedback shift shifts absorb crcFrom crc framed fieldLength fieldOf unframe lastFour widthsOf isDataCodec kinds dataBytes readData dataResult valueSize element group groups fixedFields avlRecord tagged inRecord avlRecords atEnd allRecords elementCount lengthBytes elementBytes groupBytes groupsBytes fixedBytes recordBytes packetBytes readPacket answerPacket acknowledged tcpAcknowledgement packetAs commandField commandBody readField readCommand answerCommand textView textOffset commandAs types layouts findLayout layoutOf answered readLogin isAccepted loginAnswer loginAs readHeader readDatagram answerDatagram acknowledgementBytes udpAcknowledgement datagramAs judgeHeader entryBytes entriesFrom entriesOf fixedEntry elementEntry groupEntries groupsEntries recordsEntries formEntries form formOfPacket formOfDatagram or17 readForm packetWithin packetOfForm writing leaving writtenAs givenImei packetOf bytesWithin commandBytes entryElement run behind groupsOf fixedOf recordsOf dataOf decoded leadSize locateGroup locateGroups fixedSize elements nth firstWith recordResult placeRecords tcpSource udpSource placedRecord recordByNumber foundIn valueIn valueByNumber valueById view viewOffset valueInLast inOlder orElse lastKnown knownPlace recordAs valueResult answerValue valueAs answerKnown knownAs knownView quad titleWords recordWords valueWord recordContents contents contentsOfPacket contentsOfDatagram ones differing needed itemOf judgedPacket judged verdictBy verdict next afterByte taken cons byVerdict stream padded phaseNumber kept fresh started isZero isMore phaseOf heldBy opened countOf judgedAt wanted outcome feeding fed fedInto packetIn itemAs fedAs lentAs decimalIn decimal glyphOf before behindByte onto pieces separated unsignedDegrees degrees isPlain escaped quoted printedText texts lineFields lineBytes allDigits digitsOf noSpareZero readDecimal readUnsigned readDegrees readHex readTag readValue readPrinted onField nextField isTag readElements readFields judgeLine readLine placeIn wrongAt startFrom elementOf elementAt printedOf printedAll recordLine lineOfPacket lineOfDatagram linesOfPacket linesOfDatagram lineResult answerLine lineAs tagBytes elementResult answerElement leavingElement elementAs
+unfolding onAccepted from told unplaced checkAt limitsOf enclosed codecOf firstCount lastCount inner textDigit readImei packed pairUpTo readPacked numberAt digits valueFrom littleAt le signed andThen _>>=_ _>>_ pure here require span number bytes upTo repeat feedback shift shifts absorb crcFrom crc framed fieldLength fieldOf unframe lastFour widthsOf isDataCodec kinds dataBytes readData dataResult valueSize element group groups fixedFields avlRecord tagged inRecord avlRecords atEnd allRecords elementCount lengthBytes elementBytes groupBytes groupsBytes fixedBytes recordBytes packetBytes readPacket answerPacket acknowledged tcpAcknowledgement packetAs commandField commandBody readField readCommand answerCommand textView textOffset commandAs types layouts findLayout layoutOf answered readLogin isAccepted loginAnswer loginAs readHeader readDatagram answerDatagram acknowledgementBytes udpAcknowledgement datagramAs judgeHeader entryBytes entriesFrom entriesOf fixedEntry elementEntry groupEntries groupsEntries recordsEntries formEntries form formOfPacket formOfDatagram or17 readForm packetWithin packetOfForm writing leaving writtenAs givenImei packetOf bytesWithin commandBytes entryElement run behind groupsOf fixedOf recordsOf dataOf decoded leadSize locateGroup locateGroups fixedSize elements nth firstWith recordResult placeRecords tcpSource udpSource placedRecord recordByNumber foundIn valueIn valueByNumber valueById view viewOffset valueInLast inOlder orElse lastKnown knownPlace recordAs valueResult answerValue valueAs answerKnown knownAs knownView quad titleWords recordWords valueWord recordContents contents contentsOfPacket contentsOfDatagram ones differing needed itemOf judgedPacket judged verdictBy verdict next afterByte taken cons byVerdict stream padded phaseNumber kept fresh started isZero isMore phaseOf heldBy opened countOf judgedAt wanted outcome feeding fed fedInto packetIn itemAs fedAs lentAs decimalIn decimal glyphOf before behindByte onto pieces separated unsignedDegrees degrees isPlain escaped quoted printedText texts lineFields lineBytes allDigits digitsOf noSpareZero readDecimal readUnsigned readDegrees readHex readTag readValue readPrinted onField nextField isTag readElements readFields judgeLine readLine placeIn wrongAt startFrom elementOf elementAt printedOf printedAll recordLine lineOfPacket lineOfDatagram linesOfPacket linesOfDatagram lineResult answerLine lineAs tagBytes elementResult answerElement leavingElement elementAs
 computing = tt

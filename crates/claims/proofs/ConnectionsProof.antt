@@ -14,7 +14,7 @@ use Rattle.wire.specs.Limits.{largestOfAll, limitsOf, isKnown}
 use Rattle.wire.proofs.LimitLaws.{limits-most}
 use Rattle.wire.specs.Numbers.{Bytes, digits, be, pick}
 use Rattle.wire.specs.Sequences.{joined, All}
-use Rattle.wire.specs.Answers.{Answer, accepted, refused, refusal, check, told, onAccepted}
+use Rattle.wire.specs.Answers.{Answer, accepted, refused, refusal, checkAt, told, onAccepted}
 use Rattle.wire.specs.Numbers.{numberAt}
 use Rattle.wire.specs.Reading.{_>>=_, _>>_, here, number, span, andThen, require}
 use Rattle.wire.specs.Imei.{asciiDigit, imeiText, readImei}
@@ -287,7 +287,7 @@ module _ (limits : Limits) (room : ℕ) (known : 1 ≤ limits .largest) (small :
 
   -- 17 zero bytes are no login
   refused-first : taken limits forLogin [] (zeros 17) ≡ record { used = 17; told = settled (refusing (refusal 15)); state = closed }
-  unfolding taken afterByte verdict verdictBy needed judged itemOf readLogin check told readImei _>>=_ _>>_ here number span andThen require numberAt next
+  unfolding taken afterByte verdict verdictBy needed judged itemOf readLogin checkAt told readImei _>>=_ _>>_ here number span andThen require numberAt next
   refused-first = refl
 
   kept-reached : (st : State) → Sound limits st → HoldsBytes st → Reached limits room (kept room st)
@@ -461,5 +461,5 @@ unfolding opened
 connections-kept =
     record {
       known = λ family e. feeds-kept (limitsOf family) largestOfAll (leb-true 1 (limitsOf family .largest) e) (lit≤ tt) (limits-most family .packets);
-      unknown = λ family c s e. unopened (limitsOf family) largestOfAll c s (check-failed (isKnown (limitsOf family .largest)) 19 _ e);
+      unknown = λ family c s e. unopened (limitsOf family) largestOfAll c s (check-failed (isKnown (limitsOf family .largest)) 19 _ _ e);
     }

@@ -67,7 +67,7 @@ accepted-exactly =
             let rest = drop (length q) before in
             let left : after ≡ i .0 ++ drop (length (i .0)) before = buffer ∙ ap (λ x. leaving x before) (i .1) ∙ leaving-done (i .0) before (omega (arith, i .2, i .3)) in
             let same : i .0 ≡ q = fronts (i .0) q rest (i .2) (ap (λ (n : ℕ). i .0 ++ drop n before) (sym (i .2)) ∙ sym left ∙ k .1) in
-            let j = onAccepted-accepted (readForm (limitsOf family) f) _ (check-accepted (isKnown (limitsOf family .largest)) 21 (packetWithin (limitsOf family) f) (i .1) .1) in
+            let j = onAccepted-accepted (readForm (limitsOf family) f) _ (check-accepted (isKnown (limitsOf family .largest)) 21 _ (packetWithin (limitsOf family) f) (i .1) .1) in
             let of = form-exact (limitsOf family) f (j .0) b (omega (arith, limits-most family .records)) .0 (j .1) in
             let whole : packetBytes (j .0) ≡ i .0 = cc (j .2) in
             (j .0, subst (DataPacket (limitsOf family) (j .0)) (whole ∙ same) (of .packet), sym (of .form), omega (arith, i .3))),
@@ -75,7 +75,7 @@ accepted-exactly =
             let a = k .0 in
             let whole = k .1 .whole in
             let read = form-exact (limitsOf family) f a b (omega (arith, limits-most family .records)) .1 (record { packet = subst (DataPacket (limitsOf family) a) whole (k .1); form = sym (k .2) }) in
-            let packet = check-passed _ 21 _ (le-leb 1 (limitsOf family .largest) (omega (arith, k .1 .frame .most))) ∙ onAccepted-passed (readForm (limitsOf family) f) _ read ∙ ap accepted (sym whole) in (
+            let packet = check-passed _ 21 _ _ (le-leb 1 (limitsOf family .largest) (omega (arith, k .1 .frame .most))) ∙ onAccepted-passed (readForm (limitsOf family) f) _ read ∙ ap accepted (sym whole) in (
               contract ∙ ap (λ x. writing x before) packet ∙ writing-done q before (k .3),
               buffer ∙ ap (λ x. leaving x before) packet ∙ leaving-done q before (k .3),
             )),

@@ -11,7 +11,7 @@ use Rattle.wire.specs.declared.Limits.{Limits}
 use Rattle.wire.specs.Limits.{limitsOf, isKnown, Below}
 use Rattle.wire.specs.Numbers.{Bytes, numberAt, be}
 use Rattle.wire.specs.Sequences.{All}
-use Rattle.wire.specs.Answers.{Answer, accepted, refused, refusal, check, onAccepted}
+use Rattle.wire.specs.Answers.{Answer, accepted, refused, refusal, checkAt, onAccepted, from}
 use Rattle.wire.proofs.LimitLaws.{limits-most, first-second}
 use Rattle.wire.proofs.Widths.{bytes-drop}
 use Rattle.wire.proofs.Accepting.{check-accepted, check-passed, onAccepted-accepted, onAccepted-passed, onAccepted-refused}
@@ -38,7 +38,7 @@ use Rattle.tlv.proofs.PacketOfLaws.{form-exact, form-refusal}
 use Rattle.contents.specs.Contents.{contentsOfPacket, contentsOfDatagram}
 use Rattle.line.specs.RecordLines.{lineOfPacket, lineOfDatagram, linesOfPacket, linesOfDatagram}
 use Rattle.claims.specs.Families.{SamePacket, SameDatagram, SameCommand, AcceptedToo, Never12, Says21, FamiliesKept}
-use Rattle.claims.proofs.NeverLaws.{NeverSays, says-check, says-then, says-told, says-given, never-header, data-never12}
+use Rattle.claims.proofs.NeverLaws.{NeverSays, says-check, says-then, says-from, says-told, says-given, never-header, data-never12}
 
 -- ---- the rules
 
@@ -90,9 +90,9 @@ module _ (a b : Limits) (order : Below a b) where
       record {
         read = same;
         answer = rw same refl;
-        acknowledgement = check-passed _ 21 _ (le-leb 1 (b .largest) (omega (arith, more)))
+        acknowledgement = check-passed _ 21 _ _ (le-leb 1 (b .largest) (omega (arith, more)))
             ∙ ap (λ r. accepted (be 4 (acknowledged r))) same
-            ∙ sym (check-passed _ 21 _ (le-leb 1 (a .largest) (omega (arith, least))));
+            ∙ sym (check-passed _ 21 _ _ (le-leb 1 (a .largest) (omega (arith, least))));
         source = rw same refl;
         form = rw same refl;
         table = rw same refl;
@@ -143,35 +143,35 @@ module _ (a b : Limits) (order : Below a b) where
   form-too : b .longest < 256 ^ 2 → (f p : List ℕ) → Bytes f → packetOfForm a f ≡ accepted p → packetOfForm b f ≡ accepted p
   unfolding packetOfForm packetWithin
   form-too small f p h e =
-      let c = check-accepted (isKnown (a .largest)) 21 _ e in
+      let c = check-accepted (isKnown (a .largest)) 21 _ _ e in
       let known : 1 ≤ a .largest = leb-true 1 (a .largest) (c .0) in
       let i = onAccepted-accepted (readForm a f) _ (c .1) in
       let k = form-exact a f (i .0) h (omega (arith, order .records, small)) .0 (i .1) in
       let packet = k .packet in
       let above : DataPacket b (i .0) (packetBytes (i .0)) = record { rules = data-above (i .0) (order .records) (packet .rules); frame = frame-above (order .packets) (packet .frame); whole = packet .whole } in
-      check-passed _ 21 _ (le-leb 1 (b .largest) (omega (arith, known, order .packets)))
+      check-passed _ 21 _ _ (le-leb 1 (b .largest) (omega (arith, known, order .packets)))
       ∙ onAccepted-passed (readForm b f) _ (form-exact b f (i .0) h small .1 (record { packet = above; form = k .form }))
       ∙ i .2
 
   written-too : (codec type : ℕ) (imei text p : List ℕ) → commandBytes a codec type imei text ≡ accepted p → commandBytes b codec type imei text ≡ accepted p
   unfolding commandBytes bytesWithin packetOf
   written-too codec type imei text p e =
-      let c = check-accepted (isKnown (a .largest)) 21 _ e in
+      let c = check-accepted (isKnown (a .largest)) 21 _ _ e in
       let known : 1 ≤ a .largest = leb-true 1 (a .largest) (c .0) in
       let row = onAccepted-accepted (layoutOf codec) _ (c .1) in
       let l = row .0 in
-      let kind = check-accepted (member type (types l)) 13 _ (row .2) in
+      let kind = check-accepted (member type (types l)) 13 _ _ (row .2) in
       let given = onAccepted-accepted (givenImei l imei) _ (kind .1) in
       let x : Command = record { codec = codec; type = type; imei = given .0; text = text } in
-      let empty = check-accepted (mismatch type text) 14 _ (given .2) in
-      let short = check-accepted (leb (length (commandField l x) + 12) (a .largest)) 14 _ (empty .1) in
+      let empty = check-accepted (mismatch type text) 14 _ _ (given .2) in
+      let short = check-accepted (leb (length (commandField l x) + 12) (a .largest)) 14 _ _ (empty .1) in
       let most : length (commandField l x) + 12 ≤ a .largest = leb-true _ _ (short .0) in
-      check-passed _ 21 _ (le-leb 1 (b .largest) (omega (arith, known, order .packets)))
+      check-passed _ 21 _ _ (le-leb 1 (b .largest) (omega (arith, known, order .packets)))
       ∙ onAccepted-passed (layoutOf codec) _ (row .1)
-      ∙ check-passed (member type (types l)) 13 _ (kind .0)
+      ∙ check-passed (member type (types l)) 13 _ _ (kind .0)
       ∙ onAccepted-passed (givenImei l imei) _ (given .1)
-      ∙ check-passed (mismatch type text) 14 _ (empty .0)
-      ∙ check-passed _ 14 _ (le-leb (length (commandField l x) + 12) (b .largest) (omega (arith, most, order .packets)))
+      ∙ check-passed (mismatch type text) 14 _ _ (empty .0)
+      ∙ check-passed _ 14 _ _ (le-leb (length (commandField l x) + 12) (b .largest) (omega (arith, most, order .packets)))
       ∙ short .1
 
   in-order : b .longest < 256 ^ 2 → AcceptedToo a b
@@ -190,40 +190,40 @@ module _ (a b : Limits) (order : Below a b) where
 frame-never12 : (largest : ℕ) (p : List ℕ) → NeverSays 12 (unframe largest p)
 unfolding unframe
 frame-never12 largest p =
-    says-check (isKnown largest) 21 _ (λ e. omega (arith, e))
-    (says-check (leb 8 (length p)) 1 _ (λ e. omega (arith, e))
-    (says-check (eqb (numberAt p 0 4) 0) 2 _ (λ e. omega (arith, e))
-    (says-check (leb 3 (fieldLength p)) 3 _ (λ e. omega (arith, e))
-    (says-check (leb (fieldLength p + 12) largest) 3 _ (λ e. omega (arith, e))
-    (says-check (eqb (length p) (fieldLength p + 12)) 4 _ (λ e. omega (arith, e))
-    (says-check (eqb (numberAt p (8 + fieldLength p) 4) (crc (fieldOf p))) 5 _ (λ e. omega (arith, e)) (says-given (fieldOf p))))))))
+    says-check (isKnown largest) 21 _ _ (λ e. omega (arith, e))
+    (says-check (leb 8 (length p)) 1 _ _ (λ e. omega (arith, e))
+    (says-check (eqb (numberAt p 0 4) 0) 2 _ _ (λ e. omega (arith, e))
+    (says-check (leb 3 (fieldLength p)) 3 _ _ (λ e. omega (arith, e))
+    (says-check (leb (fieldLength p + 12) largest) 3 _ _ (λ e. omega (arith, e))
+    (says-check (eqb (length p) (fieldLength p + 12)) 4 _ _ (λ e. omega (arith, e))
+    (says-check (eqb (numberAt p (8 + fieldLength p) 4) (crc (fieldOf p))) 5 _ _ (λ e. omega (arith, e)) (says-given (fieldOf p))))))))
 
 header-never12 : (largest : ℕ) (p : List ℕ) → NeverSays 12 (judgeHeader largest p)
 unfolding judgeHeader
 header-never12 largest p =
-    says-check (isKnown largest) 21 _ (λ e. omega (arith, e))
-    (says-check (leb 26 (length p)) 1 _ (λ e. omega (arith, e))
-    (says-check (leb (length p) largest) 3 _ (λ e. omega (arith, e))
-    (says-check (eqb (length p) (numberAt p 0 2 + 2)) 4 _ (λ e. omega (arith, e))
-    (says-told (readHeader p 2) (never-header p (λ e. omega (arith, e)) 2 (λ e. omega (arith, e)))))))
+    says-check (isKnown largest) 21 _ _ (λ e. omega (arith, e))
+    (says-check (leb 26 (length p)) 1 _ _ (λ e. omega (arith, e))
+    (says-check (leb (length p) largest) 3 _ _ (λ e. omega (arith, e))
+    (says-check (eqb (length p) (numberAt p 0 2 + 2)) 4 _ _ (λ e. omega (arith, e))
+    (says-told 0 (readHeader p 2) (never-header p (λ e. omega (arith, e)) 2 (λ e. omega (arith, e)))))))
 
 module _ (limits : Limits) (large : limits .largest ≤ limits .longest) (wide : limits .datagram ≤ limits .longest) where
   packet-never12 : (p : List ℕ) → Bytes p → NeverSays 12 (readPacket limits p)
   unfolding readPacket
   packet-never12 p h =
-      says-then (unframe (limits .largest) p) (readData (limits .longest)) (frame-never12 (limits .largest) p) (λ d e.
+      says-then (unframe (limits .largest) p) _ (frame-never12 (limits .largest) p) (λ d e.
       let f = frame-exact (limits .largest) p d h .0 e .0 in
-      data-never12 (limits .longest) d (f .bytes) (omega (arith, f .most, large)))
+      says-from 8 _ (data-never12 (limits .longest) d (f .bytes) (omega (arith, f .most, large))))
 
   datagram-never12 : (p : List ℕ) → Bytes p → NeverSays 12 (readDatagram limits p)
   unfolding readDatagram judgeHeader
   datagram-never12 p h =
       says-then (judgeHeader (limits .datagram) p) _ (header-never12 (limits .datagram) p) (λ g e.
-      let c₀ = check-accepted (isKnown (limits .datagram)) 21 _ e in
-      let c₁ = check-accepted (leb 26 (length p)) 1 _ (c₀ .1) in
-      let c₂ = check-accepted (leb (length p) (limits .datagram)) 3 _ (c₁ .1) in
-      says-then (readData (limits .longest) (drop 23 p)) _
-      (data-never12 (limits .longest) (drop 23 p) (bytes-drop 23 p h) (omega (arith, length-drop 23 p, leb-true (length p) (limits .datagram) (c₂ .0), wide)))
+      let c₀ = check-accepted (isKnown (limits .datagram)) 21 _ _ e in
+      let c₁ = check-accepted (leb 26 (length p)) 1 _ _ (c₀ .1) in
+      let c₂ = check-accepted (leb (length p) (limits .datagram)) 3 _ _ (c₁ .1) in
+      says-then (from 23 (readData (limits .longest) (drop 23 p))) _
+      (says-from 23 _ (data-never12 (limits .longest) (drop 23 p) (bytes-drop 23 p h) (omega (arith, length-drop 23 p, leb-true (length p) (limits .datagram) (c₂ .0), wide))))
       (λ a f. says-given _))
 
   never12 : Never12 limits
@@ -250,7 +250,7 @@ unfolding packetOfForm
 no-form family f first rest r known b is many =
     let limits = limitsOf family in
     let small : limits .longest < 256 ^ 2 = omega (arith, limits-most family .records) in
-    check-passed (isKnown (limits .largest)) 21 _ known
+    check-passed (isKnown (limits .largest)) 21 _ _ known
     ∙ or-refused limits f (λ a e.
     let k = form-exact limits f a b small .0 e in
     let again : decoded f ≡ a = ap decoded (k .form) ∙ form-decoded (limits .longest) a small (k .packet .rules) in
@@ -265,7 +265,7 @@ unfolding limitsOf
 no-family family h k = simp (ne-eqb family 1 h, ne-eqb family 2 k)
 
 says-21 : (family : ℕ) → (family ≡ 1 → ⊥) → (family ≡ 2 → ⊥) → Says21 (limitsOf family)
-unfolding readPacket readDatagram readCommand unframe judgeHeader tcpAcknowledgement packetOfForm commandBytes check onAccepted
+unfolding readPacket readDatagram readCommand unframe judgeHeader tcpAcknowledgement packetOfForm commandBytes checkAt onAccepted
 says-21 family h k =
     rw (no-family family h k)
     (record {

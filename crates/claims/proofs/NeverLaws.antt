@@ -7,11 +7,10 @@ use mathlib.Core.List.{List, [], _∷_}
 use lib.ListN.{length, take, drop, length-take, length-drop}
 use lib.Dec.{leb, eqb}
 use borrow.Author.Tests.{le-leb}
-use Rattle.wire.specs.declared.Fault.{Fault}
 use Rattle.wire.specs.declared.Refusal.{Refusal}
 use Rattle.wire.specs.Numbers.{Bytes, numberAt, pick}
 use Rattle.wire.specs.Envelope.{codecOf, firstCount, lastCount, inner}
-use Rattle.wire.specs.Answers.{Answer, accepted, refused, refusal, refusalOf, told, check, onAccepted}
+use Rattle.wire.specs.Answers.{Answer, accepted, refused, refusalAt, movedBy, from, told, checkAt, onAccepted}
 use Rattle.wire.proofs.Enclosed.{bytes-inner}
 use Rattle.wire.specs.Reading.{Read, got, bad, Reader, andThen, _>>=_, _>>_, pure, here, require, span, number, bytes, upTo, repeat}
 use Rattle.wire.specs.Imei.{textDigit, readImei}
@@ -26,13 +25,13 @@ use Rattle.wire.proofs.Exactness.{number-exact}
 
 -- whatever it stops with is another number
 abbrev pub Never : {A : Type 0} → ℕ → Read A → Type 0
-Never k r = (x : Fault) → r ≡ bad x → x .number ≡ k → ⊥
+Never k r = (x : Refusal) → r ≡ bad x → x .number ≡ k → ⊥
 
 never-got : {A : Type 0} {k : ℕ} (a : A) (next : ℕ) → Never k (got a next)
 never-got a next x e same = let z : _≡_ {A = ℕ} 0 1 = cc e in omega (arith, z)
 
-never-bad : {A : Type 0} {k : ℕ} (y : Fault) → (y .number ≡ k → ⊥) → Never {A = A} k (bad y)
-never-bad y h x e same = h (let whole : y ≡ x = cc e in ap (λ (z : Fault). z .number) whole ∙ same)
+never-bad : {A : Type 0} {k : ℕ} (y : Refusal) → (y .number ≡ k → ⊥) → Never {A = A} k (bad y)
+never-bad y h x e same = h (let whole : y ≡ x = cc e in ap (λ (z : Refusal). z .number) whole ∙ same)
 
 never-pick : {A : Type 0} {k : ℕ} (test : Bool) (a b : Read A) → Never k a → Never k b → Never k (pick test a b)
 never-pick true a b h g = h
@@ -214,29 +213,34 @@ says-given a x e same = let z : _≡_ {A = ℕ} 0 1 = cc e in omega (arith, z)
 says-refused : {A : Type 0} {k : ℕ} (y : Refusal) → (y .number ≡ k → ⊥) → NeverSays {A = A} k (refused y)
 says-refused y h x e same = h (let whole : y ≡ x = cc e in ap (λ (z : Refusal). z .number) whole ∙ same)
 
-pub says-check : {A : Type 0} {k : ℕ} (test : Bool) (n : ℕ) (rest : Answer A) → (n ≡ k → ⊥) → NeverSays k rest → NeverSays k (check test n rest)
-unfolding check
-says-check true n rest h g = g
-says-check false n rest h g = says-refused (refusal n) h
+pub says-check : {A : Type 0} {k : ℕ} (test : Bool) (n place : ℕ) (rest : Answer A) → (n ≡ k → ⊥) → NeverSays k rest → NeverSays k (checkAt test n place rest)
+unfolding checkAt
+says-check true n place rest h g = g
+says-check false n place rest h g = says-refused (refusalAt n place) h
+
+pub says-from : {A : Type 0} {k : ℕ} (base : ℕ) (r : Answer A) → NeverSays k r → NeverSays k (from base r)
+unfolding from
+says-from base (accepted a) h = says-given a
+says-from base (refused y) h = says-refused (movedBy base y) (h y refl)
 
 pub says-then : {A B : Type 0} {k : ℕ} (r : Answer A) (f : A → Answer B) → NeverSays k r → ((a : A) → r ≡ accepted a → NeverSays k (f a)) → NeverSays k (onAccepted r f)
 unfolding onAccepted
 says-then (accepted a) f h g = g a refl
 says-then (refused y) f h g = says-refused y (h y refl)
 
-pub says-told : {A : Type 0} {k : ℕ} (r : Read A) → Never k r → NeverSays k (told r)
+pub says-told : {A : Type 0} {k : ℕ} (base : ℕ) (r : Read A) → Never k r → NeverSays k (told base r)
 unfolding told
-says-told (got a next) h = says-given a
-says-told (bad y) h = says-refused (refusalOf y) (h y refl)
+says-told base (got a next) h = says-given a
+says-told base (bad y) h = says-refused (movedBy base y) (h y refl)
 
 pub data-never12 : (longest : ℕ) (d : List ℕ) → Bytes d → length d ≤ longest → NeverSays 12 (readData longest d)
 unfolding readData inner
 data-never12 longest d b h =
     let space = inner d in
     let small : length space ≤ longest = omega (arith, h, length-take (length d - 3) (drop 2 d), length-drop 2 d) in
-    says-check (isDataCodec (codecOf d)) 6 _ (λ e. omega (arith, e))
-    (says-check (leb 1 (firstCount d)) 7 _ (λ e. omega (arith, e))
-    (says-check (eqb (firstCount d) (lastCount d)) 7 _ (λ e. omega (arith, e))
-    (says-then (told (allRecords longest (widthsOf (codecOf d)) (firstCount d) space 0)) _
-    (says-told _ (all-never12 longest (widthsOf (codecOf d)) space (bytes-inner d b) small (firstCount d)))
+    says-check (isDataCodec (codecOf d)) 6 _ _ (λ e. omega (arith, e))
+    (says-check (leb 1 (firstCount d)) 7 _ _ (λ e. omega (arith, e))
+    (says-check (eqb (firstCount d) (lastCount d)) 7 _ _ (λ e. omega (arith, e))
+    (says-then (told 2 (allRecords longest (widthsOf (codecOf d)) (firstCount d) space 0)) _
+    (says-told 2 _ (all-never12 longest (widthsOf (codecOf d)) space (bytes-inner d b) small (firstCount d)))
     (λ rs e. says-given _))))

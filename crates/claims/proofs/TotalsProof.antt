@@ -6,13 +6,13 @@ use mathlib.Core.Path.{_≡_, refl, sym, ap, _∙_, subst}
 use mathlib.Core.List.{List, [], _∷_}
 use lib.ListN.{length}
 use borrow.Author.Tests.{ne-eqb}
-use Rattle.wire.specs.declared.Fault.{Fault}
+use Rattle.wire.specs.declared.Refusal.{Refusal}
 use Rattle.wire.specs.declared.Limits.{Limits}
 use Rattle.wire.specs.Sequences.{fields, joined, All}
 use Rattle.wire.specs.Reading.{bad}
 use Rattle.wire.specs.Answers.{refused}
 use Rattle.wire.proofs.Placed.{Between, between-split, between-whole}
-use Rattle.wire.proofs.Accepting.{onAccepted-refused, onAccepted-passed, told-bad}
+use Rattle.wire.proofs.Accepting.{onAccepted-refused, onAccepted-passed, from-refused, told-bad}
 use Rattle.wire.proofs.Exactness.{then-got}
 use Rattle.wire.proofs.Walking.{then-bad, require-bad}
 use Rattle.avl.specs.declared.Widths.{Widths}
@@ -24,11 +24,11 @@ use Rattle.avl.proofs.RecordLaws.{record-ended, record-exact}
 use Rattle.avl.proofs.DataLaws.{data-walked}
 use Rattle.packet.specs.DataPackets.{readPacket}
 use Rattle.datagram.specs.Datagrams.{readDatagram}
-use Rattle.claims.specs.Rows.{_at_}
+use Rattle.claims.specs.Rows.{_at_byte_}
 use Rattle.claims.specs.Totals.{bytesWith, fieldWith, ReadUpTo, Nine, TotalsKept}
 
 -- the first records are read, the next is broken
-records-broken : (longest : ℕ) (w : Widths) (first : List AvlRecord) (index count broken : ℕ) (s : List ℕ) (from mid : ℕ) {x : Fault} → length first < count
+records-broken : (longest : ℕ) (w : Widths) (first : List AvlRecord) (index count broken : ℕ) (s : List ℕ) (from mid : ℕ) {x : Refusal} → length first < count
     → index + length first ≡ broken → All (RecordRules longest w) first → Between s from (joined (recordBytes w) first) mid → avlRecord longest w s mid ≡ bad x
     → avlRecords longest w index count s from ≡ bad (record { number = x .number; index = broken; place = x .place })
 unfolding avlRecords inRecord tagged
@@ -43,7 +43,7 @@ records-broken longest w (r ∷ rs) index (suc m) broken s from mid h i k f e =
     ∙ then-bad (avlRecords longest w (suc index) m) _ s _ (records-broken longest w rs (suc index) m broken s _ mid (omega arith) (omega arith) (k .1) (a .1) e)
 
 field-nine : (longest codec count : ℕ) (first : List AvlRecord) (n : ℕ) (r : AvlRecord) (rest : List ℕ) → ReadUpTo longest codec count first n r
-    → (n ≡ elementCount (r .groups) → ⊥) → readData longest (fieldWith codec count first n r rest) ≡ refused (9 at length first)
+    → (n ≡ elementCount (r .groups) → ⊥) → readData longest (fieldWith codec count first n r rest) ≡ refused (9 at length first byte (2 + length (joined (recordBytes (widthsOf codec)) first)))
 unfolding fieldWith bytesWith allRecords
 field-nine longest codec count first n r rest h ne =
     let w = widthsOf codec in
@@ -53,16 +53,17 @@ field-nine longest codec count first n r rest h ne =
     let e = record-ended longest w n r body _ _ (h .fixedKeep) (h .room) (h .groupsKeep) (b .0) ∙ require-bad _ 9 _ _ body _ (ne-eqb n (elementCount (r .groups)) ne) in
     let broken = records-broken longest w first 0 count (length first) body 0 _ (h .counted) (zero-add (length first)) (h .each) (a .0) e in
     data-walked longest codec count body (h .codecKnown) (omega (arith, h .counted)) (h .countFits)
-    ∙ onAccepted-refused _ _ (told-bad _ (then-bad (avlRecords longest w 0 count) _ body 0 broken))
+    ∙ onAccepted-refused _ _ (told-bad 2 _ (then-bad (avlRecords longest w 0 count) _ body 0 broken))
+    ∙ ap (λ (start : ℕ). refused (9 at length first byte (2 + start))) (zero-add (length (joined (recordBytes w) first)))
 
 nine : (limits : Limits) (codec count : ℕ) (first : List AvlRecord) (n : ℕ) (r : AvlRecord) (rest : List ℕ) → ReadUpTo (limits .longest) codec count first n r
-    → (n ≡ elementCount (r .groups) → ⊥) → Nine limits (fieldWith codec count first n r rest) (length first)
+    → (n ≡ elementCount (r .groups) → ⊥) → Nine limits (fieldWith codec count first n r rest) (length first) (2 + length (joined (recordBytes (widthsOf codec)) first))
 unfolding readPacket readDatagram
 nine limits codec count first n r rest h ne =
     let e = field-nine (limits .longest) codec count first n r rest h ne in
     record {
-      inPacket = λ p k. onAccepted-passed _ _ k ∙ e;
-      inDatagram = λ p g k d. onAccepted-passed _ _ k ∙ onAccepted-refused _ _ (ap (readData (limits .longest)) d ∙ e);
+      inPacket = λ p k. onAccepted-passed _ _ k ∙ from-refused 8 _ e;
+      inDatagram = λ p g k d. onAccepted-passed _ _ k ∙ onAccepted-refused _ _ (from-refused 23 _ (ap (readData (limits .longest)) d ∙ e));
     }
 
 pub totals-kept : TotalsKept

@@ -7,7 +7,7 @@ use Rattle.wire.specs.Answers.{Answer, accepted, refused, onAccepted}
 use Rattle.command.specs.Commands.{readCommand}
 use Rattle.datagram.specs.Datagrams.{udpAcknowledgement}
 use Rattle.tlv.specs.PacketOf.{formOfPacket, formOfDatagram}
-use Rattle.claims.specs.Rows.{Row, row, AsSaid, _at_}
+use Rattle.claims.specs.Rows.{Row, row, AsSaid, _at_, _at_byte_}
 
 abbrev pub sample : List ℕ
 sample =
@@ -37,16 +37,16 @@ sheet =
     row "P1" (formOfDatagram (limitsOf 2) sample) (accepted sampleForm)
     ∷ row "P2" (udpAcknowledgement (limitsOf 2) sample) (accepted sampleAcknowledgement)
     ∷ row "P3" (formOfDatagram (limitsOf 2) (set sample 1 0x37)) (refused (4 at 0))
-    ∷ row "P4" (formOfDatagram (limitsOf 2) (set sample 57 2)) (refused (7 at 0))
-    ∷ row "P5" (formOfDatagram (limitsOf 2) (set sample 33 3)) (refused (10 at 0))
-    ∷ row "P6" (formOfDatagram (limitsOf 2) (set sample 50 2)) (refused (9 at 0))
-    ∷ row "P7" (formOfDatagram (limitsOf 2) (set sample 51 2)) (refused (8 at 0))
-    ∷ row "P8" (formOfDatagram (limitsOf 2) (set (set sample 24 2) 57 2)) (refused (8 at 1))
+    ∷ row "P4" (formOfDatagram (limitsOf 2) (set sample 57 2)) (refused (7 at 0 byte 57))
+    ∷ row "P5" (formOfDatagram (limitsOf 2) (set sample 33 3)) (refused (10 at 0 byte 33))
+    ∷ row "P6" (formOfDatagram (limitsOf 2) (set sample 50 2)) (refused (9 at 0 byte 25))
+    ∷ row "P7" (formOfDatagram (limitsOf 2) (set sample 51 2)) (refused (8 at 0 byte 57))
+    ∷ row "P8" (formOfDatagram (limitsOf 2) (set (set sample 24 2) 57 2)) (refused (8 at 1 byte 57))
     ∷ row "P9" (commandFields getio) (accepted (0x0C ∷ 0x05 ∷ 0 ∷ 0x67 ∷ 0x65 ∷ 0x74 ∷ 0x69 ∷ 0x6F ∷ []))
-    ∷ row "P10" (commandFields (set getio 24 0xCA)) (refused (5 at 0))
+    ∷ row "P10" (commandFields (set getio 24 0xCA)) (refused (5 at 0 byte 21))
     ∷ row "P11" (formOfPacket (limitsOf 2) []) (refused (1 at 0))
-    ∷ row "P12" (formOfPacket (limitsOf 2) (0 ∷ 0 ∷ 0 ∷ 0 ∷ 0 ∷ 0 ∷ 0 ∷ 0 ∷ [])) (refused (3 at 0))
-    ∷ row "P13" (formOfPacket (limitsOf 2) (0 ∷ 0 ∷ 0 ∷ 0 ∷ 0 ∷ 0 ∷ 0x04 ∷ 0xF5 ∷ [])) (refused (3 at 0))
+    ∷ row "P12" (formOfPacket (limitsOf 2) (0 ∷ 0 ∷ 0 ∷ 0 ∷ 0 ∷ 0 ∷ 0 ∷ 0 ∷ [])) (refused (3 at 0 byte 4))
+    ∷ row "P13" (formOfPacket (limitsOf 2) (0 ∷ 0 ∷ 0 ∷ 0 ∷ 0 ∷ 0 ∷ 0x04 ∷ 0xF5 ∷ [])) (refused (3 at 0 byte 4))
     ∷ row "P13" (formOfPacket (limitsOf 2) (0 ∷ 0 ∷ 0 ∷ 0 ∷ 0 ∷ 0 ∷ 0x04 ∷ 0xF4 ∷ [])) (refused (4 at 0))
     ∷ []
 

@@ -8,7 +8,7 @@ use lib.IntN.{ℤ, pos}
 use Rattle.wire.specs.declared.Written.{Written}
 use Rattle.scan.specs.declared.LineAnswer.{LineAnswer}
 use Rattle.scan.specs.declared.LineElementAnswer.{LineElementAnswer}
-use Rattle.claims.specs.Rows.{Row, EachAsSaid, _at_}
+use Rattle.claims.specs.Rows.{Row, EachAsSaid, _at_, _at_byte_}
 use Rattle.claims.specs.Texts.{ascii}
 use Rattle.claims.specs.Calls.{line-of-packet, line-of-datagram, lines-of-packet, lines-of-datagram, read-line, element-in-line, element-at}
 use Rattle.claims.specs.Packets.{brokenTcp, newer, newerUdp}
@@ -46,18 +46,18 @@ writtenLines =
     ∷ line-of-datagram "room for it alone" 2 sample 0 (replicate 34 7) (Written.Bytes 34) (line "1000,-0.0000001,54.7146368,5,21=3")
     ∷ line-of-datagram "a byte too short" 2 sample 0 (replicate 33 7) (Written.Refused (18 at 0)) (replicate 33 7)
     ∷ line-of-datagram "no such record" 2 sample 1 (replicate 36 7) (Written.Refused (16 at 0)) (replicate 36 7)
-    ∷ line-of-datagram "the datagram is refused" 2 (set sample 33 3) 0 (replicate 36 7) (Written.Refused (10 at 0)) (replicate 36 7)
+    ∷ line-of-datagram "the datagram is refused" 2 (set sample 33 3) 0 (replicate 36 7) (Written.Refused (10 at 0 byte 33)) (replicate 36 7)
     ∷ line-of-packet "codec 16, both coordinates negative, the second record" 2 newer 1 (replicate 106 7) (Written.Bytes 106) (line "1562760415000,-5.0000000,-0.0500000,515,277=161,385=162,322=45490,277=3250766788,334=15119379810110330840")
     ∷ line-of-packet "codec 8E, a name and an empty tag" 2 tags 0 (replicate 89 7) (Written.Bytes 88) (line "1562760414000,25.2797130,54.6872050,47,21=3,239=1,66=24079,403=\"Jonas Petraitis\",406=\"\"" ++ (7 ∷ []))
     ∷ line-of-packet "no such record" 2 tags 2 (replicate 100 7) (Written.Refused (16 at 0)) (replicate 100 7)
     ∷ line-of-packet "a byte too short" 2 tags 1 (replicate 65 7) (Written.Refused (18 at 0)) (replicate 65 7)
-    ∷ line-of-packet "the packet is refused, at a record behind" 2 brokenTcp 0 (replicate 100 7) (Written.Refused (10 at 1)) (replicate 100 7)
+    ∷ line-of-packet "the packet is refused, at a record behind" 2 brokenTcp 0 (replicate 100 7) (Written.Refused (10 at 1 byte 48)) (replicate 100 7)
     ∷ lines-of-packet "both lines" 2 tags (replicate 155 7) (Written.Bytes 154) (line "1562760414000,25.2797130,54.6872050,47,21=3,239=1,66=24079,403=\"Jonas Petraitis\",406=\"\"" ++ (line "1562760415000,25.2795940,54.6871320,46,21=3,403=\"Ona\",403=\"Jonas\"" ++ (7 ∷ [])))
     ∷ lines-of-packet "a byte too short for the second" 2 tags (replicate 153 7) (Written.Refused (18 at 0)) (replicate 153 7)
-    ∷ lines-of-packet "the packet is refused" 2 brokenTcp (replicate 100 7) (Written.Refused (10 at 1)) (replicate 100 7)
+    ∷ lines-of-packet "the packet is refused" 2 brokenTcp (replicate 100 7) (Written.Refused (10 at 1 byte 48)) (replicate 100 7)
     ∷ lines-of-datagram "codec 16, two lines" 2 newerUdp (replicate 151 7) (Written.Bytes 151) (line "1562760414000,54.7146368,-0.0000001,5,323=90" ++ line "1562760415000,-5.0000000,-0.0500000,515,277=161,385=162,322=45490,277=3250766788,334=15119379810110330840")
     ∷ lines-of-datagram "a byte too short" 2 newerUdp (replicate 150 7) (Written.Refused (18 at 0)) (replicate 150 7)
-    ∷ lines-of-datagram "the datagram is refused" 2 (set sample 33 3) (replicate 36 7) (Written.Refused (10 at 0)) (replicate 36 7)
+    ∷ lines-of-datagram "the datagram is refused" 2 (set sample 33 3) (replicate 36 7) (Written.Refused (10 at 0 byte 33)) (replicate 36 7)
     ∷ []
 
 -- read: the answer, and the byte at which the line is wrong, its length where it is not

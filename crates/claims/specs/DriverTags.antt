@@ -6,7 +6,7 @@ use Rattle.wire.specs.declared.Written.{Written}
 use Rattle.packet.specs.declared.PacketAnswer.{PacketAnswer}
 use Rattle.datagram.specs.declared.DatagramAnswer.{DatagramAnswer}
 use Rattle.lookup.specs.declared.ValueAnswer.{ValueAnswer}
-use Rattle.claims.specs.Rows.{Row, AsSaid, _at_}
+use Rattle.claims.specs.Rows.{Row, AsSaid, _at_, _at_byte_}
 use Rattle.claims.specs.Calls.{read-packet, read-datagram, value-in-packet, id-in-packet, form-of-packet, packet-of-form}
 use Rattle.claims.specs.Packets.{field, tcp, udp}
 use Rattle.claims.specs.Answers.{header}
@@ -63,11 +63,11 @@ tagsForm =
 unfoldable pub tagRows : List Row
 tagRows =
     read-packet "all counted" 2 tags (PacketAnswer.Accepted 0x8E 2)
-    ∷ read-packet "first record, four counts" 2 (tcp 0x00 0x83 (tagField 3 3) 0x42 0xDC) (PacketAnswer.Refused (9 at 0))
-    ∷ read-packet "second record, four counts" 2 (tcp 0x00 0x83 (tagField 5 1) 0xA6 0x90) (PacketAnswer.Refused (9 at 1))
-    ∷ read-packet "first record, variable values twice" 2 (tcp 0x00 0x83 (tagField 7 3) 0x7B 0x6A) (PacketAnswer.Refused (9 at 0))
+    ∷ read-packet "first record, four counts" 2 (tcp 0x00 0x83 (tagField 3 3) 0x42 0xDC) (PacketAnswer.Refused (9 at 0 byte 10))
+    ∷ read-packet "second record, four counts" 2 (tcp 0x00 0x83 (tagField 5 1) 0xA6 0x90) (PacketAnswer.Refused (9 at 1 byte 81))
+    ∷ read-packet "first record, variable values twice" 2 (tcp 0x00 0x83 (tagField 7 3) 0x7B 0x6A) (PacketAnswer.Refused (9 at 0 byte 10))
     ∷ read-datagram "all counted" 2 (udp 0x00 0x98 (tagField 5 3)) (DatagramAnswer.Accepted 0x8E 2 header)
-    ∷ read-datagram "second record, four counts" 2 (udp 0x00 0x98 (tagField 5 1)) (DatagramAnswer.Refused (9 at 1))
+    ∷ read-datagram "second record, four counts" 2 (udp 0x00 0x98 (tagField 5 1)) (DatagramAnswer.Refused (9 at 1 byte 96))
     ∷ value-in-packet "the name" 2 tags 0 3 (ValueAnswer.Found (record { id = 0x0193; kind = 9; offset = 62; size = 15 })) name
     ∷ value-in-packet "the empty value" 2 tags 0 4 (ValueAnswer.Found (record { id = 0x0196; kind = 9; offset = 81; size = 0 })) []
     ∷ value-in-packet "an ID that occurs twice" 2 tags 1 1 (ValueAnswer.Found (record { id = 0x0193; kind = 9; offset = 126; size = 3 })) (0x4F ∷ 0x6E ∷ 0x61 ∷ [])

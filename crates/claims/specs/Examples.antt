@@ -7,7 +7,7 @@ use Rattle.wire.specs.Answers.{Answer, accepted, refused, onAccepted}
 use Rattle.packet.specs.DataPackets.{readPacket}
 use Rattle.login.specs.Login.{readLogin}
 use Rattle.datagram.specs.Datagrams.{readDatagram}
-use Rattle.claims.specs.Rows.{Row, row, AsSaid, _at_}
+use Rattle.claims.specs.Rows.{Row, row, AsSaid, _at_, _at_byte_}
 use Rattle.claims.specs.BenchSheet.{commandFields}
 
 -- ---- the streams
@@ -146,7 +146,7 @@ examples =
     ∷ row "codec 8E, UDP" (datagramFields codec8eUdp) (accepted (0x8E ∷ 1 ∷ 0xCAFE ∷ 1 ∷ 7 ∷ 352093086403655 ∷ []))
     ∷ row "codec 16, TCP" (packetFields codec16Tcp) (accepted (0x10 ∷ 2 ∷ []))
     ∷ row "codec 16, UDP, as printed" (datagramFields codec16UdpPrinted) (refused (4 at 0))
-    ∷ row "codec 16, UDP, its length repaired" (datagramFields codec16UdpLengthRepaired) (refused (7 at 0))
+    ∷ row "codec 16, UDP, its length repaired" (datagramFields codec16UdpLengthRepaired) (refused (7 at 0 byte 73))
     ∷ row "codec 12, getinfo" (commandFields codec12Getinfo) (accepted (0x0C ∷ 0x05 ∷ 0 ∷ 0x67 ∷ 0x65 ∷ 0x74 ∷ 0x69 ∷ 0x6E ∷ 0x66 ∷ 0x6F ∷ []))
     ∷ row "codec 12, response to getio" (commandFields codec12GetioResponse)
     (accepted (0x0C ∷ 0x06 ∷ 0 ∷ 0x44 ∷ 0x49 ∷ 0x31 ∷ 0x3A ∷ 0x31 ∷ 0x20 ∷ 0x44 ∷ 0x49 ∷ 0x32 ∷ 0x3A ∷ 0x30 ∷ 0x20 ∷ 0x44 ∷ 0x49 ∷ 0x33 ∷ 0x3A ∷ 0x30 ∷ 0x20 ∷ 0x41 ∷ 0x49 ∷ 0x4E ∷ 0x31 ∷ 0x3A ∷ 0x30
@@ -160,9 +160,9 @@ examples =
     ∷ 0x69 ∷ 0x6D ∷ 0x65 ∷ 0x3A ∷ 0x31 ∷ 0x37 ∷ 0x32 ∷ 0x33 ∷ 0x34 ∷ 0x20 ∷ 0x4D ∷ 0x41 ∷ 0x43 ∷ 0x3A ∷ 0x36 ∷ 0x30 ∷ 0x42 ∷ 0x44 ∷ 0x44 ∷ 0x30 ∷ 0x30 ∷ 0x31 ∷ 0x36 ∷ 0x32
     ∷ 0x36 ∷ 0x31 ∷ 0x20 ∷ 0x53 ∷ 0x50 ∷ 0x43 ∷ 0x3A ∷ 0x31 ∷ 0x28 ∷ 0x30 ∷ 0x29 ∷ 0x20 ∷ 0x41 ∷ 0x58 ∷ 0x4C ∷ 0x3A ∷ 0x30 ∷ 0x20 ∷ 0x4F ∷ 0x42 ∷ 0x44 ∷ 0x3A ∷ 0x30 ∷ 0x20
     ∷ 0x42 ∷ 0x4C ∷ 0x3A ∷ 0x31 ∷ 0x2E ∷ 0x36 ∷ 0x20 ∷ 0x42 ∷ 0x54 ∷ 0x3A ∷ 0x34 ∷ []))
-    ∷ row "codec 14, nACK, as printed" (commandFields codec14NackPrinted) (refused (5 at 0))
+    ∷ row "codec 14, nACK, as printed" (commandFields codec14NackPrinted) (refused (5 at 0 byte 24))
     ∷ row "codec 14, nACK, its IMEI repaired" (commandFields codec14NackImeiRepaired) (accepted (0x0E ∷ 0x11 ∷ 352093081452251 ∷ []))
-    ∷ row "codec 15" (commandFields codec15) (refused (6 at 0))
+    ∷ row "codec 15" (commandFields codec15) (refused (6 at 0 byte 8))
     ∷ []
 
 abbrev pub AsDocument006Has : Type 0

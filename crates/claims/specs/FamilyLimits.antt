@@ -9,7 +9,7 @@ use Rattle.command.specs.declared.CommandAnswer.{CommandAnswer}
 use Rattle.lookup.specs.declared.RecordAnswer.{RecordAnswer}
 use Rattle.lookup.specs.declared.ValueAnswer.{ValueAnswer}
 use Rattle.lookup.specs.declared.KnownAnswer.{KnownAnswer}
-use Rattle.claims.specs.Rows.{Row, EachAsSaid, _at_}
+use Rattle.claims.specs.Rows.{Row, EachAsSaid, _at_, _at_byte_}
 use Rattle.claims.specs.Calls.{read-packet, read-datagram, read-command}
 use Rattle.claims.specs.Calls.{record-in-packet, record-in-datagram, value-in-packet, value-in-datagram, id-in-packet, id-in-datagram, last-known}
 use Rattle.claims.specs.Calls.{acknowledge-packet, acknowledge-datagram, write-command, form-of-packet, form-of-datagram, packet-of-form, contents-of-packet, contents-of-datagram}
@@ -87,15 +87,15 @@ unknownFamilies =
 -- the last that a family takes, and the first that it does not: 3, 12, 14, 17
 unfoldable pub familyLimits : List Row
 familyLimits =
-    read-packet "family 1, L 501" 1 (0x00 ∷ 0x00 ∷ 0x00 ∷ 0x00 ∷ 0x00 ∷ 0x00 ∷ 0x01 ∷ 0xF5 ∷ []) (PacketAnswer.Refused (3 at 0))
+    read-packet "family 1, L 501" 1 (0x00 ∷ 0x00 ∷ 0x00 ∷ 0x00 ∷ 0x00 ∷ 0x00 ∷ 0x01 ∷ 0xF5 ∷ []) (PacketAnswer.Refused (3 at 0 byte 4))
     ∷ read-packet "family 1, L 500, no more bytes" 1 (0x00 ∷ 0x00 ∷ 0x00 ∷ 0x00 ∷ 0x00 ∷ 0x00 ∷ 0x01 ∷ 0xF4 ∷ []) (PacketAnswer.Refused (4 at 0))
     ∷ read-packet "family 2, L 501, no more bytes" 2 (0x00 ∷ 0x00 ∷ 0x00 ∷ 0x00 ∷ 0x00 ∷ 0x00 ∷ 0x01 ∷ 0xF5 ∷ []) (PacketAnswer.Refused (4 at 0))
-    ∷ read-command "family 1, L 501" 1 (0x00 ∷ 0x00 ∷ 0x00 ∷ 0x00 ∷ 0x00 ∷ 0x00 ∷ 0x01 ∷ 0xF5 ∷ []) (CommandAnswer.Refused (3 at 0)) []
+    ∷ read-command "family 1, L 501" 1 (0x00 ∷ 0x00 ∷ 0x00 ∷ 0x00 ∷ 0x00 ∷ 0x00 ∷ 0x01 ∷ 0xF5 ∷ []) (CommandAnswer.Refused (3 at 0 byte 4)) []
     ∷ read-command "family 1, L 500, no more bytes" 1 (0x00 ∷ 0x00 ∷ 0x00 ∷ 0x00 ∷ 0x00 ∷ 0x00 ∷ 0x01 ∷ 0xF4 ∷ []) (CommandAnswer.Refused (4 at 0)) []
     ∷ read-command "family 2, L 501, no more bytes" 2 (0x00 ∷ 0x00 ∷ 0x00 ∷ 0x00 ∷ 0x00 ∷ 0x00 ∷ 0x01 ∷ 0xF5 ∷ []) (CommandAnswer.Refused (4 at 0)) []
     ∷ read-datagram "family 1, 513 bytes, length 0" 1 (udp 0x00 0x00 (replicate 490 0)) (DatagramAnswer.Refused (3 at 0))
-    ∷ read-datagram "family 1, 512 bytes, codec 00" 1 (udp 0x01 0xFE (replicate 489 0)) (DatagramAnswer.Refused (6 at 0))
-    ∷ read-datagram "family 2, 513 bytes, codec 00" 2 (udp 0x01 0xFF (replicate 490 0)) (DatagramAnswer.Refused (6 at 0))
+    ∷ read-datagram "family 1, 512 bytes, codec 00" 1 (udp 0x01 0xFE (replicate 489 0)) (DatagramAnswer.Refused (6 at 0 byte 23))
+    ∷ read-datagram "family 2, 513 bytes, codec 00" 2 (udp 0x01 0xFF (replicate 490 0)) (DatagramAnswer.Refused (6 at 0 byte 23))
     ∷ write-command "family 1, codec 12, 513 bytes" 1 0x0C 0x06 [] (replicate 493 7) (replicate 3 7) (Written.Refused (14 at 0)) (replicate 3 7)
     ∷ write-command "family 1, codec 12, 512 bytes" 1 0x0C 0x06 [] (replicate 492 7) (replicate 3 7) (Written.Refused (18 at 0)) (replicate 3 7)
     ∷ write-command "family 2, codec 12, 513 bytes" 2 0x0C 0x06 [] (replicate 493 7) (replicate 3 7) (Written.Refused (18 at 0)) (replicate 3 7)
@@ -105,8 +105,8 @@ familyLimits =
     ∷ read-packet "family 2, a record of 256 bytes" 2 longTcp (PacketAnswer.Accepted 0x8E 2)
     ∷ read-datagram "family 2, a record of 256 bytes" 2 (udp 0x01 0x42 (field 0x8E 2 (long 0 1 ++ long 214 1))) (DatagramAnswer.Accepted 0x8E 2 header)
     ∷ value-in-packet "family 2, up to byte 256 of a record" 2 longTcp 1 0 (ValueAnswer.Found (record { id = 9; kind = 9; offset = 94; size = 214 })) (replicate 214 7)
-    ∷ id-in-packet "family 1, the same" 1 longTcp 1 9 (ValueAnswer.Refused (12 at 1)) []
-    ∷ form-of-packet "family 1, a record of 256 bytes" 1 oneLong (replicate 3 7) (Written.Refused (12 at 0)) (replicate 3 7)
+    ∷ id-in-packet "family 1, the same" 1 longTcp 1 9 (ValueAnswer.Refused (12 at 1 byte 52)) []
+    ∷ form-of-packet "family 1, a record of 256 bytes" 1 oneLong (replicate 3 7) (Written.Refused (12 at 0 byte 10)) (replicate 3 7)
     ∷ form-of-packet "family 2, a record of 256 bytes" 2 oneLong (replicate 256 7) (Written.Bytes 256) oneLongForm
     ∷ packet-of-form "family 1, a record of 256 bytes" 1 oneLongForm (replicate 3 7) (Written.Refused (17 at 0)) (replicate 3 7)
     ∷ packet-of-form "family 2, a record of 256 bytes" 2 oneLongForm (replicate 271 7) (Written.Bytes 271) oneLong
@@ -115,9 +115,9 @@ familyLimits =
 -- more values than a total of one byte can say: 9, whatever it says, and 17
 unfoldable pub tooManyValues : List Row
 tooManyValues =
-    read-packet "codec 8, 256 values, total 0" 2 (tcp 0x02 0x59 (field 0x08 1 (many8 0x00)) 0x22 0xD2) (PacketAnswer.Refused (9 at 0))
-    ∷ read-packet "codec 8, 256 values, total 255" 2 (tcp 0x02 0x59 (field 0x08 1 (many8 0xFF)) 0x3E 0x67) (PacketAnswer.Refused (9 at 0))
-    ∷ read-packet "codec 16, 256 values, total 0" 2 (tcp 0x03 0x5B (field 0x10 1 (many16 0x00)) 0xC0 0xA6) (PacketAnswer.Refused (9 at 0))
+    read-packet "codec 8, 256 values, total 0" 2 (tcp 0x02 0x59 (field 0x08 1 (many8 0x00)) 0x22 0xD2) (PacketAnswer.Refused (9 at 0 byte 10))
+    ∷ read-packet "codec 8, 256 values, total 255" 2 (tcp 0x02 0x59 (field 0x08 1 (many8 0xFF)) 0x3E 0x67) (PacketAnswer.Refused (9 at 0 byte 10))
+    ∷ read-packet "codec 16, 256 values, total 0" 2 (tcp 0x03 0x5B (field 0x10 1 (many16 0x00)) 0xC0 0xA6) (PacketAnswer.Refused (9 at 0 byte 10))
     ∷ packet-of-form "codec 8, 256 values" 2 (manyForm 0x08 0x00) (replicate 3 7) (Written.Refused (17 at 0)) (replicate 3 7)
     ∷ packet-of-form "codec 16, 256 values" 2 (manyForm 0x10 0x05) (replicate 3 7) (Written.Refused (17 at 0)) (replicate 3 7)
     ∷ []

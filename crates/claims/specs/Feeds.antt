@@ -9,7 +9,7 @@ use Rattle.connection.specs.declared.Connection.{Connection}
 use Rattle.connection.specs.declared.Fed.{Fed}
 use Rattle.connection.specs.declared.Lent.{Lent}
 use Rattle.connection.specs.declared.Item.{Item}
-use Rattle.claims.specs.Rows.{Row, EachAsSaid, _at_}
+use Rattle.claims.specs.Rows.{Row, EachAsSaid, _at_, _at_byte_}
 use Rattle.claims.specs.Calls.{start, reset, feed, feed-either, feed-lent, want, streamed}
 use Rattle.claims.specs.Packets.{field, tcp, login, plain, long, two, two16, twoTcp, brokenTcp, newer, older, getioField, getverField, getver}
 use Rattle.claims.specs.BenchSheet.{sample, getio}
@@ -98,28 +98,28 @@ feedRefusals =
     feed-either "first byte, bytes behind the header" (behindLogin []) (set twoTcp 0 0x01) (closes 8 (2 at 0))
     ∷ feed-either "fourth byte, L 0, 5 bytes held" (behindLogin (0x00 ∷ 0x00 ∷ 0x00 ∷ 0x01 ∷ 0x00 ∷ [])) (0x00 ∷ 0x00 ∷ 0x00 ∷ 0x08 ∷ []) (closes 3 (2 at 0))
     ∷ feed-either "a second login" (behindLogin []) login (closes 8 (2 at 0))
-    ∷ feed-either "L 2" (behindLogin []) (0x00 ∷ 0x00 ∷ 0x00 ∷ 0x00 ∷ 0x00 ∷ 0x00 ∷ 0x00 ∷ 0x02 ∷ []) (closes 8 (3 at 0))
-    ∷ feed-either "L 1,269, 7 bytes held" (behindLogin (0x00 ∷ 0x00 ∷ 0x00 ∷ 0x00 ∷ 0x00 ∷ 0x00 ∷ 0x04 ∷ [])) (0xF5 ∷ 0x08 ∷ []) (closes 1 (3 at 0))
-    ∷ feed-either "CRC, lower byte, bytes behind" (behindLogin []) (set twoTcp 74 0xB2 ++ getio) (closes 75 (5 at 0))
-    ∷ feed-either "CRC wrong, codec too" (behindLogin []) (set twoTcp 8 0x07) (closes 75 (5 at 0))
-    ∷ feed-either "codec 07, counts 0" (behindLogin []) (tcp 0x00 0x3F (set (set (set two 0 0x07) 1 0x00) 62 0x00) 0x34 0xFC) (closes 75 (6 at 0))
-    ∷ feed-either "codec 0D" (behindLogin []) (tcp 0x00 0x0D (set getioField 0 0x0D) 0x81 0xC9) (closes 25 (6 at 0))
-    ∷ feed-either "counts 2 and 1, priority 3" (behindLogin []) (tcp 0x00 0x3F (set (set two 10 0x03) 62 0x01) 0xBE 0xC0) (closes 75 (7 at 0))
-    ∷ feed-either "left-over byte, count 2" (behindLogin []) (tcp 0x00 0x40 (field 0x08 2 (plain ++ plain ++ (0x00 ∷ []))) 0x14 0x75) (closes 76 (8 at 2))
-    ∷ feed-either "total 1, no value" (behindLogin []) (tcp 0x00 0x3F (set two 57 0x01) 0x65 0xB2) (closes 75 (9 at 1))
-    ∷ feed-either "priority 3" (behindLogin []) brokenTcp (closes 75 (10 at 1))
-    ∷ feed-either "generation 8" (behindLogin []) (tcp 0x00 0x43 (set two16 60 0x08) 0x4C 0x37) (closes 79 (11 at 1))
-    ∷ feed-either "family 1, 256 bytes, 312 of 313 held" (inFamily 1 (behindLogin (take 312 longTcp))) (0xA7 ∷ []) (fedIn 1 (closes 1 (12 at 1)))
-    ∷ feed-either "family 1, L 501, 7 bytes held" (inFamily 1 (behindLogin (0x00 ∷ 0x00 ∷ 0x00 ∷ 0x00 ∷ 0x00 ∷ 0x00 ∷ 0x01 ∷ []))) (0xF5 ∷ 0x08 ∷ []) (fedIn 1 (closes 1 (3 at 0)))
-    ∷ feed-either "command, CRC" (behindLogin []) (set getio 24 0xCA) (closes 25 (5 at 0))
-    ∷ feed-either "command, second quantity 0, type 07" (behindLogin []) (tcp 0x00 0x0D (set (set getioField 2 0x07) 12 0x00) 0x78 0x01) (closes 25 (7 at 0))
-    ∷ feed-either "command, size cut short" (behindLogin []) (tcp 0x00 0x07 (0x0C ∷ 0x01 ∷ 0x05 ∷ 0x00 ∷ 0x00 ∷ 0x00 ∷ 0x01 ∷ []) 0x11 0xC0) (closes 19 (8 at 0))
-    ∷ feed-either "command, type 11 in codec 12" (behindLogin []) (tcp 0x00 0x0D (set getioField 2 0x11) 0xF0 0x8A) (closes 25 (13 at 0))
-    ∷ feed-either "command, size 1 too large" (behindLogin []) (tcp 0x00 0x0D (set getioField 6 0x06) 0x00 0xF8) (closes 25 (14 at 0))
-    ∷ feed-either "command, first digit 1" (behindLogin []) (tcp 0x00 0x16 (set getverField 7 0x13) 0xDE 0xD1) (closes 34 (15 at 0))
-    ∷ feed-either "command, type 11, text" (behindLogin []) (tcp 0x00 0x16 (set getverField 2 0x11) 0xC5 0xF2) (closes 34 (14 at 0))
+    ∷ feed-either "L 2" (behindLogin []) (0x00 ∷ 0x00 ∷ 0x00 ∷ 0x00 ∷ 0x00 ∷ 0x00 ∷ 0x00 ∷ 0x02 ∷ []) (closes 8 (3 at 0 byte 4))
+    ∷ feed-either "L 1,269, 7 bytes held" (behindLogin (0x00 ∷ 0x00 ∷ 0x00 ∷ 0x00 ∷ 0x00 ∷ 0x00 ∷ 0x04 ∷ [])) (0xF5 ∷ 0x08 ∷ []) (closes 1 (3 at 0 byte 4))
+    ∷ feed-either "CRC, lower byte, bytes behind" (behindLogin []) (set twoTcp 74 0xB2 ++ getio) (closes 75 (5 at 0 byte 71))
+    ∷ feed-either "CRC wrong, codec too" (behindLogin []) (set twoTcp 8 0x07) (closes 75 (5 at 0 byte 71))
+    ∷ feed-either "codec 07, counts 0" (behindLogin []) (tcp 0x00 0x3F (set (set (set two 0 0x07) 1 0x00) 62 0x00) 0x34 0xFC) (closes 75 (6 at 0 byte 8))
+    ∷ feed-either "codec 0D" (behindLogin []) (tcp 0x00 0x0D (set getioField 0 0x0D) 0x81 0xC9) (closes 25 (6 at 0 byte 8))
+    ∷ feed-either "counts 2 and 1, priority 3" (behindLogin []) (tcp 0x00 0x3F (set (set two 10 0x03) 62 0x01) 0xBE 0xC0) (closes 75 (7 at 0 byte 70))
+    ∷ feed-either "left-over byte, count 2" (behindLogin []) (tcp 0x00 0x40 (field 0x08 2 (plain ++ plain ++ (0x00 ∷ []))) 0x14 0x75) (closes 76 (8 at 2 byte 70))
+    ∷ feed-either "total 1, no value" (behindLogin []) (tcp 0x00 0x3F (set two 57 0x01) 0x65 0xB2) (closes 75 (9 at 1 byte 40))
+    ∷ feed-either "priority 3" (behindLogin []) brokenTcp (closes 75 (10 at 1 byte 48))
+    ∷ feed-either "generation 8" (behindLogin []) (tcp 0x00 0x43 (set two16 60 0x08) 0x4C 0x37) (closes 79 (11 at 1 byte 68))
+    ∷ feed-either "family 1, 256 bytes, 312 of 313 held" (inFamily 1 (behindLogin (take 312 longTcp))) (0xA7 ∷ []) (fedIn 1 (closes 1 (12 at 1 byte 52)))
+    ∷ feed-either "family 1, L 501, 7 bytes held" (inFamily 1 (behindLogin (0x00 ∷ 0x00 ∷ 0x00 ∷ 0x00 ∷ 0x00 ∷ 0x00 ∷ 0x01 ∷ []))) (0xF5 ∷ 0x08 ∷ []) (fedIn 1 (closes 1 (3 at 0 byte 4)))
+    ∷ feed-either "command, CRC" (behindLogin []) (set getio 24 0xCA) (closes 25 (5 at 0 byte 21))
+    ∷ feed-either "command, second quantity 0, type 07" (behindLogin []) (tcp 0x00 0x0D (set (set getioField 2 0x07) 12 0x00) 0x78 0x01) (closes 25 (7 at 0 byte 20))
+    ∷ feed-either "command, size cut short" (behindLogin []) (tcp 0x00 0x07 (0x0C ∷ 0x01 ∷ 0x05 ∷ 0x00 ∷ 0x00 ∷ 0x00 ∷ 0x01 ∷ []) 0x11 0xC0) (closes 19 (8 at 0 byte 11))
+    ∷ feed-either "command, type 11 in codec 12" (behindLogin []) (tcp 0x00 0x0D (set getioField 2 0x11) 0xF0 0x8A) (closes 25 (13 at 0 byte 10))
+    ∷ feed-either "command, size 1 too large" (behindLogin []) (tcp 0x00 0x0D (set getioField 6 0x06) 0x00 0xF8) (closes 25 (14 at 0 byte 11))
+    ∷ feed-either "command, first digit 1" (behindLogin []) (tcp 0x00 0x16 (set getverField 7 0x13) 0xDE 0xD1) (closes 34 (15 at 0 byte 15))
+    ∷ feed-either "command, type 11, text" (behindLogin []) (tcp 0x00 0x16 (set getverField 2 0x11) 0xC5 0xF2) (closes 34 (14 at 0 byte 23))
     ∷ feed-either "login, IMEI length 14, bytes behind" (beforeLogin []) (set login 1 0x0E ++ getio) (closes 17 (15 at 0))
-    ∷ feed-either "login, last digit 3A, 16 bytes held" (beforeLogin (take 16 login)) (0x3A ∷ 0x00 ∷ []) (closes 1 (15 at 0))
+    ∷ feed-either "login, last digit 3A, 16 bytes held" (beforeLogin (take 16 login)) (0x3A ∷ 0x00 ∷ []) (closes 1 (15 at 0 byte 16))
     ∷ feed-either "a packet before the login" (beforeLogin []) getio (closes 17 (15 at 0))
     ∷ []
 
@@ -181,7 +181,7 @@ feedAnswers =
     ∷ feed-lent "more of a packet" (behindLogin (take 5 sampleTcp)) (take 4 (drop 5 sampleTcp)) (replicate 1280 7) (record { phase = 1; fill = 9; used = 4; item = Item.More }) (stored (take 9 sampleTcp)) (replicate 1280 7)
     ∷ feed-lent "a packet" (behindLogin []) (sampleTcp ++ getio) (replicate 1281 7) (record { phase = 1; fill = 0; used = 47; item = Item.Packet 47 }) (stored []) (sampleTcp ++ replicate 1234 7)
     ∷ feed-lent "a packet, 5 bytes held" (behindLogin (take 5 sampleTcp)) (drop 5 sampleTcp) (replicate 1280 7) (record { phase = 1; fill = 0; used = 42; item = Item.Packet 47 }) (stored []) (sampleTcp ++ replicate 1233 7)
-    ∷ feed-lent "priority 3, 9 bytes held" (behindLogin (take 9 brokenTcp)) (drop 9 brokenTcp) (replicate 1280 7) (record { phase = 2; fill = 0; used = 66; item = Item.Refused (10 at 1) }) (stored []) (replicate 1280 7)
+    ∷ feed-lent "priority 3, 9 bytes held" (behindLogin (take 9 brokenTcp)) (drop 9 brokenTcp) (replicate 1280 7) (record { phase = 2; fill = 0; used = 66; item = Item.Refused (10 at 1 byte 48) }) (stored []) (replicate 1280 7)
     ∷ []
 
 -- how many bytes are wanted before anything is judged; 0 where a feed gives 19
@@ -214,9 +214,9 @@ streams =
     streamed "no bytes" 2 [] [] (waiting forLogin [])
     ∷ streamed "a login, a packet, a command" 2 (login ++ sampleTcp ++ getio) (rule.login 123456789012345 ∷ rule.packet sampleTcp ∷ rule.packet getio ∷ []) (waiting forPacket [])
     ∷ streamed "a login, a command, 3 bytes of a packet" 2 (login ++ getio ++ (0x00 ∷ 0x00 ∷ 0x01 ∷ [])) (rule.login 123456789012345 ∷ rule.packet getio ∷ []) (waiting forPacket (0x00 ∷ 0x00 ∷ 0x01 ∷ []))
-    ∷ streamed "the CRC wrong, a command behind it" 2 (login ++ set getio 24 0xCA ++ getio) (rule.login 123456789012345 ∷ rule.refusing (5 at 0) ∷ []) rule.closed
+    ∷ streamed "the CRC wrong, a command behind it" 2 (login ++ set getio 24 0xCA ++ getio) (rule.login 123456789012345 ∷ rule.refusing (5 at 0 byte 21) ∷ []) rule.closed
     ∷ streamed "two logins, a command behind them" 2 (login ++ login ++ getio) (rule.login 123456789012345 ∷ rule.refusing (2 at 0) ∷ []) rule.closed
-    ∷ streamed "family 1, a record of 256 bytes" 1 (login ++ longTcp ++ getio) (rule.login 123456789012345 ∷ rule.refusing (12 at 1) ∷ []) rule.closed
+    ∷ streamed "family 1, a record of 256 bytes" 1 (login ++ longTcp ++ getio) (rule.login 123456789012345 ∷ rule.refusing (12 at 1 byte 52) ∷ []) rule.closed
     ∷ streamed "the same in family 2" 2 (login ++ longTcp ++ getio) (rule.login 123456789012345 ∷ rule.packet longTcp ∷ rule.packet getio ∷ []) (waiting forPacket [])
     ∷ streamed "a command first, then a login" 2 (getio ++ login) (rule.refusing (15 at 0) ∷ []) rule.closed
     ∷ []

@@ -24,7 +24,12 @@ abbrev pub EachAsSaid : List (List Row) → Type 0
 EachAsSaid [] = Unit {0}
 EachAsSaid (rows ∷ parts) = AsSaid rows × EachAsSaid parts
 
--- the refusal with this number at this record
+-- the refusal with this number at this record, whose place is this byte
+infix 60 _at_byte_
+abbrev pub _at_byte_ : ℕ → ℕ → ℕ → Refusal
+number at index byte place = record { number = number; index = index; place = place }
+
+-- the same where no field is to blame, or the first
 infix 60 _at_
 abbrev pub _at_ : ℕ → ℕ → Refusal
-number at index = record { number = number; index = index }
+number at index = number at index byte 0

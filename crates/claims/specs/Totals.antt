@@ -16,7 +16,7 @@ use Rattle.avl.specs.Records.{Element, AvlRecord, elementCount, fixedBytes, gro
 use Rattle.packet.specs.DataPackets.{readPacket}
 use Rattle.datagram.specs.declared.Header.{Header}
 use Rattle.datagram.specs.Datagrams.{judgeHeader, readDatagram}
-use Rattle.claims.specs.Rows.{_at_}
+use Rattle.claims.specs.Rows.{_at_byte_}
 
 -- a record's bytes with `n` for its total
 unfoldable pub bytesWith : Widths → ℕ → AvlRecord → List ℕ
@@ -37,14 +37,14 @@ pub record ReadUpTo (longest codec count : ℕ) (first : List AvlRecord) (n : �
   pub groupsKeep : GroupsRules (widthsOf codec) (kinds (widthsOf codec)) (r .groups)
   pub room : n < 256 ^ widthsOf codec .count
 
--- a TCP data packet and a datagram with this data field get 9 at the record `index`
-pub record Nine (limits : Limits) (d : List ℕ) (index : ℕ) : Type 0 where
-  pub inPacket : (p : List ℕ) → unframe (limits .largest) p ≡ accepted d → readPacket limits p ≡ refused (9 at index)
-  pub inDatagram : (p : List ℕ) (h : Header) → judgeHeader (limits .datagram) p ≡ accepted h → drop 23 p ≡ d → readDatagram limits p ≡ refused (9 at index)
+-- a TCP data packet and a datagram with this data field get 9 at the record `index`, which starts at `start` in the field
+pub record Nine (limits : Limits) (d : List ℕ) (index start : ℕ) : Type 0 where
+  pub inPacket : (p : List ℕ) → unframe (limits .largest) p ≡ accepted d → readPacket limits p ≡ refused (9 at index byte (8 + start))
+  pub inDatagram : (p : List ℕ) (h : Header) → judgeHeader (limits .datagram) p ≡ accepted h → drop 23 p ≡ d → readDatagram limits p ≡ refused (9 at index byte (23 + start))
 
 module _ (limits : Limits) (codec count : ℕ) (first : List AvlRecord) (n : ℕ) (r : AvlRecord) (rest : List ℕ) where
   abbrev Refused9 : Type 0
-  Refused9 = Nine limits (fieldWith codec count first n r rest) (length first)
+  Refused9 = Nine limits (fieldWith codec count first n r rest) (length first) (2 + length (joined (recordBytes (widthsOf codec)) first))
 
   pub record TotalKept : Type 0 where
     -- the total that the rules write is the number of elements

@@ -8,7 +8,7 @@ use lib.ListN.{length, take, drop, getD, length-drop}
 use lib.Dec.{eqb, leb}
 use lib.Seq.{length-take-le}
 use borrow.Author.Tests.{le-leb, lt-leb, eq-eqb, ne-eqb}
-use Rattle.wire.specs.declared.Fault.{Fault}
+use Rattle.wire.specs.declared.Refusal.{Refusal}
 use Rattle.wire.specs.Numbers.{Bytes, numberAt}
 use Rattle.wire.specs.Reading.{Reader, got, bad, _>>=_, _>>_, pure, here, require, number, bytes}
 use Rattle.wire.specs.Imei.{readPacked}
@@ -23,7 +23,7 @@ use Rattle.command.specs.Commands.{Command, mismatch, commandBody}
 use Rattle.command.specs.Walks.{bodyAs}
 
 -- a rule that is broken
-abbrev pub broken : ℕ → ℕ → Fault
+abbrev pub broken : ℕ → ℕ → Refusal
 broken number place = record { number = number; index = 0; place = place }
 
 -- what is read behind the size
@@ -78,7 +78,7 @@ module _ (l : Layout) (s : List ℕ) where
           size-there : commandBody l (length s) s 0 ≡ afterSize l (getD s 0 0) size s 5
           size-there = size-read ∙ here-got _ s 5 ∙ require-got _ 14 1 _ s 5 (eq-eqb _ _ filled) ∙ require-got _ 14 1 _ s 5 (le-leb _ _ room)
 
-          pub imei-wrong : {x : Fault} → readPacked (l .imei) s 5 ≡ bad x → commandBody l (length s) s 0 ≡ bad x
+          pub imei-wrong : {x : Refusal} → readPacked (l .imei) s 5 ≡ bad x → commandBody l (length s) s 0 ≡ bad x
           imei-wrong e = size-there ∙ then-bad (readPacked (l .imei)) _ s 5 e
 
           module _ {imei next : ℕ} (read : readPacked (l .imei) s 5 ≡ got imei next) (end : next ≡ 5 + l .imei) where

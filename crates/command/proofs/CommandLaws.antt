@@ -156,9 +156,9 @@ unfolding readField commandField
 field-sound d c h long e =
     let found = onAccepted-accepted (layoutOf (codecOf d)) _ e in
     let l = found .0 in
-    let first = check-accepted (eqb (firstCount d) 1) 7 _ (found .2) in
-    let last = check-accepted (eqb (lastCount d) 1) 7 _ (first .1) in
-    let walk = told-accepted _ (last .1) in
+    let first = check-accepted (eqb (firstCount d) 1) 7 _ _ (found .2) in
+    let last = check-accepted (eqb (lastCount d) 1) 7 _ _ (first .1) in
+    let walk = told-accepted _ _ (last .1) in
     let same : l .codec ≡ codecOf d = layout-codec (codecOf d) (found .1) in
     let body = body-sound l (inner d) (ap layoutOf same ∙ found .1) (bytes-inner d h) .if-got c (walk .0) (walk .1) in
     let one : firstCount d ≡ 1 = eqb-true _ _ (first .0) in
@@ -173,6 +173,6 @@ field-complete l c h fits =
     let q : 1 < 256 = lit< tt in
     simp (codec-enclosed (c .codec) 1 b k q, first-enclosed (c .codec) 1 b k q, last-enclosed (c .codec) 1 b k q, inner-enclosed (c .codec) 1 b k q)
     (onAccepted-passed _ _ (h .layout)
-    ∙ check-passed _ 7 _ refl
-    ∙ check-passed _ 7 _ refl
-    ∙ told-got _ (body-complete l c h (omega (arith, length-enclosed (c .codec) 1 b))))
+    ∙ check-passed _ 7 _ _ refl
+    ∙ check-passed _ 7 _ _ refl
+    ∙ told-got _ _ (body-complete l c h (omega (arith, length-enclosed (c .codec) 1 b))))

@@ -6,3 +6,4 @@ pub mod FieldLaws
 pub mod TextLaws
 pub mod WriterLaws
 pub mod RoundTrip
+pub mod OffendingLaws

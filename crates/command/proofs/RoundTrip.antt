@@ -11,13 +11,13 @@ use Rattle.wire.specs.declared.Limits.{Limits}
 use Rattle.wire.specs.Numbers.{Bytes, digits, be, pick, valueFrom}
 use Rattle.wire.specs.Sequences.{joined, All}
 use Rattle.wire.specs.Reading.{Read, here, require, number, repeat}
-use Rattle.wire.specs.Answers.{accepted, told}
+use Rattle.wire.specs.Answers.{accepted, told, unplaced}
 use Rattle.wire.specs.Imei.{asciiDigit, textDigit, packedPair, packed}
 use Rattle.wire.proofs.Widths.{bytes-append, bytes-be, length-digits, digits-small, value-digits, value-lt}
 use Rattle.wire.proofs.Enclosed.{bytes-enclosed}
 use Rattle.wire.proofs.Placed.{between-whole}
 use Rattle.wire.proofs.Exactness.{Meets, meets-then, meets-next, meets-pure, meets-require, repeat-complete}
-use Rattle.wire.proofs.Accepting.{both-true, check-accepted, check-passed, onAccepted-accepted, onAccepted-passed, told-accepted, told-got}
+use Rattle.wire.proofs.Accepting.{both-true, check-accepted, check-passed, onAccepted-accepted, onAccepted-passed, told-accepted, told-got, unplaced-accepted, unplaced-passed}
 use Rattle.wire.proofs.ImeiText.{digit-exact, length-digitBytes}
 use Rattle.frame.specs.Frame.{framed}
 use Rattle.command.specs.declared.Layout.{Layout}
@@ -53,10 +53,10 @@ digits-given (suc n) s at =
 given-range : (l : Layout) (s : List ℕ) (n : ℕ) → givenImei l s ≡ accepted n → n < 10 ^ (2 * l .imei - 1)
 unfolding givenImei
 given-range l s n e =
-    let count = check-accepted (eqb (length s) (2 * l .imei - 1)) 15 _ e in
-    let read = onAccepted-accepted (told (repeat (length s) textDigit s 0)) _ (count .1) in
+    let count = check-accepted (eqb (length s) (2 * l .imei - 1)) 15 _ _ e in
+    let read = onAccepted-accepted (unplaced (told 0 (repeat (length s) textDigit s 0))) _ (count .1) in
     let ds = read .0 in
-    let walk = told-accepted _ (read .1) in
+    let walk = told-accepted _ _ (unplaced-accepted _ (read .1)) in
     let k = digits-given (length s) s 0 .if-got ds (walk .0) (walk .1) in
     let value : valueFrom 10 0 ds ≡ n = cc in
     let size : length ds ≡ 2 * l .imei - 1 = k .0 ∙ eqb-true (length s) (2 * l .imei - 1) (count .0) in
@@ -69,9 +69,9 @@ given-digits l imei h =
     let ds = digits 10 w imei in
     let s = joined asciiDigit ds in
     let size : length s ≡ w = length-digitBytes ds ∙ length-digits 10 w imei in
-    check-passed (eqb (length s) w) 15 _ (eq-eqb (length s) w size)
-    ∙ onAccepted-passed (told (repeat (length s) textDigit s 0)) _
-    (told-got _ (ap (λ (n : ℕ). repeat n textDigit s 0) (length-digitBytes ds) ∙ repeat-complete digit-exact ds s 0 (length s) (digits-small 10 w imei (lit< tt)) (between-whole s)))
+    check-passed (eqb (length s) w) 15 _ _ (eq-eqb (length s) w size)
+    ∙ onAccepted-passed (unplaced (told 0 (repeat (length s) textDigit s 0))) _
+    (unplaced-passed _ (told-got _ _ (ap (λ (n : ℕ). repeat n textDigit s 0) (length-digitBytes ds) ∙ repeat-complete digit-exact ds s 0 (length s) (digits-small 10 w imei (lit< tt)) (between-whole s))))
     ∙ ap accepted (value-digits 10 w imei (lit< tt) h)
 
 -- ---- bytes
@@ -100,14 +100,14 @@ pub written-read : (limits : Limits) (codec type : ℕ) (imei text p : List ℕ)
     × (readCommand limits p ≡ accepted (record { codec = codec; type = type; imei = n; text = text }))
 unfolding commandBytes bytesWithin packetOf
 written-read limits codec type imei text p limit h e =
-    let row = onAccepted-accepted (layoutOf codec) _ (check-accepted (leb 1 (limits .largest)) 21 _ e .1) in
+    let row = onAccepted-accepted (layoutOf codec) _ (check-accepted (leb 1 (limits .largest)) 21 _ _ e .1) in
     let l = row .0 in
-    let kind = check-accepted (member type (types l)) 13 _ (row .2) in
+    let kind = check-accepted (member type (types l)) 13 _ _ (row .2) in
     let given = onAccepted-accepted (givenImei l imei) _ (kind .1) in
     let n = given .0 in
     let c : Command = record { codec = codec; type = type; imei = n; text = text } in
-    let empty = check-accepted (mismatch type text) 14 _ (given .2) in
-    let short = check-accepted (leb (length (commandField l c) + 12) (limits .largest)) 14 _ (empty .1) in
+    let empty = check-accepted (mismatch type text) 14 _ _ (given .2) in
+    let short = check-accepted (leb (length (commandField l c) + 12) (limits .largest)) 14 _ _ (empty .1) in
     let most : length (commandField l c) + 12 ≤ (limits .largest) = leb-true _ _ (short .0) in
     let whole : p ≡ framed (commandField l c) = cc in (
       l,
@@ -133,10 +133,10 @@ pub read-written : (limits : Limits) (c : Command) (p : List ℕ) (k : CommandPa
 unfolding commandBytes bytesWithin packetOf
 read-written limits c p k =
     let l = k .row in
-    check-passed (leb 1 (limits .largest)) 21 _ (le-leb 1 (limits .largest) (omega (arith, k .frame .most)))
+    check-passed (leb 1 (limits .largest)) 21 _ _ (le-leb 1 (limits .largest) (omega (arith, k .frame .most)))
     ∙ onAccepted-passed (layoutOf (c .codec)) _ (k .rules .layout)
-    ∙ check-passed (member (c .type) (types l)) 13 _ (k .rules .typeAllowed)
+    ∙ check-passed (member (c .type) (types l)) 13 _ _ (k .rules .typeAllowed)
     ∙ onAccepted-passed (givenImei l (joined asciiDigit (digits 10 (2 * l .imei - 1) (c .imei)))) _ (given-digits l (c .imei) (k .rules .imeiRange))
-    ∙ check-passed (mismatch (c .type) (c .text)) 14 _ (mismatch-complete (c .type) (c .text) (k .rules .mismatchEmpty))
-    ∙ check-passed (leb (length (commandField l c) + 12) (limits .largest)) 14 _ (le-leb _ _ (k .frame .most))
+    ∙ check-passed (mismatch (c .type) (c .text)) 14 _ _ (mismatch-complete (c .type) (c .text) (k .rules .mismatchEmpty))
+    ∙ check-passed (leb (length (commandField l c) + 12) (limits .largest)) 14 _ _ (le-leb _ _ (k .frame .most))
     ∙ ap accepted (sym (k .whole))

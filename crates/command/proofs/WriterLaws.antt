@@ -9,7 +9,7 @@ use lib.Seq.{sets, length-sets, take-at}
 use Rattle.wire.specs.Numbers.{digits, be, valueFrom}
 use Rattle.wire.specs.Sequences.{joined}
 use Rattle.wire.specs.Reading.{Read, got, bad, Reader, andThen, _>>=_, pure, repeat}
-use Rattle.wire.specs.Answers.{accepted, told, onAccepted}
+use Rattle.wire.specs.Answers.{accepted, told, unplaced, onAccepted}
 use Rattle.wire.specs.Envelope.{enclosed}
 use Rattle.wire.specs.Imei.{packedPair, packed}
 use Rattle.wire.proofs.BufferLaws.{sets-front}
@@ -41,11 +41,11 @@ packed-left l at (suc w) n h =
 
 -- the number of the digits, read in one walk
 pub told-value : (base n : ℕ) (m : Reader ℕ) (s : List ℕ) (at : ℕ)
-    → told ((repeat n m >>= λ ds. pure (valueFrom base 0 ds)) s at) ≡ onAccepted (told (repeat n m s at)) (λ ds. accepted (valueFrom base 0 ds))
-unfolding _>>=_ andThen pure told onAccepted
+    → unplaced (told 0 ((repeat n m >>= λ ds. pure (valueFrom base 0 ds)) s at)) ≡ onAccepted (unplaced (told 0 (repeat n m s at))) (λ ds. accepted (valueFrom base 0 ds))
+unfolding _>>=_ andThen pure told unplaced onAccepted
 told-value base n m s at = go (repeat n m s at)
   where
-    go : (r : Read (List ℕ)) → told (andThen r (λ ds next. pure (valueFrom base 0 ds) s next)) ≡ onAccepted (told r) (λ ds. accepted (valueFrom base 0 ds))
+    go : (r : Read (List ℕ)) → unplaced (told 0 (andThen r (λ ds next. pure (valueFrom base 0 ds) s next))) ≡ onAccepted (unplaced (told 0 r)) (λ ds. accepted (valueFrom base 0 ds))
     go (got ds next) = refl
     go (bad x) = refl
 

@@ -10,7 +10,7 @@ use Rattle.wire.specs.Numbers.{Bytes, be, pick}
 use Rattle.wire.specs.Sequences.{fields}
 use Rattle.wire.specs.Envelope.{enclosed, codecOf, firstCount, lastCount, inner}
 use Rattle.wire.specs.Reading.{Reader, _>>=_, _>>_, pure, here, require, number, bytes}
-use Rattle.wire.specs.Answers.{Answer, accepted, refused, check, told, onAccepted}
+use Rattle.wire.specs.Answers.{Answer, accepted, refused, checkAt, from, told, onAccepted}
 use Rattle.wire.specs.Imei.{packed, readPacked}
 use Rattle.frame.specs.Frame.{framed, FrameRules, unframe}
 use Rattle.command.specs.Layouts.{types, layoutOf, member}
@@ -71,15 +71,17 @@ commandBody l space = do
   require (mismatch type text) 14 textAt
   pure (record { codec = l .codec; type = type; imei = imei; text = text })
 
--- 6, 7, then the walk
+-- a data field, places from its start: 6 at the codec; 7 at the first quantity if that is not 1, else at the second; then the walk
 unfoldable pub readField : List ℕ → Answer Command
 readField d =
     onAccepted (layoutOf (codecOf d))
-    (λ l. check (eqb (firstCount d) 1) 7 (check (eqb (lastCount d) 1) 7 (told (commandBody l (length (inner d)) (inner d) 0))))
+    (λ l. checkAt (eqb (firstCount d) 1) 7 1
+    (checkAt (eqb (lastCount d) 1) 7 (length d - 1)
+    (told 2 (commandBody l (length (inner d)) (inner d) 0))))
 
--- 21, 1 to 5, then 6, 7 and the walk
+-- 21, 1 to 5, then 6, 7 and the walk in the data field, which starts at 8
 unfoldable pub readCommand : Limits → List ℕ → Answer Command
-readCommand limits p = onAccepted (unframe (limits .largest) p) readField
+readCommand limits p = onAccepted (unframe (limits .largest) p) (λ d. from 8 (readField d))
 
 -- ---- the result: codec, type, IMEI, and the text's offset from the input's start and length
 

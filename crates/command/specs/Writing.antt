@@ -7,7 +7,7 @@ use Rattle.wire.specs.declared.Limits.{Limits}
 use Rattle.wire.specs.Limits.{isKnown}
 use Rattle.wire.specs.Numbers.{valueFrom}
 use Rattle.wire.specs.Reading.{repeat}
-use Rattle.wire.specs.Answers.{Answer, accepted, check, told, onAccepted}
+use Rattle.wire.specs.Answers.{Answer, accepted, check, told, unplaced, onAccepted}
 use Rattle.wire.specs.Imei.{textDigit}
 use Rattle.frame.specs.Frame.{framed}
 use Rattle.command.specs.Layouts.{types, layoutOf, member}
@@ -18,7 +18,7 @@ use Rattle.command.specs.Commands.{Command, commandField, mismatch}
 unfoldable pub givenImei : Layout → List ℕ → Answer ℕ
 givenImei l s =
     check (eqb (length s) (2 * l .imei - 1)) 15
-    (onAccepted (told (repeat (length s) textDigit s 0)) (λ ds. accepted (valueFrom 10 0 ds)))
+    (onAccepted (unplaced (told 0 (repeat (length s) textDigit s 0))) (λ ds. accepted (valueFrom 10 0 ds)))
 
 -- 14: the packet is too long, or type 11 has text
 unfoldable pub packetOf : Limits → Layout → Command → Answer (List ℕ)

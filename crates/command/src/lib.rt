@@ -1,7 +1,6 @@
 // Command packets of codecs 12 and 14: read and written.
 use frame::Framed;
 use wire::Decimal;
-use wire::Fault;
 use wire::Limits;
 use wire::Refusal;
 use wire::Written;
@@ -9,7 +8,7 @@ ghost use mathlib.Core.Path.{_≡_};
 ghost use Prim.Native.Nat.{_+_, _-_, _*_, _≤_};
 ghost use lib.ListN.{length};
 ghost use lib.Seq.{sets};
-ghost use Rattle.wire.specs.Answers.{accepted};
+ghost use Rattle.wire.specs.Answers.{accepted, from};
 ghost use Rattle.wire.specs.Buffers.{writing, leaving, writtenAs};
 ghost use Rattle.wire.specs.Imei.{packed};
 ghost use Rattle.frame.specs.Frame.{framed};
@@ -96,13 +95,13 @@ fn allows_text(kind: u8, text: &[u8]) -> bool
 // What stands between the quantities: the type, the IMEI and how long the text is, or why the walk stopped.
 pub enum BodyWalk {
     Of(u8, u64, usize),
-    Stopped(Fault),
+    Stopped(Refusal),
 }
 
 fn stopped(number: usize, place: usize) -> BodyWalk
     ensures { λ r. ⌜ r ≡ BodyWalk.Stopped (record { number = number; index = 0; place = place }) ⌝ }
 {
-    BodyWalk::Stopped(Fault {
+    BodyWalk::Stopped(Refusal {
         number,
         index: 0,
         place,
@@ -143,26 +142,31 @@ fn read_body(l: Layout, s: &[u8]) -> BodyWalk
     }
 }
 
-fn refused(number: usize) -> CommandAnswer
-    ensures { λ r. ⌜ r ≡ CommandAnswer.Refused (record { number = number; index = 0 }) ⌝ }
+fn refused(number: usize, place: usize) -> CommandAnswer
+    ensures { λ r. ⌜ r ≡ CommandAnswer.Refused (record { number = number; index = 0; place = place }) ⌝ }
 {
-    CommandAnswer::Refused(Refusal { number, index: 0 })
+    CommandAnswer::Refused(Refusal {
+        number,
+        index: 0,
+        place,
+    })
 }
 
+// The data field, which starts at 8 in the packet.
 fn read_field(d: &[u8]) -> CommandAnswer
     requires { ⌜ 3 ≤ length (now d) ⌝ }
-    ensures { λ r. ⌜ commandAs r ≡ answered (readField (now (d .entry))) ⌝ }
+    ensures { λ r. ⌜ commandAs r ≡ answered (from 8 (readField (now (d .entry)))) ⌝ }
 {
     let codec = d[0];
     match layout_of(codec) {
-        Row::Unknown => refused(6),
+        Row::Unknown => refused(6, 8),
         Row::Of(l) => {
             if d[1] != 1 {
-                return refused(7);
+                return refused(7, 9);
             }
             let last = d.len() - 1;
             if d[last] != 1 {
-                return refused(7);
+                return refused(7, 8 + last);
             }
             match read_body(l, &d[2..last]) {
                 BodyWalk::Of(kind, imei, size) => CommandAnswer::Accepted(CommandFields {
@@ -175,6 +179,7 @@ fn read_field(d: &[u8]) -> CommandAnswer
                 BodyWalk::Stopped(x) => CommandAnswer::Refused(Refusal {
                     number: x.number,
                     index: x.index,
+                    place: 8 + (2 + x.place),
                 }),
             }
         }
@@ -185,7 +190,7 @@ pub fn judge_command(limits: Limits, p: &[u8]) -> CommandAnswer
     ensures { λ r. ⌜ commandAs r ≡ answerCommand limits (now (p .entry)) ⌝ }
 {
     match frame::unframed(limits.largest, p) {
-        Framed::Unframed(number) => refused(number),
+        Framed::Unframed(number) => CommandAnswer::Refused(frame::refusal_of(p.len(), number)),
         Framed::Field(n) => {
             let end = 8 + n;
             read_field(&p[8..end])
@@ -221,9 +226,13 @@ pub enum Given {
 }
 
 fn not_given(number: usize) -> Given
-    ensures { λ r. ⌜ r ≡ Given.Refused (record { number = number; index = 0 }) ⌝ }
+    ensures { λ r. ⌜ r ≡ Given.Refused (record { number = number; index = 0; place = 0 }) ⌝ }
 {
-    Given::Refused(Refusal { number, index: 0 })
+    Given::Refused(Refusal {
+        number,
+        index: 0,
+        place: 0,
+    })
 }
 
 // How many digits stand in `w` bytes; the first of all is 0 and is not given.
@@ -324,9 +333,13 @@ fn put_field(out: &mut [u8], l: Layout, kind: u8, imei: u64, text: &[u8])
 }
 
 fn not_written(number: usize) -> Written
-    ensures { λ r. ⌜ r ≡ Written.Refused (record { number = number; index = 0 }) ⌝ }
+    ensures { λ r. ⌜ r ≡ Written.Refused (record { number = number; index = 0; place = 0 }) ⌝ }
 {
-    Written::Refused(Refusal { number, index: 0 })
+    Written::Refused(Refusal {
+        number,
+        index: 0,
+        place: 0,
+    })
 }
 
 // The field, then the frame around it.

@@ -45,12 +45,12 @@ module _ (limits : Limits) (room : ℕ) (c : Gathered) (s : List ℕ) where
     pub tight-into : {h : List ℕ} → opened limits room c ≡ accepted h → length out < limits .largest
         → fedInto limits room c s out ≡ record { state = c; used = 0; told = settled (refusing (refusal 18)) }
     unfolding fedInto feeding
-    tight-into e h = ap (feeding limits room c s) (onAccepted-passed (opened limits room c) _ e ∙ check-failed _ 18 _ (lt-leb _ _ h))
+    tight-into e h = ap (feeding limits room c s) (onAccepted-passed (opened limits room c) _ e ∙ check-failed _ 18 _ _ (lt-leb _ _ h))
 
     pub open-into : {h : List ℕ} → opened limits room c ≡ accepted h → limits .largest ≤ length out
         → fedInto limits room c s out ≡ outcome room (taken limits (phaseOf (c .phase)) h s)
     unfolding fedInto feeding
-    open-into e h = ap (feeding limits room c s) (onAccepted-passed (opened limits room c) _ e ∙ check-passed _ 18 _ (le-leb _ _ h))
+    open-into e h = ap (feeding limits room c s) (onAccepted-passed (opened limits room c) _ e ∙ check-passed _ 18 _ _ (le-leb _ _ h))
 
     -- a long buffer changes nothing
     pub fed-into : limits .largest ≤ length out → fedInto limits room c s out ≡ fed limits room c s

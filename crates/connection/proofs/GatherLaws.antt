@@ -7,10 +7,10 @@ use lib.ListN.{length, take, drop, length-append}
 use lib.Seq.{sets, length-sets, take-length, length-take-le}
 use borrow.Author.Tests.{eq-eqb, ne-eqb}
 use Rattle.wire.specs.declared.Limits.{Limits}
-use Rattle.wire.specs.Answers.{accepted, refused, refusal}
+use Rattle.wire.specs.Answers.{accepted, refused}
 use Rattle.wire.proofs.Accepting.{by-length}
 use Rattle.frame.specs.declared.Framed.{Framed}
-use Rattle.frame.specs.Frame.{heading}
+use Rattle.frame.specs.Frame.{heading, refusalOf}
 use Rattle.frame.proofs.FramingLaws.{heading-accepted}
 use Rattle.stream.specs.Stream.{Item, login, packet, refusing, more, settled, waiting, closed, needed, judged, next, taken}
 use Rattle.stream.proofs.StreamLaws.{needed-least, item-long, needed-most, needed-front, header-length, held-less, feed-more, feed-judged, feed-refused, refused-early}
@@ -72,11 +72,11 @@ module _ {limits : Limits} {room : ℕ} {c : Gathered} {out : List ℕ} (able : 
 
     -- ---- the header is refused
 
-    module _ (k : ℕ) (e : heading (needed limits (phaseOf (c .phase)) (take (c .fill + front - 0) (drop 0 stored))) ≡ Framed.Unframed k) where
-      bad : needed limits (phaseOf (c .phase)) (heldBy c ++ s) ≡ refused (refusal k)
-      bad = needed-unframed limits (phaseOf (c .phase)) (heldBy c ++ s) k (ap heading (sym tells) ∙ e)
+    module _ (size k : ℕ) (e : heading (needed limits (phaseOf (c .phase)) (take (c .fill + front - 0) (drop 0 stored))) ≡ Framed.Unframed k) where
+      bad : needed limits (phaseOf (c .phase)) (heldBy c ++ s) ≡ refused (refusalOf size k)
+      bad = needed-unframed limits (phaseOf (c .phase)) (heldBy c ++ s) size k (ap heading (sym tells) ∙ e)
 
-      pub header-taken : taken limits (phaseOf (c .phase)) (heldBy c) s ≡ record { used = front; told = settled (refusing (refusal k)); state = closed }
+      pub header-taken : taken limits (phaseOf (c .phase)) (heldBy c) s ≡ record { used = front; told = settled (refusing (refusalOf size k)); state = closed }
       header-taken =
           let early = refused-early limits (phaseOf (c .phase)) (heldBy c) s (is .waits) bad in
           let long = header-length limits (phaseOf (c .phase)) (heldBy c) s bad in

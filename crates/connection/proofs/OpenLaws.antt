@@ -10,10 +10,10 @@ use lib.Dec.{eqb, leb}
 use borrow.Author.Tests.{le-leb, leb-true, eq-eqb, eqb-true}
 use Rattle.wire.specs.declared.Limits.{Limits}
 use Rattle.wire.specs.declared.Refusal.{Refusal}
-use Rattle.wire.specs.Answers.{Answer, accepted, refused, refusal, check, onAccepted}
+use Rattle.wire.specs.Answers.{Answer, accepted, refused, refusal, check, checkAt, onAccepted}
 use Rattle.wire.proofs.Accepting.{by-length, check-accepted, check-passed, onAccepted-passed, onAccepted-refused}
 use Rattle.frame.specs.declared.Framed.{Framed}
-use Rattle.frame.specs.Frame.{header, heading, fieldLength}
+use Rattle.frame.specs.Frame.{header, heading, fieldLength, refusalOf}
 use Rattle.frame.proofs.FramingLaws.{header-unframed}
 use Rattle.stream.specs.Stream.{Phase, forLogin, forPacket, Verdict, more, settled, needed, verdict}
 use Rattle.stream.proofs.StreamLaws.{needed-long, needed-short, verdict-more, more-needed}
@@ -27,16 +27,16 @@ unfolding heading onAccepted
 heading-unframed (accepted n) e = absurd (let z : _≡_ {A = ℕ} 0 1 = cc in omega arith)
 heading-unframed (refused x) e = e
 
-pub needed-unframed : (limits : Limits) (phase : Phase) (s : List ℕ) (k : ℕ) → heading (needed limits phase s) ≡ Framed.Unframed k → needed limits phase s ≡ refused (refusal k)
+pub needed-unframed : (limits : Limits) (phase : Phase) (s : List ℕ) (size k : ℕ) → heading (needed limits phase s) ≡ Framed.Unframed k → needed limits phase s ≡ refused (refusalOf size k)
 unfolding needed heading
-needed-unframed limits forLogin s k e = absurd (let z : _≡_ {A = ℕ} 0 1 = cc in omega arith)
-needed-unframed limits forPacket s k e =
+needed-unframed limits forLogin s size k e = absurd (let z : _≡_ {A = ℕ} 0 1 = cc in omega arith)
+needed-unframed limits forPacket s size k e =
     by-length 8 (length s)
     (λ h.
     let long = needed-long limits s h in
     let head = header (limits .largest) s in
     let bad : heading head ≡ Framed.Unframed k = heading-unframed head (ap heading (sym long) ∙ e) in
-    long ∙ onAccepted-refused head _ (header-unframed (limits .largest) s k bad (accepted (fieldLength s))))
+    long ∙ onAccepted-refused head _ (header-unframed (limits .largest) s size k bad (accepted (fieldLength s))))
     (λ h. absurd (let wrong : Framed.Field 8 ≡ Framed.Unframed k = ap heading (sym (needed-short limits s h)) ∙ e in let z : _≡_ {A = ℕ} 0 1 = cc in omega arith))
 
 -- ---- the test
@@ -67,12 +67,12 @@ module _ (limits : Limits) (room : ℕ) (c : Gathered) where
   pub open-is : {h : List ℕ} → opened limits room c ≡ accepted h → Open × (h ≡ heldBy c)
   unfolding opened
   open-is {h} e =
-      let c₀ = check-accepted _ 19 _ e in
-      let c₁ = check-accepted _ 19 _ (c₀ .1) in
-      let c₂ = check-accepted _ 19 _ (c₁ .1) in
-      let c₃ = check-accepted _ 19 _ (c₂ .1) in
-      let c₄ = check-accepted _ 19 _ (c₃ .1) in
-      let c₅ = check-accepted _ 19 _ (c₄ .1) in (
+      let c₀ = check-accepted _ 19 _ _ e in
+      let c₁ = check-accepted _ 19 _ _ (c₀ .1) in
+      let c₂ = check-accepted _ 19 _ _ (c₁ .1) in
+      let c₃ = check-accepted _ 19 _ _ (c₂ .1) in
+      let c₄ = check-accepted _ 19 _ _ (c₃ .1) in
+      let c₅ = check-accepted _ 19 _ _ (c₄ .1) in (
         record {
           known = leb-true _ _ (c₀ .0);
           phase = leb-true _ _ (c₁ .0);
@@ -87,16 +87,16 @@ module _ (limits : Limits) (room : ℕ) (c : Gathered) where
   pub is-open : Open → opened limits room c ≡ accepted (heldBy c)
   unfolding opened isMore
   is-open o =
-      check-passed _ 19 _ (le-leb _ _ (o .known))
-      ∙ check-passed _ 19 _ (le-leb _ _ (o .phase))
-      ∙ check-passed _ 19 _ (eq-eqb _ _ (o .size))
-      ∙ check-passed _ 19 _ (le-leb _ _ (o .fill))
-      ∙ check-passed _ 19 _ (o .spare)
-      ∙ check-passed _ 19 _ (ap isMore (o .waits))
+      check-passed _ 19 _ _ (le-leb _ _ (o .known))
+      ∙ check-passed _ 19 _ _ (le-leb _ _ (o .phase))
+      ∙ check-passed _ 19 _ _ (eq-eqb _ _ (o .size))
+      ∙ check-passed _ 19 _ _ (le-leb _ _ (o .fill))
+      ∙ check-passed _ 19 _ _ (o .spare)
+      ∙ check-passed _ 19 _ _ (ap isMore (o .waits))
 
   -- it is open, or it is 19
   pub open-or : {P : Type 0} → (opened limits room c ≡ accepted (heldBy c) → P) → (opened limits room c ≡ refused (refusal 19) → P) → P
-  unfolding opened check
+  unfolding opened checkAt
   open-or {P} f g =
       go (leb 1 (limits .largest)) (leb (c .phase) 1) (eqb (length (c .held)) room) (leb (c .fill) room) (isZero (drop (c .fill) (c .held)))
       (isMore (verdict limits (phaseOf (c .phase)) (heldBy c))) f g

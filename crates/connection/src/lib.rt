@@ -250,7 +250,7 @@ fn gather(
     match needed(limits, phase, &held[0..got]) {
         Framed::Unframed(number) => {
             clear(held, got);
-            closing(front, Refusal { number, index: 0 })
+            closing(front, frame::refusal_of(got, number))
         }
         Framed::Field(n) => {
             let used = n - fill;
@@ -274,7 +274,11 @@ fn unfed(phase: u8, fill: usize, number: usize) -> Lent
         phase,
         fill,
         used: 0,
-        item: Item::Refused(Refusal { number, index: 0 }),
+        item: Item::Refused(Refusal {
+            number,
+            index: 0,
+            place: 0,
+        }),
     }
 }
 
@@ -354,6 +358,7 @@ impl Connection {
                 refusal: Refusal {
                     number: 21,
                     index: 0,
+                    place: 0,
                 },
                 state: Self {
                     held,
@@ -367,6 +372,7 @@ impl Connection {
             refusal: Refusal {
                 number: 0,
                 index: 0,
+                place: 0,
             },
             state: Self {
                 held,

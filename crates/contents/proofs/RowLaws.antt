@@ -416,7 +416,7 @@ module _ (limits : Limits) (small : Most limits) (p t : List ℕ) (b : Bytes p) 
       let title = sym (table-title (k .2)) in (
         table-lists (k .2),
         onAccepted-passed (readPacket limits p) _ (k .1) ∙ ap accepted title,
-        check-passed _ 21 _ (le-leb 1 (limits .largest) (omega (arith, packet-exact limits p (k .0) b .0 (k .1) .frame .most)))
+        check-passed _ 21 _ _ (le-leb 1 (limits .largest) (omega (arith, packet-exact limits p (k .0) b .0 (k .1) .frame .most)))
             ∙ ap (λ r. accepted (be 4 (acknowledged r))) (k .1)
             ∙ ap (λ (d : DataResult). accepted (be 4 (d .count))) title,
       )

@@ -270,6 +270,7 @@ fn write_field(
         return Written::Refused(Refusal {
             number: 18,
             index: 0,
+            place: 0,
         });
     }
     put_contents(

@@ -17,7 +17,7 @@ use Rattle.wire.proofs.Widths.{length-digits, number-lt, number-be, be-number, 
 use Rattle.wire.proofs.Placed.{between-join, between-split, between-moved, between-bytes, between-whole}
 use Rattle.wire.proofs.Enclosed.{length-enclosed}
 use Rattle.wire.proofs.Exactness.{meets-then, meets-pure, then-got, Exact, number-exact}
-use Rattle.wire.proofs.Accepting.{check-accepted, check-passed, onAccepted-accepted, onAccepted-passed, told-accepted, told-got}
+use Rattle.wire.proofs.Accepting.{check-accepted, check-passed, onAccepted-accepted, onAccepted-passed, from-accepted, from-passed, told-accepted, told-got}
 use Rattle.wire.proofs.ImeiText.{imei-exact, length-imeiText}
 use Rattle.avl.specs.DataField.{AvlData, dataBytes, readData}
 use Rattle.avl.proofs.DataLaws.{data-exact, data-complete}
@@ -63,16 +63,16 @@ datagram-sound : (limits : Limits) (p : List ℕ) (g : Datagram) → Bytes p →
 unfolding readDatagram judgeHeader contentBytes datagramBytes
 datagram-sound limits p g h e =
     let c₄ = onAccepted-accepted (judgeHeader (limits .datagram) p) _ e in
-    let c₀ = check-accepted (leb 1 (limits .datagram)) 21 _ (c₄ .1) in
-    let c₁ = check-accepted (leb 26 (length p)) 1 _ (c₀ .1) in
-    let c₂ = check-accepted (leb (length p) (limits .datagram)) 3 _ (c₁ .1) in
-    let c₃ = check-accepted (eqb (length p) (numberAt p 0 2 + 2)) 4 _ (c₂ .1) in
-    let c₅ = told-accepted _ (c₃ .1) in
+    let c₀ = check-accepted (leb 1 (limits .datagram)) 21 _ _ (c₄ .1) in
+    let c₁ = check-accepted (leb 26 (length p)) 1 _ _ (c₀ .1) in
+    let c₂ = check-accepted (leb (length p) (limits .datagram)) 3 _ _ (c₁ .1) in
+    let c₃ = check-accepted (eqb (length p) (numberAt p 0 2 + 2)) 4 _ _ (c₂ .1) in
+    let c₅ = told-accepted _ _ (c₃ .1) in
     let c₆ = onAccepted-accepted _ _ (c₄ .2) in
     let long : 26 ≤ length p = leb-true _ _ (c₁ .0) in
     let counted : length p ≡ numberAt p 0 2 + 2 = eqb-true _ _ (c₃ .0) in
     let k = header-exact .sound p 2 h (omega arith) .if-got _ _ (c₅ .1) in
-    let d = data-exact (limits .longest) (drop 23 p) (c₆ .0) (bytes-drop 23 p h) (simp length-drop (omega arith)) .0 (c₆ .1) in
+    let d = data-exact (limits .longest) (drop 23 p) (c₆ .0) (bytes-drop 23 p h) (simp length-drop (omega arith)) .0 (from-accepted 23 _ (c₆ .1)) in
     let x : Datagram = record { header = c₄ .0; payload = c₆ .0 } in
     let end : c₅ .0 ≡ 23 = omega (arith, k .0 .size, length-header (c₄ .0)) in
     let rest : drop 2 p ≡ contentBytes x = k .0 .layout ∙ ap (λ (l : List ℕ). headerBytes (c₄ .0) ++ l) (ap (λ (n : ℕ). drop n p) end ∙ d .1) in
@@ -108,12 +108,12 @@ datagram-complete limits p g k =
     let number : numberAt p 0 2 ≡ length (contentBytes g) = number-be 2 (length (contentBytes g)) p 0 (contentBytes g) (k .counted) (k .whole) in
     let long : 3 ≤ length (drop 23 p) = subst (λ (l : List ℕ). 3 ≤ length l) (sym (a .1)) (data-long (g .payload)) in
     onAccepted-passed (judgeHeader (limits .datagram) p) _
-    (check-passed _ 21 _ (le-leb 1 (limits .datagram) (omega (arith, k .most, length-datagram g)))
-    ∙ check-passed _ 1 _ (le-leb 26 (length p) (omega (arith, length-drop 23 p)))
-    ∙ check-passed _ 3 _ (le-leb (length p) (limits .datagram) (omega (arith, k .most, length-datagram g)))
-    ∙ check-passed _ 4 _ (eq-eqb (length p) (numberAt p 0 2 + 2) (omega arith))
-    ∙ told-got _ (a .0))
-    ∙ onAccepted-passed _ _ (ap (readData (limits .longest)) (a .1) ∙ data-complete (limits .longest) (g .payload) (k .payload))
+    (check-passed _ 21 _ _ (le-leb 1 (limits .datagram) (omega (arith, k .most, length-datagram g)))
+    ∙ check-passed _ 1 _ _ (le-leb 26 (length p) (omega (arith, length-drop 23 p)))
+    ∙ check-passed _ 3 _ _ (le-leb (length p) (limits .datagram) (omega (arith, k .most, length-datagram g)))
+    ∙ check-passed _ 4 _ _ (eq-eqb (length p) (numberAt p 0 2 + 2) (omega arith))
+    ∙ told-got _ _ (a .0))
+    ∙ onAccepted-passed _ _ (from-passed 23 _ (ap (readData (limits .longest)) (a .1) ∙ data-complete (limits .longest) (g .payload) (k .payload)))
 
 -- the judge accepts exactly what keeps the rules
 pub datagram-exact : (limits : Limits) (p : List ℕ) (g : Datagram) → Bytes p → (readDatagram limits p ≡ accepted g) ↔ UdpPacket limits g p

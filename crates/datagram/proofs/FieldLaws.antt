@@ -8,8 +8,8 @@ use lib.Dec.{leb}
 use borrow.Author.Tests.{leb-true}
 use Rattle.wire.specs.declared.Limits.{Limits}
 use Rattle.wire.specs.Numbers.{Bytes}
-use Rattle.wire.specs.Answers.{accepted}
-use Rattle.wire.proofs.Accepting.{check-accepted, onAccepted-accepted}
+use Rattle.wire.specs.Answers.{accepted, from}
+use Rattle.wire.proofs.Accepting.{check-accepted, onAccepted-accepted, from-accepted}
 use Rattle.avl.specs.DataField.{readData}
 use Rattle.avl.proofs.FieldLaws.{FieldOf}
 use Rattle.datagram.specs.Datagrams.{Datagram, judgeHeader, readDatagram}
@@ -21,9 +21,9 @@ module _ (limits : Limits) (p : List ℕ) {g : Datagram} (e : readDatagram limit
   unfolding readDatagram judgeHeader
   datagram-field =
       let c₄ = onAccepted-accepted (judgeHeader (limits .datagram) p) _ e in
-      let c₀ = check-accepted (leb 1 (limits .datagram)) 21 _ (c₄ .1) in
-      let c₁ = check-accepted (leb 26 (length p)) 1 _ (c₀ .1) in
-      let c₅ = onAccepted-accepted (readData (limits .longest) (drop 23 p)) _ (c₄ .2) in
+      let c₀ = check-accepted (leb 1 (limits .datagram)) 21 _ _ (c₄ .1) in
+      let c₁ = check-accepted (leb 26 (length p)) 1 _ _ (c₀ .1) in
+      let c₅ = onAccepted-accepted (from 23 (readData (limits .longest) (drop 23 p))) _ (c₄ .2) in
       let whole : _≡_ {A = Datagram} (record { header = c₄ .0; payload = c₅ .0 }) g = cc in
       let least = leb-true 26 (length p) (c₁ .0) in
       let rules = datagram-exact limits p g b .0 e in
@@ -32,7 +32,7 @@ module _ (limits : Limits) (p : List ℕ) {g : Datagram} (e : readDatagram limit
       (record {
         long = simp length-drop (omega arith);
         small = simp length-drop (omega (arith, size, rules .counted));
-        accepts = c₅ .1 ∙ ap (λ (x : Datagram). accepted (x .payload)) whole;
+        accepts = from-accepted 23 _ (c₅ .1) ∙ ap (λ (x : Datagram). accepted (x .payload)) whole;
       })
 
   pub datagram-long : 23 ≤ length p

@@ -8,15 +8,14 @@ use lib.Seq.{take-all}
 use lib.Dec.{leb, eqb}
 use borrow.Author.Tests.{le-leb, lt-leb, leb-true, eq-eqb, ne-eqb}
 use Rattle.wire.specs.declared.Limits.{Limits}
-use Rattle.wire.specs.declared.Fault.{Fault}
 use Rattle.wire.specs.declared.Refusal.{Refusal}
 use Rattle.wire.specs.Numbers.{Bytes, numberAt, digits}
 use Rattle.wire.specs.Reading.{got, bad, pure}
-use Rattle.wire.specs.Answers.{Answer, accepted, refused, told, onAccepted, refusal, refusalOf}
+use Rattle.wire.specs.Answers.{Answer, accepted, refused, told, from, onAccepted, refusal}
 use Rattle.wire.specs.Imei.{readImei}
 use Rattle.wire.proofs.Walking.{number-there, then-bad}
 use Rattle.wire.proofs.Exactness.{then-got}
-use Rattle.wire.proofs.Accepting.{check-accepted, check-passed, check-failed, onAccepted-passed, onAccepted-refused, told-got, told-bad, onAccepted-accepted}
+use Rattle.wire.proofs.Accepting.{check-accepted, check-passed, check-failed, onAccepted-passed, onAccepted-refused, told-got, told-whole, onAccepted-accepted}
 use Rattle.avl.specs.DataField.{AvlData, DataRules, readData, dataResult}
 use Rattle.walk.specs.declared.Span.{Span}
 use Rattle.walk.specs.declared.DataWalk.{DataWalk}
@@ -29,48 +28,48 @@ use Rattle.datagram.proofs.DatagramLaws.{datagram-exact}
 module _ (largest : ℕ) (p : List ℕ) where
   pub header-unknown : largest < 1 → judgeHeader largest p ≡ refused (refusal 21)
   unfolding judgeHeader
-  header-unknown h = check-failed (leb 1 largest) 21 _ (lt-leb _ _ h)
+  header-unknown h = check-failed (leb 1 largest) 21 _ _ (lt-leb _ _ h)
 
   pub header-short : 1 ≤ largest → length p < 26 → judgeHeader largest p ≡ refused (refusal 1)
   unfolding judgeHeader
-  header-short known h = check-passed (leb 1 largest) 21 _ (le-leb _ _ known) ∙ check-failed (leb 26 (length p)) 1 _ (lt-leb _ _ h)
+  header-short known h = check-passed (leb 1 largest) 21 _ _ (le-leb _ _ known) ∙ check-failed (leb 26 (length p)) 1 _ _ (lt-leb _ _ h)
 
   module _ (known : 1 ≤ largest) (long : 26 ≤ length p) where
     pub header-large : largest < length p → judgeHeader largest p ≡ refused (refusal 3)
     unfolding judgeHeader
-    header-large h = check-passed (leb 1 largest) 21 _ (le-leb _ _ known) ∙ check-passed (leb 26 (length p)) 1 _ (le-leb _ _ long) ∙ check-failed (leb (length p) largest) 3 _ (lt-leb _ _ h)
+    header-large h = check-passed (leb 1 largest) 21 _ _ (le-leb _ _ known) ∙ check-passed (leb 26 (length p)) 1 _ _ (le-leb _ _ long) ∙ check-failed (leb (length p) largest) 3 _ _ (lt-leb _ _ h)
 
     module _ (fits : length p ≤ largest) where
       pub header-length : (length p ≡ numberAt p 0 2 + 2 → ⊥) → judgeHeader largest p ≡ refused (refusal 4)
       unfolding judgeHeader
       header-length h =
-          check-passed (leb 1 largest) 21 _ (le-leb _ _ known)
-          ∙ check-passed (leb 26 (length p)) 1 _ (le-leb _ _ long)
-          ∙ check-passed (leb (length p) largest) 3 _ (le-leb _ _ fits)
-          ∙ check-failed (eqb (length p) (numberAt p 0 2 + 2)) 4 _ (ne-eqb _ _ h)
+          check-passed (leb 1 largest) 21 _ _ (le-leb _ _ known)
+          ∙ check-passed (leb 26 (length p)) 1 _ _ (le-leb _ _ long)
+          ∙ check-passed (leb (length p) largest) 3 _ _ (le-leb _ _ fits)
+          ∙ check-failed (eqb (length p) (numberAt p 0 2 + 2)) 4 _ _ (ne-eqb _ _ h)
 
       module _ (size : length p ≡ numberAt p 0 2 + 2) where
         -- the sizes are right, so it is as the header says
-        sized : judgeHeader largest p ≡ told (readHeader p 2)
+        sized : judgeHeader largest p ≡ told 0 (readHeader p 2)
         unfolding judgeHeader
         sized =
-            check-passed (leb 1 largest) 21 _ (le-leb _ _ known)
-            ∙ check-passed (leb 26 (length p)) 1 _ (le-leb _ _ long)
-            ∙ check-passed (leb (length p) largest) 3 _ (le-leb _ _ fits)
-            ∙ check-passed (eqb (length p) (numberAt p 0 2 + 2)) 4 _ (eq-eqb _ _ size)
+            check-passed (leb 1 largest) 21 _ _ (le-leb _ _ known)
+            ∙ check-passed (leb 26 (length p)) 1 _ _ (le-leb _ _ long)
+            ∙ check-passed (leb (length p) largest) 3 _ _ (le-leb _ _ fits)
+            ∙ check-passed (eqb (length p) (numberAt p 0 2 + 2)) 4 _ _ (eq-eqb _ _ size)
 
-        pub header-imei : {x : Fault} → readImei p 6 ≡ bad x → judgeHeader largest p ≡ refused (refusalOf x)
+        pub header-imei : {x : Refusal} → readImei p 6 ≡ bad x → judgeHeader largest p ≡ refused x
         unfolding readHeader
         header-imei e =
             sized
-            ∙ told-bad _
+            ∙ told-whole _
             (number-there _ p 2 2 (omega arith) ∙ number-there _ p 4 1 (omega arith) ∙ number-there _ p 5 1 (omega arith) ∙ then-bad readImei _ p 6 e)
 
         pub header-is : {imei next : ℕ} → readImei p 6 ≡ got imei next → judgeHeader largest p ≡ accepted (headerAt p imei)
         unfolding readHeader pure
         header-is e =
             sized
-            ∙ told-got _
+            ∙ told-got _ _
             (number-there _ p 2 2 (omega arith) ∙ number-there _ p 4 1 (omega arith) ∙ number-there _ p 5 1 (omega arith) ∙ then-got readImei _ p 6 e)
 
 -- the part behind the header
@@ -80,7 +79,7 @@ payload-part p = take-all (length p - 23) (drop 23 p) (simp length-drop (omega a
 pub payload-long : (largest : ℕ) (p : List ℕ) {h : Header} → judgeHeader largest p ≡ accepted h → (26 ≤ length p) × (3 ≤ length (take (length p - 23) (drop 23 p)))
 unfolding judgeHeader
 payload-long largest p e =
-    let long : 26 ≤ length p = leb-true 26 (length p) (check-accepted (leb 26 (length p)) 1 _ (check-accepted (leb 1 largest) 21 _ e .1) .0) in
+    let long : 26 ≤ length p = leb-true 26 (length p) (check-accepted (leb 26 (length p)) 1 _ _ (check-accepted (leb 1 largest) 21 _ _ e .1) .0) in
     (long, subst (λ (l : List ℕ). 3 ≤ length l) (sym (payload-part p)) (simp length-drop (omega arith)))
 
 -- ---- of a header that is accepted, and of one that is refused
@@ -100,27 +99,27 @@ module _ (limits : Limits) (p : List ℕ) where
     answer-refused = onAccepted-refused (readDatagram limits p) _ judged
 
   module _ {h : Header} (e : judgeHeader (limits .datagram) p ≡ accepted h) where
-    behind : readDatagram limits p ≡ onAccepted (readData (limits .longest) (drop 23 p)) (λ a. accepted (record { header = h; payload = a }))
+    behind : readDatagram limits p ≡ onAccepted (from 23 (readData (limits .longest) (drop 23 p))) (λ a. accepted (record { header = h; payload = a }))
     unfolding readDatagram
     behind = onAccepted-passed (judgeHeader (limits .datagram) p) _ e
 
-    pub walk-on : (want : ℕ) → dataWalk want (readData (limits .longest) (drop 23 p)) ≡ dataWalk want (payloadOf (readDatagram limits p))
+    pub walk-on : (want : ℕ) → dataWalk want (from 23 (readData (limits .longest) (drop 23 p))) ≡ dataWalk want (payloadOf (readDatagram limits p))
     unfolding payloadOf onAccepted
-    walk-on want = ap (dataWalk want) (sym (ap payloadOf behind ∙ same (readData (limits .longest) (drop 23 p))))
+    walk-on want = ap (dataWalk want) (sym (ap payloadOf behind ∙ same (from 23 (readData (limits .longest) (drop 23 p)))))
       where
         same : (r : Answer AvlData) → payloadOf (onAccepted r (λ a. accepted (record { header = h; payload = a }))) ≡ r
         same (accepted a) = refl
         same (refused x) = refl
 
-    pub answer-taken : {codec count : ℕ} {span : Span} → dataWalk 0 (readData (limits .longest) (drop 23 p)) ≡ DataWalk.Taken codec count span
+    pub answer-taken : {codec count : ℕ} {span : Span} → dataWalk 0 (from 23 (readData (limits .longest) (drop 23 p))) ≡ DataWalk.Taken codec count span
         → answerDatagram limits p ≡ accepted (record { payload = record { codec = codec; count = count }; header = h })
     unfolding answerDatagram dataResult
     answer-taken k =
-        let t = taken 0 (readData (limits .longest) (drop 23 p)) k in
+        let t = taken 0 (from 23 (readData (limits .longest) (drop 23 p))) k in
         onAccepted-passed (readDatagram limits p) _ (behind ∙ onAccepted-passed _ _ (t .accepts))
         ∙ (λ i. accepted (record { payload = record { codec = t .codecIs i; count = t .countIs i }; header = h }))
 
-    pub answer-stopped : {r : Refusal} → dataWalk 0 (readData (limits .longest) (drop 23 p)) ≡ DataWalk.Refused r → answerDatagram limits p ≡ refused r
+    pub answer-stopped : {r : Refusal} → dataWalk 0 (from 23 (readData (limits .longest) (drop 23 p))) ≡ DataWalk.Refused r → answerDatagram limits p ≡ refused r
     unfolding answerDatagram
     answer-stopped k = onAccepted-refused (readDatagram limits p) _ (behind ∙ onAccepted-refused _ _ (not-taken 0 _ k))
 
@@ -147,7 +146,7 @@ carried-fits limits want p b walk =
     taken-fits t (subst (DataRules (limits .longest)) same (datagram-exact limits p (c .0) b .0 (c .1) .payload))
 
 pub payload-fits : (limits : Limits) (p : List ℕ) {h : Header} {codec count : ℕ} {span : Span} → Bytes p → judgeHeader (limits .datagram) p ≡ accepted h
-    → dataWalk 0 (readData (limits .longest) (drop 23 p)) ≡ DataWalk.Taken codec count span → (codec < 256) × (count < 256)
+    → dataWalk 0 (from 23 (readData (limits .longest) (drop 23 p))) ≡ DataWalk.Taken codec count span → (codec < 256) × (count < 256)
 payload-fits limits p b e walk = carried-fits limits 0 p b (sym (walk-on limits p e 0) ∙ walk)
 
 -- ---- the acknowledgement

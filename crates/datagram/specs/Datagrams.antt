@@ -9,7 +9,7 @@ use Rattle.wire.specs.Limits.{isKnown}
 use Rattle.wire.specs.Numbers.{numberAt, be}
 use Rattle.wire.specs.Sequences.{fields}
 use Rattle.wire.specs.Reading.{Reader, _>>=_, pure, number}
-use Rattle.wire.specs.Answers.{Answer, accepted, refused, check, told, onAccepted}
+use Rattle.wire.specs.Answers.{Answer, accepted, refused, check, from, told, onAccepted}
 use Rattle.wire.specs.Imei.{imeiText, readImei}
 use Rattle.datagram.specs.declared.Header.{Header}
 use Rattle.datagram.specs.declared.DatagramAnswer.{DatagramAnswer}
@@ -47,7 +47,7 @@ pub record UdpPacket (limits : Limits) (g : Datagram) (p : List ℕ) : Type 0 wh
   pub counted : length (contentBytes g) < 256 ^ 2
   pub whole : p ≡ datagramBytes g
 
--- ---- the judge: 21, 1, 3, 4, 15, 6, 7, walk
+-- ---- the judge: 21, 1, 3, 4, 15, then 6, 7 and the walk in the data field, which starts at 23
 
 unfoldable pub readHeader : Reader Header
 readHeader = do
@@ -63,12 +63,12 @@ judgeHeader largest p =
     (check (leb 26 (length p)) 1
     (check (leb (length p) largest) 3
     (check (eqb (length p) (numberAt p 0 2 + 2)) 4
-    (told (readHeader p 2)))))
+    (told 0 (readHeader p 2)))))
 
 unfoldable pub readDatagram : Limits → List ℕ → Answer Datagram
 readDatagram limits p =
     onAccepted (judgeHeader (limits .datagram) p)
-    (λ h. onAccepted (readData (limits .longest) (drop 23 p))
+    (λ h. onAccepted (from 23 (readData (limits .longest) (drop 23 p)))
     (λ a. accepted (record { header = h; payload = a })))
 
 unfoldable pub payloadOf : Answer Datagram → Answer AvlData

@@ -36,9 +36,13 @@ enum HeaderAnswer {
 }
 
 fn refused(number: usize) -> HeaderAnswer
-    ensures { λ r. ⌜ r ≡ HeaderAnswer.Refused (record { number = number; index = 0 }) ⌝ }
+    ensures { λ r. ⌜ r ≡ HeaderAnswer.Refused (record { number = number; index = 0; place = 0 }) ⌝ }
 {
-    HeaderAnswer::Refused(Refusal { number, index: 0 })
+    HeaderAnswer::Refused(Refusal {
+        number,
+        index: 0,
+        place: 0,
+    })
 }
 
 fn read_header(largest: usize, p: &[u8]) -> HeaderAnswer
@@ -61,7 +65,11 @@ fn read_header(largest: usize, p: &[u8]) -> HeaderAnswer
     if imei < wire::NO_IMEI {
         return HeaderAnswer::Of(imei);
     }
-    refused(15)
+    HeaderAnswer::Refused(Refusal {
+        number: 15,
+        index: 0,
+        place: 6 + ((imei - wire::NO_IMEI) as usize),
+    })
 }
 
 // The datagram's codec and count, and where the record with number `want` lies behind its first 25 bytes.
@@ -72,7 +80,7 @@ pub fn judge_datagram(family: usize, p: &[u8], want: usize) -> DataWalk
     if let HeaderAnswer::Refused(r) = read_header(limits.datagram, p) {
         return DataWalk::Refused(r);
     }
-    walk::read_data(limits.longest, &p[23..], want)
+    walk::read_data(limits.longest, 23, &p[23..], want)
 }
 
 pub fn read_datagram(family: usize, p: &[u8]) -> DatagramAnswer
@@ -83,7 +91,7 @@ pub fn read_datagram(family: usize, p: &[u8]) -> DatagramAnswer
         HeaderAnswer::Of(imei) => imei,
         HeaderAnswer::Refused(r) => return DatagramAnswer::Refused(r),
     };
-    match walk::read_data(limits.longest, &p[23..], 0) {
+    match walk::read_data(limits.longest, 23, &p[23..], 0) {
         DataWalk::Taken {
             codec,
             count,
@@ -132,6 +140,7 @@ pub fn acknowledge_datagram(family: usize, p: &[u8], out: &mut [u8]) -> Written
                 return Written::Refused(Refusal {
                     number: 18,
                     index: 0,
+                    place: 0,
                 });
             }
             put_acknowledgement(p, count as u8, out);

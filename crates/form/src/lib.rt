@@ -222,6 +222,7 @@ fn write_field(d: &[u8], out: &mut [u8]) -> Written
         return Written::Refused(Refusal {
             number: 18,
             index: 0,
+            place: 0,
         });
     }
     put_form(codec, count, &d[2..last], out);
@@ -234,7 +235,7 @@ pub fn form_of_field(longest: usize, d: &[u8], out: &mut [u8]) -> Written
     ensures answer { λ r. ⌜ writtenAs r ≡ writing (formOfField longest (now (d .entry))) (now (out .entry)) ⌝ }
     ensures buffer { λ r. ⌜ now (out .exit) ≡ leaving (formOfField longest (now (d .entry))) (now (out .entry)) ⌝ }
 {
-    match walk::read_data(longest, d, 0) {
+    match walk::read_data(longest, 0, d, 0) {
         DataWalk::Refused(r) => Written::Refused(r),
         DataWalk::Taken {
             codec: _,

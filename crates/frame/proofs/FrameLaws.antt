@@ -68,13 +68,13 @@ counted p h = number-lt p 4 4 h
 frame-sound : (largest : ℕ) (p d : List ℕ) → Bytes p → unframe largest p ≡ accepted d → FrameRules largest d × (p ≡ framed d)
 unfolding unframe
 frame-sound largest p d h e =
-    let c₀ = check-accepted _ 21 _ e in
-    let c₁ = check-accepted _ 1 _ (c₀ .1) in
-    let c₂ = check-accepted _ 2 _ (c₁ .1) in
-    let c₃ = check-accepted _ 3 _ (c₂ .1) in
-    let c₄ = check-accepted _ 3 _ (c₃ .1) in
-    let c₅ = check-accepted _ 4 _ (c₄ .1) in
-    let c₆ = check-accepted _ 5 _ (c₅ .1) in
+    let c₀ = check-accepted _ 21 _ _ e in
+    let c₁ = check-accepted _ 1 _ _ (c₀ .1) in
+    let c₂ = check-accepted _ 2 _ _ (c₁ .1) in
+    let c₃ = check-accepted _ 3 _ _ (c₂ .1) in
+    let c₄ = check-accepted _ 3 _ _ (c₃ .1) in
+    let c₅ = check-accepted _ 4 _ _ (c₄ .1) in
+    let c₆ = check-accepted _ 5 _ _ (c₅ .1) in
     let long : length p ≡ fieldLength p + 12 = eqb-true _ _ (c₅ .0) in
     let size = length-field p long in
     let least : 3 ≤ fieldLength p = leb-true _ _ (c₃ .0) in
@@ -117,13 +117,13 @@ frame-complete largest d h =
     let s = framed d in
     let k = parts d s (length s) (h .bytes) (h .counted) (between-whole s) in
     let long = length-framed d in
-    check-passed _ 21 _ (le-leb 1 largest (omega (arith, h .most)))
-    ∙ check-passed _ 1 _ (le-leb _ (length s) (omega arith))
-    ∙ check-passed _ 2 _ (eq-eqb _ _ (k .zeros))
-    ∙ check-passed _ 3 _ (le-leb _ (fieldLength s) (omega (arith, k .size, h .least)))
-    ∙ check-passed _ 3 _ (le-leb _ largest (omega (arith, k .size, h .most)))
-    ∙ check-passed _ 4 _ (eq-eqb (length s) _ (omega (arith, k .size, long)))
-    ∙ check-passed _ 5 _ (eq-eqb _ _ (ap (λ (n : ℕ). numberAt s (8 + n) 4) (k .size) ∙ k .sum ∙ ap crc (sym (k .field))))
+    check-passed _ 21 _ _ (le-leb 1 largest (omega (arith, h .most)))
+    ∙ check-passed _ 1 _ _ (le-leb _ (length s) (omega arith))
+    ∙ check-passed _ 2 _ _ (eq-eqb _ _ (k .zeros))
+    ∙ check-passed _ 3 _ _ (le-leb _ (fieldLength s) (omega (arith, k .size, h .least)))
+    ∙ check-passed _ 3 _ _ (le-leb _ largest (omega (arith, k .size, h .most)))
+    ∙ check-passed _ 4 _ _ (eq-eqb (length s) _ (omega (arith, k .size, long)))
+    ∙ check-passed _ 5 _ _ (eq-eqb _ _ (ap (λ (n : ℕ). numberAt s (8 + n) 4) (k .size) ∙ k .sum ∙ ap crc (sym (k .field))))
     ∙ ap accepted (k .field)
 
 -- the judge accepts exactly the frames that keep the rules

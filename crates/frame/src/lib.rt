@@ -1,14 +1,50 @@
 // The TCP packet around a data field.
+use wire::Refusal;
 ghost use mathlib.Core.Path.{_≡_};
-ghost use Prim.Native.Nat.{_+_, _≤_};
+ghost use Prim.Native.Nat.{_+_, _-_, _≤_};
 ghost use lib.ListN.{length, take, drop};
 ghost use lib.Seq.{sets};
-ghost use Rattle.frame.specs.Frame.{framed, header, unframe, framing, heading};
+ghost use Rattle.frame.specs.Frame.{framed, header, unframe, framing, heading, refusalOf};
 
-// The length of the data field, which starts at 8; or the refusal's number. The number alone: an answer of two words goes in registers.
+// The length of the data field, which starts at 8; or the refusal's number, of which `refusal_of` makes the refusal. The number alone: an answer of two words goes in registers.
 pub enum Framed {
     Field(usize),
     Unframed(usize),
+}
+
+// Where the last four of `size` bytes start.
+fn last_four(size: usize) -> usize
+    ensures { λ r. ⌜ r ≡ size - 4 ⌝ }
+{
+    if size < 4 {
+        return 0;
+    }
+    size - 4
+}
+
+// The refusal with this number of a packet of `size` bytes: 3 is at the length field, 5 at the CRC field, which is last.
+pub fn refusal_of(size: usize, number: usize) -> Refusal
+    ensures { λ r. ⌜ r ≡ refusalOf size number ⌝ }
+{
+    if number == 3 {
+        return Refusal {
+            number,
+            index: 0,
+            place: 4,
+        };
+    }
+    if number == 5 {
+        return Refusal {
+            number,
+            index: 0,
+            place: last_four(size),
+        };
+    }
+    Refusal {
+        number,
+        index: 0,
+        place: 0,
+    }
 }
 
 // The header: the length of the data field that it gives, or 2, 3.

@@ -11,7 +11,7 @@ use lib.Arith.{digits-div, digits-mod}
 use borrow.Author.Tests.{ltb-true, ltb-false, lt-ltb, leb-true, le-leb, eqb-true, eqb-false, ne-eqb}
 use Rattle.wire.specs.Numbers.{valueFrom}
 use Rattle.wire.specs.Sequences.{All}
-use Rattle.wire.specs.Answers.{accepted, check}
+use Rattle.wire.specs.Answers.{accepted, checkAt}
 use Rattle.wire.proofs.Widths.{all-append}
 use Rattle.wire.proofs.Accepting.{both-true, check-accepted, by-length}
 use Rattle.text.specs.Hex.{among}
@@ -161,15 +161,15 @@ decimal-said (c ∷ b ∷ s) z k fits =
 decimal-exact : (most : ℕ) → most < 10 ^ 20 → (s : List ℕ) (n : ℕ) → readDecimal most s ≡ accepted n → (n ≤ most) × (s ≡ decimal n)
 unfolding readDecimal
 decimal-exact most h s n e =
-    let a = check-accepted (noSpareZero s) 20 _ e in
-    let b = check-accepted (allDigits s) 20 _ (a .1) in
-    let c = check-accepted (leb (said s) most) 20 _ (b .1) in
+    let a = check-accepted (noSpareZero s) 20 _ _ e in
+    let b = check-accepted (allDigits s) 20 _ _ (a .1) in
+    let c = check-accepted (leb (said s) most) 20 _ _ (b .1) in
     let same : said s ≡ n = cc (c .1) in
     let fits : said s ≤ most = leb-true (said s) most (c .0) in
     (omega arith, sym (decimal-said s (a .0) (digits-true s (b .0)) (omega arith)) ∙ ap decimal same)
 
 decimal-undo : (most n : ℕ) → most < 10 ^ 20 → n ≤ most → readDecimal most (decimal n) ≡ accepted n
-unfolding readDecimal check
+unfolding readDecimal checkAt
 decimal-undo most n h k =
     let same : said (decimal n) ≡ n = said-decimal n (omega arith) in
     simp (decimal-plain n (omega arith), true-digits (decimal n) (decimal-digits n), same, le-leb n most k)

@@ -83,8 +83,8 @@ unsigned-undo m h =
     let free : Free 46 whole = decimal-free 46 (m / 10 ^ 7) (λ k. omega (arith, k .0)) in
     simp (before-free 46 whole (places m) free, behind-free 46 whole (places m) free)
     (onAccepted-passed (readDecimal 214 whole) _ (decimal-inverse 214 (lit< tt) .undo (m / 10 ^ 7) (omega arith))
-    ∙ check-passed (eqb (length (places m)) 7) 20 _ (eq-eqb _ 7 (places-length m))
-    ∙ check-passed (allDigits (places m)) 20 _ (true-digits (places m) (places-all m))
+    ∙ check-passed (eqb (length (places m)) 7) 20 _ _ (eq-eqb _ 7 (places-length m))
+    ∙ check-passed (allDigits (places m)) 20 _ _ (true-digits (places m) (places-all m))
     ∙ ap accepted (ap (λ (x : ℕ). m / 10 ^ 7 * 10 ^ 7 + x) (places-said m) ∙ div-add-mod' m (10 ^ 7)))
 
 unsigned-exact : (s : List ℕ) (m : ℕ) → readUnsigned s ≡ accepted m → (m < 215 * 10 ^ 7) × (s ≡ unsignedDegrees m)
@@ -93,8 +93,8 @@ unsigned-exact s m e =
     let i = onAccepted-accepted (readDecimal 214 (before 46 s)) _ e in
     let whole : ℕ = i .0 in
     let a = decimal-inverse 214 (lit< tt) .exact (before 46 s) whole (i .1) in
-    let b = check-accepted (eqb (length (behind 46 s)) 7) 20 _ (i .2) in
-    let c = check-accepted (allDigits (behind 46 s)) 20 _ (b .1) in
+    let b = check-accepted (eqb (length (behind 46 s)) 7) 20 _ _ (i .2) in
+    let c = check-accepted (allDigits (behind 46 s)) 20 _ _ (b .1) in
     let size : length (behind 46 s) ≡ 7 = eqb-true _ 7 (b .0) in
     let k = places-exact (behind 46 s) (digits-true (behind 46 s) (c .0)) size in
     let same : whole * 10 ^ 7 + said (behind 46 s) ≡ m = cc (c .1) in
@@ -124,12 +124,12 @@ unfolding degrees readDegrees
 degrees-undo (pos m) h =
     positive-front m
     ∙ onAccepted-passed (readUnsigned (unsignedDegrees m)) positive (unsigned-undo m (omega arith))
-    ∙ check-passed (leb m (2 ^ 31 - 1)) 20 _ (le-leb m (2 ^ 31 - 1) (omega arith))
+    ∙ check-passed (leb m (2 ^ 31 - 1)) 20 _ _ (le-leb m (2 ^ 31 - 1) (omega arith))
 degrees-undo (negsuc m) h =
     let same : suc m - 1 ≡ m = omega arith in
     onAccepted-passed (readUnsigned (unsignedDegrees (suc m))) negative (unsigned-undo (suc m) (omega arith))
-    ∙ check-passed (leb 1 (suc m)) 20 _ (le-leb 1 (suc m) (omega arith))
-    ∙ check-passed (leb (suc m) (2 ^ 31)) 20 _ (le-leb (suc m) (2 ^ 31) (omega arith))
+    ∙ check-passed (leb 1 (suc m)) 20 _ _ (le-leb 1 (suc m) (omega arith))
+    ∙ check-passed (leb (suc m) (2 ^ 31)) 20 _ _ (le-leb (suc m) (2 ^ 31) (omega arith))
     ∙ ap (λ (x : ℕ). accepted (negsuc x)) same
 
 abbrev Is : List ℕ → ℤ → Type 0
@@ -141,8 +141,8 @@ negative-exact s z e =
     let i = onAccepted-accepted (readUnsigned s) negative e in
     let m : ℕ = i .0 in
     let a = unsigned-exact s m (i .1) in
-    let b = check-accepted (leb 1 m) 20 _ (i .2) in
-    let c = check-accepted (leb m (2 ^ 31)) 20 _ (b .1) in
+    let b = check-accepted (leb 1 m) 20 _ _ (i .2) in
+    let c = check-accepted (leb m (2 ^ 31)) 20 _ _ (b .1) in
     let some : 1 ≤ m = leb-true 1 m (b .0) in
     let few : m ≤ 2 ^ 31 = leb-true m (2 ^ 31) (c .0) in
     let same : suc (m - 1) ≡ m = omega arith in
@@ -155,7 +155,7 @@ positive-exact s z e =
     let i = onAccepted-accepted (readUnsigned s) positive e in
     let m : ℕ = i .0 in
     let a = unsigned-exact s m (i .1) in
-    let b = check-accepted (leb m (2 ^ 31 - 1)) 20 _ (i .2) in
+    let b = check-accepted (leb m (2 ^ 31 - 1)) 20 _ _ (i .2) in
     let few : m ≤ 2 ^ 31 - 1 = leb-true m (2 ^ 31 - 1) (b .0) in
     let is : pos m ≡ z = cc (b .1) in
     subst (Is s) is (omega arith, a .1)

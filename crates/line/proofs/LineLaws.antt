@@ -11,7 +11,7 @@ use borrow.Author.Tests.{eqb-true, eq-eqb}
 use Rattle.wire.specs.Sequences.{All}
 use Rattle.wire.specs.Reading.{Read, got, bad, andThen}
 use Rattle.wire.specs.Answers.{Answer, accepted, refused}
-use Rattle.wire.proofs.Accepting.{told-accepted, told-got, pick-true}
+use Rattle.wire.proofs.Accepting.{told-accepted, told-got, unplaced-accepted, unplaced-passed, pick-true}
 use Rattle.wire.proofs.Exactness.{andThen-got}
 use Rattle.text.specs.Decimal.{decimal}
 use Rattle.line.specs.Pieces.{pieces, separated}
@@ -193,8 +193,8 @@ line-undo : (l : Line) → LineRules l → readLine (lineBytes l) ≡ accepted l
 unfolding readLine judgeLine
 line-undo l h =
     let k = fields-undo l h in
-    told-got (judgeLine (lineBytes l))
-    (pick-true (eqb (getD (lineBytes l) (length (lineBytes l) - 1) 0) 10) _ _ (eq-eqb _ 10 (line-last l)) ∙ ap readFields (line-pieces l h) ∙ k .1)
+    unplaced-passed _ (told-got _ (judgeLine (lineBytes l))
+    (pick-true (eqb (getD (lineBytes l) (length (lineBytes l) - 1) 0) 10) _ _ (eq-eqb _ 10 (line-last l)) ∙ ap readFields (line-pieces l h) ∙ k .1))
 
 judged-exact : (s : List ℕ) (l : Line) (n : ℕ) → judgeLine s ≡ got l n → LineRules l × (s ≡ lineBytes l)
 unfolding judgeLine lineBytes
@@ -206,7 +206,7 @@ judged-exact s l n e =
 
 pub line-inverse : Inverse readLine lineBytes LineRules
 unfolding readLine
-line-inverse = record { undo = line-undo; exact = λ s l e. let i = told-accepted (judgeLine s) e in judged-exact s l (i .0) (i .1) }
+line-inverse = record { undo = line-undo; exact = λ s l e. let i = told-accepted _ (judgeLine s) (unplaced-accepted _ e) in judged-exact s l (i .0) (i .1) }
 
 pub line-exact : (s : List ℕ) (l : Line) → (readLine s ≡ accepted l → LineRules l × (s ≡ lineBytes l)) × (LineRules l × (s ≡ lineBytes l) → readLine s ≡ accepted l)
 line-exact s l = (line-inverse .exact s l, λ h. ap readLine (h .1) ∙ line-inverse .undo l (h .0))

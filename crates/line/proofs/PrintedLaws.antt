@@ -9,7 +9,7 @@ use lib.Dec.{eqb, lit<}
 use borrow.Author.Tests.{eqb-true, ne-eqb, not-true}
 use Rattle.wire.specs.Numbers.{Bytes}
 use Rattle.wire.specs.Sequences.{All}
-use Rattle.wire.specs.Answers.{accepted, onAccepted, check}
+use Rattle.wire.specs.Answers.{accepted, onAccepted, checkAt}
 use Rattle.wire.proofs.Widths.{all-append}
 use Rattle.wire.proofs.Accepting.{check-accepted, onAccepted-accepted, onAccepted-passed}
 use Rattle.text.specs.Decimal.{decimal}
@@ -33,7 +33,7 @@ front-undo tags id value h =
 
 -- no quote begins a number
 number-front : (id : ℕ) (p : List ℕ) → 1 ≤ length p → All IsDigit p → readValue false id p ≡ onAccepted (readDecimal (2 ^ 64 - 1) p) (λ n. accepted (number id n))
-unfolding readValue check
+unfolding readValue checkAt
 number-front id [] h k = absurd (omega arith)
 number-front id (c ∷ p) h k = simp (ne-eqb c 34 (λ e. omega (arith, k .0 .0)))
 
@@ -64,7 +64,7 @@ value-cases P tags id (c ∷ s) e h f g =
     let k = tag-exact s (i .0) (i .1) in
     let is : tag id (i .0) ≡ e = cc (i .2) in
     subst P is (g (i .0) (k .0) (ap₂ (λ (x : ℕ) (l : List ℕ). x ∷ l) (eqb-true c 34 t) (k .1))))
-    (λ t. let i = check-accepted (not tags) 20 _ (simp t at h) in
+    (λ t. let i = check-accepted (not tags) 20 _ _ (simp t at h) in
     let j = onAccepted-accepted (readDecimal (2 ^ 64 - 1) (c ∷ s)) _ (i .1) in
     let k = decimal-inverse (2 ^ 64 - 1) (lit< tt) .exact (c ∷ s) (j .0) (j .1) in
     let is : number id (j .0) ≡ e = cc (j .2) in

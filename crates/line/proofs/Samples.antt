@@ -3,7 +3,7 @@ use mathlib.Core.Path.{_≡_, refl}
 use mathlib.Core.Bool.{true, false}
 use mathlib.Core.List.{[], _∷_}
 use lib.IntN.{negsuc}
-use Rattle.wire.specs.Answers.{accepted, refused, refusal, onAccepted, check}
+use Rattle.wire.specs.Answers.{accepted, refused, refusal, onAccepted, checkAt}
 use Rattle.wire.specs.Numbers.{digits, valueFrom}
 use Rattle.text.specs.Decimal.{decimalIn, decimal}
 use Rattle.line.specs.Pieces.{before, behind}
@@ -12,7 +12,7 @@ use Rattle.line.specs.LineReader.{allDigits, digitsOf, noSpareZero, read
 
 -- naming it on an `unfolding` line opens all that the fields compute with
 unfoldable computing : Unit {0}
-unfolding onAccepted check digits valueFrom decimalIn decimal before behind unsignedDegrees degrees isPlain allDigits digitsOf noSpareZero readDecimal readUnsigned readDegrees readHex readTag readValue readPrinted
+unfolding onAccepted checkAt digits valueFrom decimalIn decimal before behind unsignedDegrees degrees isPlain allDigits digitsOf noSpareZero readDecimal readUnsigned readDegrees readHex readTag readValue readPrinted
 computing = tt
 
 -- -0.0000001

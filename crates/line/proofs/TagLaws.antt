@@ -11,7 +11,7 @@ use lib.Arith.{digits-div, digits-mod}
 use borrow.Author.Tests.{ltb-true, ltb-false, lt-ltb, le-ltb, leb-true, le-leb, lt-leb, eqb-true, not-true, ne-eqb}
 use Rattle.wire.specs.Numbers.{Bytes, pick}
 use Rattle.wire.specs.Sequences.{joined, All}
-use Rattle.wire.specs.Answers.{accepted, onAccepted, check}
+use Rattle.wire.specs.Answers.{accepted, onAccepted, checkAt}
 use Rattle.wire.proofs.Widths.{all-append}
 use Rattle.wire.proofs.Accepting.{both-true, check-accepted, check-passed, onAccepted-accepted, onAccepted-passed}
 use Rattle.text.specs.Hex.{among, glyphOf}
@@ -23,7 +23,7 @@ use Rattle.line.proofs.PieceLaws.{InField}
 -- ---- hex digits
 
 pub hex-glyph : (d : ℕ) → d < 16 → readHex (glyphOf d) ≡ accepted d
-unfolding readHex glyphOf check
+unfolding readHex glyphOf checkAt
 hex-glyph d h =
     by-test (ltb d 10)
     (λ e. let small : d < 10 = ltb-true d 10 e in
@@ -49,7 +49,7 @@ glyph-hex c d h =
     let is : c - 48 ≡ d = cc (simp e at h) in
     let small : d < 10 = omega arith in
     (omega arith, simp (lt-ltb d 10 small) (omega arith)))
-    (λ e. let k = check-accepted (among 65 70 c) 20 _ (simp e at h) in
+    (λ e. let k = check-accepted (among 65 70 c) 20 _ _ (simp e at h) in
     let range = both-true (leb 65 c) (leb c 70) (k .0) in
     let low : 65 ≤ c = leb-true 65 c (range .0) in
     let most : c ≤ 70 = leb-true c 70 (range .1) in
@@ -94,7 +94,7 @@ text-escaped x b e = simp e
 
 read-plain : (x : ℕ) (s : List ℕ) → isPlain x ≡ true → readTag none (x ∷ s) ≡ onAccepted (readTag none s) (λ b. accepted (x ∷ b))
 unfolding readTag
-read-plain x s e = let p = plain-is x e in simp (p .noQuote, p .noSlash) (check-passed (isPlain x) 20 _ e)
+read-plain x s e = let p = plain-is x e in simp (p .noQuote, p .noSlash) (check-passed (isPlain x) 20 _ _ e)
 
 read-escaped : (x : ℕ) (s : List ℕ) → x < 256 → isPlain x ≡ false
     → readTag none (92 ∷ glyphOf (x / 16) ∷ glyphOf (x % 16) ∷ s) ≡ onAccepted (readTag none s) (λ b. accepted (x ∷ b))
@@ -103,10 +103,10 @@ read-escaped x s h e =
     let whole : x / 16 * 16 + x % 16 ≡ x = div-add-mod' x 16 in
     onAccepted-passed (readHex (glyphOf (x / 16))) _ (hex-glyph (x / 16) (omega arith))
     ∙ onAccepted-passed (readHex (glyphOf (x % 16))) _ (hex-glyph (x % 16) (omega arith))
-    ∙ simp (whole, e) (check-passed true 20 _ refl)
+    ∙ simp (whole, e) (check-passed true 20 _ _ refl)
 
 pub tag-undo : (b : List ℕ) → Bytes b → readTag none (tagText b) ≡ accepted b
-unfolding readTag check
+unfolding readTag checkAt
 tag-undo [] h = refl
 tag-undo (x ∷ b) h =
     by-test (isPlain x)
@@ -137,13 +137,13 @@ unfolding readTag
 tag-from e [] b h k = absurd (let z : _≡_ {A = ℕ} 0 1 = cc in omega arith)
 tag-from none (c ∷ s) b h k =
     by-test (eqb c 34)
-    (λ e. let i = check-accepted (eqb (length s) 0) 20 _ (simp e at k) in
+    (λ e. let i = check-accepted (eqb (length s) 0) 20 _ _ (simp e at k) in
     let whole : 34 ∷ [] ≡ c ∷ s = ap₂ (λ (x : ℕ) (l : List ℕ). x ∷ l) (sym (eqb-true c 34 e)) (sym (nothing s (eqb-true (length s) 0 (i .0)))) in
     let is : [] ≡ b = cc (i .1) in
     subst (Is (c ∷ s)) is (tt, sym whole))
     (λ e. by-test (eqb c 92)
     (λ f. subst (λ (x : ℕ). Is (x ∷ s) b) (sym (eqb-true c 92 f)) (tag-from slash s b tt (simp (e, f) at k)))
-    (λ f. let i = check-accepted (isPlain c) 20 _ (simp (e, f) at k) in
+    (λ f. let i = check-accepted (isPlain c) 20 _ _ (simp (e, f) at k) in
     let j = onAccepted-accepted (readTag none s) _ (i .1) in
     let more = tag-from none s (j .0) tt (j .1) in
     let is : c ∷ j .0 ≡ b = cc (j .2) in
@@ -157,7 +157,7 @@ tag-from (high d) (c ∷ s) b h k =
     let i = onAccepted-accepted (readHex c) _ k in
     let l : ℕ = i .0 in
     let g = glyph-hex c l (i .1) in
-    let j = check-accepted (not (isPlain (d * 16 + l))) 20 _ (i .2) in
+    let j = check-accepted (not (isPlain (d * 16 + l))) 20 _ _ (i .2) in
     let other : isPlain (d * 16 + l) ≡ false = not-true _ (j .0) in
     let m = onAccepted-accepted (readTag none s) _ (j .1) in
     let more = tag-from none s (m .0) tt (m .1) in

@@ -5,10 +5,10 @@ use mathlib.Core.List.{List, [], _∷_}
 use lib.ListN.{length, take, getD}
 use lib.Dec.{eqb, leb}
 use lib.IntN.{ℤ, pos, negsuc}
-use Rattle.wire.specs.declared.Fault.{Fault}
+use Rattle.wire.specs.declared.Refusal.{Refusal}
 use Rattle.wire.specs.Numbers.{valueFrom, pick}
 use Rattle.wire.specs.Reading.{Read, got, bad, andThen}
-use Rattle.wire.specs.Answers.{Answer, accepted, refused, refusal, onAccepted, check, told}
+use Rattle.wire.specs.Answers.{Answer, accepted, refused, refusal, refusalAt, onAccepted, check, told, unplaced}
 use Rattle.text.specs.Hex.{among}
 use Rattle.line.specs.Pieces.{before, behind, pieces}
 use Rattle.line.specs.Lines.{Printed, number, tag, Line, isPlain}
@@ -96,8 +96,8 @@ readPrinted tags s = onAccepted (readDecimal (2 ^ 16 - 1) (before 61 s)) (λ id.
 -- ---- lines
 
 -- wrong from this byte on
-abbrev pub wrong : ℕ → Fault
-wrong place = record { number = 20; index = 0; place = place }
+abbrev pub wrong : ℕ → Refusal
+wrong place = refusalAt 20 place
 
 -- a field that starts at `at`
 unfoldable pub onField : {A B : Type 0} → ℕ → Answer A → (A → Read B) → Read B
@@ -135,8 +135,9 @@ body s = take (length s - 1) s
 unfoldable pub judgeLine : List ℕ → Read Line
 judgeLine s = pick (eqb (getD s (length s - 1) 0) 10) (readFields (pieces (body s))) (bad (wrong (length s)))
 
+-- 20 has no place; `wrongAt` says it
 unfoldable pub readLine : List ℕ → Answer Line
-readLine s = told (judgeLine s)
+readLine s = unplaced (told 0 (judgeLine s))
 
 -- the byte at which the first wrong field starts; behind the end of a good line
 unfoldable pub placeIn : ℕ → Read Line → ℕ

@@ -17,9 +17,9 @@ use Rattle.login.specs.Login.{LoginPacket, readLogin}
 login-sound : (p : List ℕ) (imei : ℕ) → Bytes p → readLogin p ≡ accepted imei → LoginPacket imei p
 unfolding readLogin
 login-sound p imei h e =
-    let c₁ = check-accepted (leb 17 (length p)) 1 _ e in
-    let c₂ = check-accepted (leb (length p) 17) 4 _ (c₁ .1) in
-    let c₃ = told-accepted _ (c₂ .1) in
+    let c₁ = check-accepted (leb 17 (length p)) 1 _ _ e in
+    let c₂ = check-accepted (leb (length p) 17) 4 _ _ (c₁ .1) in
+    let c₃ = told-accepted _ _ (c₂ .1) in
     let low : 17 ≤ length p = leb-true _ _ (c₁ .0) in
     let high : length p ≤ 17 = leb-true _ _ (c₂ .0) in
     let k = imei-exact .sound p 0 h (omega arith) .if-got _ _ (c₃ .1) in
@@ -30,9 +30,9 @@ login-complete : (p : List ℕ) (imei : ℕ) → LoginPacket imei p → readLogi
 unfolding readLogin
 login-complete p imei h =
     let size : length p ≡ 17 = ap length (h .whole) ∙ length-imeiText imei in
-    check-passed _ 1 _ (le-leb 17 (length p) (omega arith))
-    ∙ check-passed _ 4 _ (le-leb (length p) 17 (omega arith))
-    ∙ told-got _ (imei-exact .complete p 0 imei (length p) (h .range) (between-bytes (h .whole) (between-whole p)))
+    check-passed _ 1 _ _ (le-leb 17 (length p) (omega arith))
+    ∙ check-passed _ 4 _ _ (le-leb (length p) 17 (omega arith))
+    ∙ told-got _ _ (imei-exact .complete p 0 imei (length p) (h .range) (between-bytes (h .whole) (between-whole p)))
 
 -- the judge accepts exactly what keeps the rules
 pub login-exact : (p : List ℕ) (imei : ℕ) → Bytes p → (readLogin p ≡ accepted imei) ↔ LoginPacket imei p

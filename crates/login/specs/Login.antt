@@ -20,7 +20,7 @@ pub record LoginPacket (imei : ℕ) (p : List ℕ) : Type 0 where
 -- ---- the judge: 1, 4, 15
 
 unfoldable pub readLogin : List ℕ → Answer ℕ
-readLogin p = check (leb 17 (length p)) 1 (check (leb (length p) 17) 4 (told (readImei p 0)))
+readLogin p = check (leb 17 (length p)) 1 (check (leb (length p) 17) 4 (told 0 (readImei p 0)))
 
 -- ---- the answer
 

@@ -20,12 +20,14 @@ pub fn read_login(p: &[u8]) -> LoginAnswer
         return LoginAnswer::Refused(Refusal {
             number: 1,
             index: 0,
+            place: 0,
         });
     }
     if 17 < p.len() {
         return LoginAnswer::Refused(Refusal {
             number: 4,
             index: 0,
+            place: 0,
         });
     }
     let imei = wire::read_imei(p, 0);
@@ -35,6 +37,7 @@ pub fn read_login(p: &[u8]) -> LoginAnswer
     LoginAnswer::Refused(Refusal {
         number: 15,
         index: 0,
+        place: (imei - wire::NO_IMEI) as usize,
     })
 }
 
@@ -60,6 +63,7 @@ pub fn answer_login(p: &[u8], known: bool, out: &mut [u8]) -> Written
         return Written::Refused(Refusal {
             number: 18,
             index: 0,
+            place: 0,
         });
     }
     out[0] = answer;

@@ -58,6 +58,7 @@ pub fn packet_part(family: usize, p: &[u8], n: usize) -> Part
             Part::Refused(Refusal {
                 number: 16,
                 index: 0,
+                place: 0,
             })
         }
     }
@@ -80,6 +81,7 @@ pub fn datagram_part(family: usize, p: &[u8], n: usize) -> Part
             Part::Refused(Refusal {
                 number: 16,
                 index: 0,
+                place: 0,
             })
         }
     }
@@ -143,6 +145,7 @@ fn moved(start: usize, found: ElementAnswer) -> ValueAnswer
         ElementAnswer::Nothing => ValueAnswer::Refused(Refusal {
             number: 16,
             index: 0,
+            place: 0,
         }),
         ElementAnswer::At(v) => ValueAnswer::Found(Value {
             id: v.id,

@@ -9,10 +9,10 @@ use borrow.Author.Tests.{le-leb, lt-leb}
 use Rattle.wire.specs.declared.Limits.{Limits}
 use Rattle.wire.specs.declared.Refusal.{Refusal}
 use Rattle.wire.specs.Numbers.{Bytes, digits, be}
-use Rattle.wire.specs.Answers.{accepted, refused, refusal, onAccepted}
+use Rattle.wire.specs.Answers.{accepted, refused, refusal, from, onAccepted}
 use Rattle.wire.proofs.Accepting.{check-passed, check-failed, onAccepted-passed}
 use Rattle.frame.specs.declared.Framed.{Framed}
-use Rattle.frame.specs.Frame.{unframe, framing}
+use Rattle.frame.specs.Frame.{unframe, framing, refusalOf}
 use Rattle.frame.proofs.FramingLaws.{framing-field, framing-unframed}
 use Rattle.avl.specs.DataField.{readData, dataResult}
 use Rattle.walk.specs.declared.Span.{Span}
@@ -20,9 +20,9 @@ use Rattle.walk.proofs.TakenLaws.{TakenOf, taken-fits}
 use Rattle.packet.specs.DataPackets.{readPacket, answerPacket, acknowledged, tcpAcknowledgement}
 use Rattle.packet.proofs.PacketLaws.{packet-exact}
 
-pub unframed-refused : (limits : Limits) (p : List ℕ) (n : ℕ) → framing (unframe (limits .largest) p) ≡ Framed.Unframed n → readPacket limits p ≡ refused (refusal n)
+pub unframed-refused : (limits : Limits) (p : List ℕ) (n : ℕ) → framing (unframe (limits .largest) p) ≡ Framed.Unframed n → readPacket limits p ≡ refused (refusalOf (length p) n)
 unfolding readPacket onAccepted
-unframed-refused limits p n e = ap (λ r. onAccepted r (readData (limits .longest))) (framing-unframed (limits .largest) p n e)
+unframed-refused limits p n e = ap (λ r. onAccepted r (λ d. from 8 (readData (limits .longest) d))) (framing-unframed (limits .largest) p n e)
 
 module _ (limits : Limits) (p : List ℕ) (n : ℕ) (e : framing (unframe (limits .largest) p) ≡ Framed.Field n) (b : Bytes p) where
   -- the data field lies in the packet
@@ -41,9 +41,9 @@ module _ (limits : Limits) (p : List ℕ) (n : ℕ) (e : framing (unframe (limit
       let k = length-take-le n (drop 8 p) (simp length-drop (omega arith)) in
       omega (arith, ap length field-part)
 
-  pub field-read : readData (limits .longest) (take (8 + n - 8) (drop 8 p)) ≡ readPacket limits p
+  pub field-read : from 8 (readData (limits .longest) (take (8 + n - 8) (drop 8 p))) ≡ readPacket limits p
   unfolding readPacket
-  field-read = ap (readData (limits .longest)) field-part ∙ sym (onAccepted-passed (unframe (limits .largest) p) (readData (limits .longest)) (framing-field (limits .largest) p n e b .0))
+  field-read = ap (λ (d : List ℕ). from 8 (readData (limits .longest) d)) field-part ∙ sym (onAccepted-passed (unframe (limits .largest) p) _ (framing-field (limits .largest) p n e b .0))
 
 -- ---- what the walk tells of the answers
 
@@ -76,8 +76,8 @@ module _ (limits : Limits) (p : List ℕ) where
   acknowledgement-bytes {n} e h k =
       let high : n / 256 ≡ 0 = omega arith in
       let low : n % 256 ≡ n = omega arith in
-      check-passed _ 21 _ (le-leb 1 (limits .largest) k) ∙ ap accepted (sym (sym (ap₂ (λ (a b : ℕ). digits 256 3 a ++ (b ∷ [])) high low) ∙ ap (be 4) e))
+      check-passed _ 21 _ _ (le-leb 1 (limits .largest) k) ∙ ap accepted (sym (sym (ap₂ (λ (a b : ℕ). digits 256 3 a ++ (b ∷ [])) high low) ∙ ap (be 4) e))
 
   pub unknown-family : limits .largest < 1 → tcpAcknowledgement limits p ≡ refused (refusal 21)
   unfolding tcpAcknowledgement
-  unknown-family h = check-failed _ 21 _ (lt-leb 1 (limits .largest) h)
+  unknown-family h = check-failed _ 21 _ _ (lt-leb 1 (limits .largest) h)

@@ -6,7 +6,7 @@ use lib.ListN.{length}
 use Rattle.wire.specs.declared.Limits.{Limits}
 use Rattle.wire.specs.Limits.{isKnown}
 use Rattle.wire.specs.Numbers.{be}
-use Rattle.wire.specs.Answers.{Answer, accepted, refused, check, onAccepted}
+use Rattle.wire.specs.Answers.{Answer, accepted, refused, check, from, onAccepted}
 use Rattle.avl.specs.DataField.{AvlData, dataBytes, DataRules, readData, DataResult, dataResult}
 use Rattle.packet.specs.declared.PacketAnswer.{PacketAnswer}
 use Rattle.packet.specs.declared.PacketAnswer.the-variants.{Accepted, Refused}
@@ -23,10 +23,10 @@ pub record DataPacket (limits : Limits) (a : AvlData) (p : List ℕ) : Type 0 wh
   pub frame : FrameRules (limits .largest) (dataBytes a)
   pub whole : p ≡ packetBytes a
 
--- ---- the judge: 21, 1 to 5, 6, 7, then the walk
+-- ---- the judge: 21, 1 to 5, then 6, 7 and the walk in the data field, which starts at 8
 
 unfoldable pub readPacket : Limits → List ℕ → Answer AvlData
-readPacket limits p = onAccepted (unframe (limits .largest) p) (readData (limits .longest))
+readPacket limits p = onAccepted (unframe (limits .largest) p) (λ d. from 8 (readData (limits .longest) d))
 
 unfoldable pub answerPacket : Limits → List ℕ → Answer DataResult
 answerPacket limits p = onAccepted (readPacket limits p) (λ a. accepted (dataResult a))

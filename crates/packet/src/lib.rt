@@ -21,11 +21,11 @@ pub fn judge_packet(limits: Limits, p: &[u8], want: usize) -> DataWalk
     ensures { λ r. ⌜ r ≡ dataWalk want (readPacket limits (now (p .entry))) ⌝ }
 {
     let n = match frame::unframed(limits.largest, p) {
-        Framed::Unframed(number) => return DataWalk::Refused(Refusal { number, index: 0 }),
+        Framed::Unframed(number) => return DataWalk::Refused(frame::refusal_of(p.len(), number)),
         Framed::Field(n) => n,
     };
     let end = 8 + n;
-    walk::read_data(limits.longest, &p[8..end], want)
+    walk::read_data(limits.longest, 8, &p[8..end], want)
 }
 
 pub fn read_packet(family: usize, p: &[u8]) -> PacketAnswer
@@ -66,6 +66,7 @@ pub fn acknowledge_packet(family: usize, p: &[u8], out: &mut [u8]) -> Written
         return Written::Refused(Refusal {
             number: 21,
             index: 0,
+            place: 0,
         });
     }
     let count = record_count(family, p);
@@ -73,6 +74,7 @@ pub fn acknowledge_packet(family: usize, p: &[u8], out: &mut [u8]) -> Written
         return Written::Refused(Refusal {
             number: 18,
             index: 0,
+            place: 0,
         });
     }
     out[0] = 0;

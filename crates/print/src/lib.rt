@@ -378,6 +378,7 @@ fn write_field(d: &[u8], out: &mut [u8]) -> Written
         return Written::Refused(Refusal {
             number: 18,
             index: 0,
+            place: 0,
         });
     }
     put_lines(w, count, &d[2..last], out);
@@ -399,6 +400,7 @@ fn write_line(w: Widths, s: &[u8], out: &mut [u8]) -> Written
         return Written::Refused(Refusal {
             number: 18,
             index: 0,
+            place: 0,
         });
     }
     put_line(w, s, 0, out, 0);

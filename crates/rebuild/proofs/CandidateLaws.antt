@@ -14,13 +14,13 @@ use Rattle.wire.specs.Limits.{largestOfAll}
 use Rattle.wire.specs.declared.Refusal.{Refusal}
 use Rattle.wire.specs.Numbers.{Bytes, pick}
 use Rattle.wire.specs.Sequences.{joined}
-use Rattle.wire.specs.Answers.{Answer, accepted, refused, onAccepted, refusal}
+use Rattle.wire.specs.Answers.{Answer, accepted, refused, onAccepted, refusal, from}
 use Rattle.wire.specs.Buffers.{writing, leaving, writtenAs}
 use Rattle.wire.specs.declared.Written.{Written}
 use Rattle.wire.proofs.BufferLaws.{written-fits, sets-front, writing-done, writing-short, leaving-done, leaving-short}
 use Rattle.wire.proofs.Storing.{drop-sets, drop-at-sets}
 use Rattle.wire.proofs.Enclosed.{length-enclosed}
-use Rattle.wire.proofs.Accepting.{pick-true, pick-false, pick-either, check-accepted, check-passed, check-failed, onAccepted-accepted, onAccepted-passed}
+use Rattle.wire.proofs.Accepting.{pick-true, pick-false, pick-either, check-accepted, check-passed, check-failed, onAccepted-accepted, onAccepted-passed, from-passed}
 use Rattle.avl.specs.Codecs.{widthsOf}
 use Rattle.avl.specs.Records.{recordBytes}
 use Rattle.avl.specs.DataField.{AvlData, dataBytes, readData}
@@ -48,10 +48,10 @@ data-long a = omega (arith, length-enclosed (a .codec) (length (a .records)) (jo
 
 -- a packet is judged by its data field
 packet-read : (limits : Limits) (a : AvlData) → Roomy limits → Bytes (dataBytes a) → length (dataBytes a) + 12 ≤ limits .largest
-    → readPacket limits (packetBytes a) ≡ readData (limits .longest) (dataBytes a)
+    → readPacket limits (packetBytes a) ≡ from 8 (readData (limits .longest) (dataBytes a))
 unfolding readPacket packetBytes
 packet-read limits a room b h =
-    onAccepted-passed (unframe (limits .largest) (framed (dataBytes a))) (readData (limits .longest))
+    onAccepted-passed (unframe (limits .largest) (framed (dataBytes a))) _
     (frame-complete (limits .largest) (dataBytes a) (record { bytes = b; least = data-long a; most = h; counted = omega (arith, room .packets) }))
 
 -- ---- the comparison
@@ -70,11 +70,11 @@ none (refused x) only h = ap refused (only x refl)
 -- within the limit the form is that of the data field
 pub form-within : (limits : Limits) (d : List ℕ) → length d + 12 ≤ limits .largest → formWithin limits d ≡ formOfField (limits .longest) d
 unfolding formWithin
-form-within limits d h = check-passed (leb (length d + 12) (limits .largest)) 17 _ (le-leb _ _ h)
+form-within limits d h = check-passed (leb (length d + 12) (limits .largest)) 17 _ _ (le-leb _ _ h)
 
 pub form-over : (limits : Limits) (d f : List ℕ) → limits .largest < length d + 12 → false ≡ hasForm (formWithin limits d) f
 unfolding formWithin hasForm
-form-over limits d f h = sym (ap (λ r. hasForm r f) (check-failed (leb (length d + 12) (limits .largest)) 17 _ (lt-leb _ _ h)))
+form-over limits d f h = sym (ap (λ r. hasForm r f) (check-failed (leb (length d + 12) (limits .largest)) 17 _ _ (lt-leb _ _ h)))
 
 module _ (limits : Limits) (room : Roomy limits) (f : List ℕ) where
   abbrev field : List ℕ
@@ -108,7 +108,7 @@ module _ (limits : Limits) (room : Roomy limits) (f : List ℕ) where
         refused-form (λ a e.
         let k = reads a e in
         let i = onAccepted-accepted (or17 (readPacket limits (packetBytes (decoded f)))) _ e in
-        let c = check-accepted (same (form (i .0)) f) 17 (accepted (i .0)) (i .2) in
+        let c = check-accepted (same (form (i .0)) f) 17 _ (accepted (i .0)) (i .2) in
         let is : i .0 ≡ a = cc in
         let equal : same (form a) f ≡ true = ap (λ (x : AvlData). same (form x) f) (sym is) ∙ c .0 in
         let within = form-within limits field (k .2) ∙ onAccepted-passed (readData (limits .longest) field) _ (k .0) in
@@ -120,15 +120,15 @@ module _ (limits : Limits) (room : Roomy limits) (f : List ℕ) where
     unfolding packetWithin packetBytes formOfField formWithin readForm or17
     found h =
         let g = hasForm-true (formWithin limits field) f h in
-        let c = check-accepted (leb (length field + 12) (limits .largest)) 17 _ (g .1) in
+        let c = check-accepted (leb (length field + 12) (limits .largest)) 17 _ _ (g .1) in
         let i = onAccepted-accepted (readData (limits .longest) field) _ (c .1) in
         let a = i .0 in
         let packet = packetBytes (decoded f) in
-        let accepts : readPacket limits packet ≡ accepted a = packet-read limits (decoded f) room (bytes-field f b) (leb-true _ _ (c .0)) ∙ i .1 in
+        let accepts : readPacket limits packet ≡ accepted a = packet-read limits (decoded f) room (bytes-field f b) (leb-true _ _ (c .0)) ∙ from-passed 8 _ (i .1) in
         let formed : form a ≡ g .0 = cc in
         let equal = ap (λ (x : List ℕ). same x f) formed ∙ g .2 in
         onAccepted-passed (readForm limits f) _
-        (onAccepted-passed (or17 (readPacket limits packet)) _ (ap or17 accepts) ∙ check-passed (same (form a) f) 17 (accepted a) equal)
+        (onAccepted-passed (or17 (readPacket limits packet)) _ (ap or17 accepts) ∙ check-passed (same (form a) f) 17 _ (accepted a) equal)
         ∙ ap accepted (sym (packet-exact limits packet a (bytes-decoded f b) .0 accepts .whole))
 
   -- the data field at the start of an array, and what the comparison tells
@@ -217,11 +217,11 @@ answers-refused {result} {out} e k = subst (λ (x : Written). Answers result out
 -- 21 comes first
 pub known-form : (limits : Limits) (f : List ℕ) → 1 ≤ limits .largest → packetOfForm limits f ≡ packetWithin limits f
 unfolding packetOfForm
-known-form limits f h = check-passed _ 21 _ (le-leb 1 (limits .largest) h)
+known-form limits f h = check-passed _ 21 _ _ (le-leb 1 (limits .largest) h)
 
 pub unknown-form : (limits : Limits) (f : List ℕ) → limits .largest < 1 → packetOfForm limits f ≡ refused (refusal 21)
 unfolding packetOfForm
-unknown-form limits f h = check-failed _ 21 _ (lt-leb 1 (limits .largest) h)
+unknown-form limits f h = check-failed _ 21 _ _ (lt-leb 1 (limits .largest) h)
 
 pub answers-found : {result : Answer (List ℕ)} {p after : List ℕ} (before : List ℕ) (r : Written) → result ≡ accepted p → Answers (accepted p) before after r → Answers result before after r
 answers-found {after = after} before r e k = subst (λ y. Answers y before after r) (sym e) k

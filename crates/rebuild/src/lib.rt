@@ -258,9 +258,13 @@ fn same_form(limits: Limits, d: &[u8], f: &[u8], g: &mut [u8]) -> bool
 }
 
 fn refused(number: usize) -> Written
-    ensures { λ r. ⌜ r ≡ Written.Refused (record { number = number; index = 0 }) ⌝ }
+    ensures { λ r. ⌜ r ≡ Written.Refused (record { number = number; index = 0; place = 0 }) ⌝ }
 {
-    Written::Refused(Refusal { number, index: 0 })
+    Written::Refused(Refusal {
+        number,
+        index: 0,
+        place: 0,
+    })
 }
 
 // Writes the packet around a data field.

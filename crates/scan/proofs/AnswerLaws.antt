@@ -11,7 +11,7 @@ use lib.Dec.{eqb, leb}
 use borrow.Author.Tests.{le-leb, lt-leb, ne-eqb}
 use Rattle.wire.specs.Sequences.{joined}
 use Rattle.wire.specs.declared.Refusal.{Refusal}
-use Rattle.wire.specs.Answers.{Answer, accepted, refused, refusal, refusalOf, onAccepted, told, check}
+use Rattle.wire.specs.Answers.{Answer, accepted, refused, refusal, onAccepted, told, unplaced, check, checkAt}
 use Rattle.wire.specs.Reading.{Read, got, bad, andThen}
 use Rattle.wire.specs.Buffers.{leaving}
 use Rattle.wire.proofs.Accepting.{by-length, pick-either, onAccepted-passed, onAccepted-refused}
@@ -44,7 +44,7 @@ use Rattle.scan.proofs.WalkLaws.{pieces-none, pieces-some, start-on}
 
 abbrev Twenty : {A : Type 0} → Read A → Type 0
 Twenty (got a n) = Unit {0}
-Twenty (bad x) = refusalOf x ≡ refusal 20
+Twenty (bad x) = refusal (x .number) ≡ refusal 20
 
 twenty-field : {A B : Type 0} (at : ℕ) (r : Answer A) (f : A → Read B) → ((a : A) → Twenty (f a)) → Twenty (onField at r f)
 unfolding onField
@@ -82,18 +82,18 @@ twenty-line s =
 
 module _ (s : List ℕ) (start : ℕ) where
   pub line-taken : {f : LineFields} → Judged.Taken f ≡ judgedAs start (judgeLine s) → (l : Line) × (readLine s ≡ accepted l) × (f ≡ lineResult start l) × (f .elements ≡ length (l .elements))
-  unfolding readLine told judgedAs lineResult
+  unfolding readLine told unplaced judgedAs lineResult
   line-taken {f} e = go (judgeLine s) e
     where
-      go : (r : Read Line) → Judged.Taken f ≡ judgedAs start r → (l : Line) × (told r ≡ accepted l) × (f ≡ lineResult start l) × (f .elements ≡ length (l .elements))
+      go : (r : Read Line) → Judged.Taken f ≡ judgedAs start r → (l : Line) × (unplaced (told 0 r) ≡ accepted l) × (f ≡ lineResult start l) × (f .elements ≡ length (l .elements))
       go (got l n) e = let same : f ≡ lineResult start l = cc in (l, refl, same, ap (λ (x : LineFields). x .elements) same)
       go (bad x) e = absurd (let z : _≡_ {A = ℕ} 0 1 = cc in omega arith)
 
   pub line-wrong : {place : ℕ} → Judged.Wrong place ≡ judgedAs start (judgeLine s) → (readLine s ≡ refused (refusal 20)) × (place ≡ wrongAt s)
-  unfolding readLine told judgedAs wrongAt placeIn
+  unfolding readLine told unplaced judgedAs wrongAt placeIn
   line-wrong {place} e = go (judgeLine s) (twenty-line s) e
     where
-      go : (r : Read Line) → Twenty r → Judged.Wrong place ≡ judgedAs start r → (told r ≡ refused (refusal 20)) × (place ≡ placeIn (length s) r)
+      go : (r : Read Line) → Twenty r → Judged.Wrong place ≡ judgedAs start r → (unplaced (told 0 r) ≡ refused (refusal 20)) × (place ≡ placeIn (length s) r)
       go (got l n) h e = absurd (let z : _≡_ {A = ℕ} 0 1 = cc in omega arith)
       go (bad x) h e = (ap refused h, cc)
 
@@ -216,7 +216,7 @@ Sole (accepted a) = Unit {0}
 Sole (refused x) = x ≡ refusal 20
 
 sole-check : {A : Type 0} (test : Bool) (r : Answer A) → Sole r → Sole (check test 20 r)
-unfolding check
+unfolding checkAt
 sole-check test r h = pick-either Sole test r (refused (refusal 20)) h refl
 
 sole-on : {A B : Type 0} (r : Answer A) (f : A → Answer B) → Sole r → ((a : A) → Sole (f a)) → Sole (onAccepted r f)
@@ -269,7 +269,7 @@ module _ (found : Answer Standing) (out : List ℕ) where
 
   pub answers-number : {id n next : ℕ} → found ≡ accepted (record { content = number id n; next = next })
       → Answers out (LineElementAnswer.Found (record { id = id; tag = false; value = n; size = 0; next = next }))
-  unfolding elementAs answerElement leavingElement leaving tagBytes elementResult onAccepted check
+  unfolding elementAs answerElement leavingElement leaving tagBytes elementResult onAccepted checkAt
   answers-number {id} {n} {next} e = (
     sym (ap (λ (r : Answer Standing). answerElement r out) e ∙ simp (le-leb 0 (length out) (omega arith))),
     sym (ap (λ (r : Answer Standing). leavingElement r out) e ∙ simp (le-leb 0 (length out) (omega arith))),
@@ -277,7 +277,7 @@ module _ (found : Answer Standing) (out : List ℕ) where
 
   module _ {id next : ℕ} (b : List ℕ) (e : found ≡ accepted (record { content = tag id b; next = next })) where
     pub answers-short : length out < length b → Answers out (LineElementAnswer.Refused (refusal 18))
-    unfolding elementAs answerElement leavingElement leaving tagBytes elementResult onAccepted check
+    unfolding elementAs answerElement leavingElement leaving tagBytes elementResult onAccepted checkAt
     answers-short h = (
       sym (ap (λ (r : Answer Standing). answerElement r out) e ∙ simp (lt-leb (length b) (length out) h)),
       sym (ap (λ (r : Answer Standing). leavingElement r out) e ∙ simp (lt-leb (length b) (length out) h)),
@@ -285,7 +285,7 @@ module _ (found : Answer Standing) (out : List ℕ) where
 
     pub answers-tag : {after : List ℕ} {size : ℕ} → size ≡ length b → length b ≤ length out → after ≡ b ++ drop (length b) out
         → Answers after (LineElementAnswer.Found (record { id = id; tag = true; value = 0; size = size; next = next }))
-    unfolding elementAs answerElement leavingElement leaving tagBytes elementResult onAccepted check
+    unfolding elementAs answerElement leavingElement leaving tagBytes elementResult onAccepted checkAt
     answers-tag {after} {size} is h k = (
       ap (λ (n : ℕ). accepted (record { id = id; tag = true; value = 0; size = n; next = next })) is
           ∙ sym (ap (λ (r : Answer Standing). answerElement r out) e ∙ simp (le-leb (length b) (length out) h)),
@@ -369,7 +369,7 @@ module _ (s : List ℕ) where
       ∙ ap (λ (n : ℕ). onAccepted (readPrinted false (fieldAt s at)) (λ e. accepted (record { content = e; next = n }))) place
 
   pub at-behind : (at : ℕ) → length s ≤ at → elementAt s at ≡ refused (refusal 20)
-  unfolding elementAt before readPrinted readDecimal noSpareZero check onAccepted
+  unfolding elementAt before readPrinted readDecimal noSpareZero checkAt onAccepted
   at-behind at h =
       let none : drop at (body s) ≡ [] = drop-of-length-le (body s) {i = at} (omega (arith, length-take (length s - 1) s)) in
       ap (λ (x : List ℕ). onAccepted (readPrinted false (before 44 x)) (λ e. accepted (record { content = e; next = at + suc (length (before 44 x)) }))) none
@@ -397,7 +397,7 @@ module _ (s : List ℕ) where
       number-place = sym (element-cursor s l e k (there .0) (there .1))
 
       pub number-inside : (fieldStart s (4 + k) ≤ length (body s)) × (1 ≤ length s)
-      unfolding readPrinted readDecimal noSpareZero check onAccepted before
+      unfolding readPrinted readDecimal noSpareZero checkAt onAccepted before
       number-inside =
           let some : 1 ≤ length s = omega (arith, ap length (line-inverse .exact s l e .1), line-some l) in
           let reads = element-stands s l e k (there .0) (there .1) .0 in

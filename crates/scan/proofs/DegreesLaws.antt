@@ -9,7 +9,7 @@ use lib.IntN.{ℤ, pos, negsuc}
 use lib.Dec.{eqb, ltb}
 use borrow.Author.Tests.{le-leb, lt-leb, lt-ltb, le-ltb, ne-eqb, eq-eqb}
 use Rattle.wire.specs.Numbers.{signed}
-use Rattle.wire.specs.Answers.{Answer, accepted, refused, refusal, onAccepted, check}
+use Rattle.wire.specs.Answers.{Answer, accepted, refused, refusal, onAccepted, check, checkAt}
 use Rattle.wire.proofs.Accepting.{check-failed, check-passed, pick-true, pick-false}
 use Rattle.line.specs.Pieces.{before, behind}
 use Rattle.line.specs.LineReader.{allDigits, said, noSpareZero, readDecimal, readUnsigned, readDegrees, positive, negative}
@@ -24,15 +24,15 @@ use Rattle.scan.proofs.FieldLaws.{stands-yes, stands-no, FirstNot, firs
 module _ (whole : ℕ) (s : List ℕ) where
   places-size : (length s ≡ 7 → ⊥) → placesOf whole s ≡ refused (refusal 20)
   unfolding placesOf
-  places-size h = check-failed (eqb (length s) 7) 20 _ (ne-eqb (length s) 7 h)
+  places-size h = check-failed (eqb (length s) 7) 20 _ _ (ne-eqb (length s) 7 h)
 
   places-other : allDigits s ≡ false → placesOf whole s ≡ refused (refusal 20)
   unfolding placesOf
-  places-other e = ap (λ (r : Answer ℕ). check (eqb (length s) 7) 20 r) (check-failed (allDigits s) 20 _ e) ∙ check-refused (eqb (length s) 7)
+  places-other e = ap (λ (r : Answer ℕ). check (eqb (length s) 7) 20 r) (check-failed (allDigits s) 20 _ _ e) ∙ check-refused (eqb (length s) 7)
 
   places-good : length s ≡ 7 → allDigits s ≡ true → placesOf whole s ≡ accepted (whole * 10 ^ 7 + said s)
   unfolding placesOf
-  places-good e d = check-passed (eqb (length s) 7) 20 _ (eq-eqb (length s) 7 e) ∙ check-passed (allDigits s) 20 _ d
+  places-good e d = check-passed (eqb (length s) 7) 20 _ _ (eq-eqb (length s) 7 e) ∙ check-passed (allDigits s) 20 _ _ d
 
 module _ (t : List ℕ) (at whole : ℕ) (inside : at ≤ length t) where
   abbrev fieldPlaces : Number
@@ -119,17 +119,17 @@ module _ (t : List ℕ) (at : ℕ) (inside : at ≤ length t) where
 
 module _ (n end : ℕ) where
   pub positive-read : (z : ℤ) → z ≡ signed 4 n → n ≤ 2 ^ 31 - 1 → Degrees.Of z end ≡ signedAs positive (Number.Of n end)
-  unfolding signedAs degreesAs check signed
+  unfolding signedAs degreesAs checkAt signed
   positive-read z e h =
       let value : z ≡ pos n = e ∙ pick-true (ltb n (2 ^ 31)) (pos n) (negsuc (2 ^ 32 - suc n)) (lt-ltb n (2 ^ 31) (omega arith)) in
       ap (λ (y : ℤ). Degrees.Of y end) value ∙ sym (simp (le-leb n (2 ^ 31 - 1) h))
 
   pub positive-over : 2 ^ 31 - 1 < n → Degrees.Wrong ≡ signedAs positive (Number.Of n end)
-  unfolding signedAs degreesAs check
+  unfolding signedAs degreesAs checkAt
   positive-over h = sym (simp (lt-leb n (2 ^ 31 - 1) h))
 
   pub negative-read : (z : ℤ) → z ≡ signed 4 (2 ^ 32 - n) → 1 ≤ n → n ≤ 2 ^ 31 → Degrees.Of z end ≡ signedAs negative (Number.Of n end)
-  unfolding signedAs degreesAs check signed
+  unfolding signedAs degreesAs checkAt signed
   negative-read z e some h =
       let m : ℕ = 2 ^ 32 - n in
       let value : z ≡ negsuc (n - 1) =
@@ -138,15 +138,15 @@ module _ (n end : ℕ) where
       ap (λ (y : ℤ). Degrees.Of y end) value ∙ sym (simp (le-leb 1 n some, le-leb n (2 ^ 31) h))
 
   pub negative-none : n < 1 → Degrees.Wrong ≡ signedAs negative (Number.Of n end)
-  unfolding signedAs degreesAs check
+  unfolding signedAs degreesAs checkAt
   negative-none h = sym (simp (lt-leb 1 n h))
 
   pub negative-over : 1 ≤ n → 2 ^ 31 < n → Degrees.Wrong ≡ signedAs negative (Number.Of n end)
-  unfolding signedAs degreesAs check
+  unfolding signedAs degreesAs checkAt
   negative-over some h = sym (simp (le-leb 1 n some, lt-leb n (2 ^ 31) h))
 
 no-sign : (s : List ℕ) → FirstNot 45 s → onAccepted (readUnsigned s) positive ≡ readDegrees s
-unfolding readDegrees onAccepted readUnsigned before behind readDecimal noSpareZero check
+unfolding readDegrees onAccepted readUnsigned before behind readDecimal noSpareZero checkAt
 no-sign [] h = refl
 no-sign (c ∷ s) h = sym (pick-false (eqb c 45) _ _ h)
 

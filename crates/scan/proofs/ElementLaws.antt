@@ -6,7 +6,7 @@ use mathlib.Core.Bool.{Bool, true, false}
 use mathlib.Core.List.{List, [], _∷_}
 use lib.ListN.{length, drop, getD}
 use lib.Dec.{eqb}
-use Rattle.wire.specs.Answers.{Answer, accepted, refused, refusal, onAccepted, check}
+use Rattle.wire.specs.Answers.{Answer, accepted, refused, refusal, onAccepted, checkAt}
 use Rattle.wire.proofs.Accepting.{pick-false}
 use Rattle.line.specs.Pieces.{behind}
 use Rattle.line.specs.Lines.{number, tag}
@@ -51,12 +51,12 @@ number-none start end id (refused x) e = refl
 
 -- a value that does not begin with a quote is a number, and behind a tag there is none
 value-number : (id : ℕ) (s : List ℕ) → FirstNot 34 s → onAccepted (readDecimal (2 ^ 64 - 1) s) (λ n. accepted (number id n)) ≡ readValue false id s
-unfolding readValue onAccepted readDecimal noSpareZero check
+unfolding readValue onAccepted readDecimal noSpareZero checkAt
 value-number id [] h = refl
 value-number id (c ∷ s) h = sym (pick-false (eqb c 34) _ _ h)
 
 value-late : (id : ℕ) (s : List ℕ) → FirstNot 34 s → readValue true id s ≡ refused (refusal 20)
-unfolding readValue check
+unfolding readValue checkAt
 value-late id [] h = refl
 value-late id (c ∷ s) h = pick-false (eqb c 34) _ _ h
 

@@ -10,7 +10,7 @@ use lib.Seq.{getD-drop, drop-drop, drop-cons}
 use lib.Dec.{eqb, leb, ltb}
 use borrow.Author.Tests.{ltb-true, lt-ltb, leb-true, leb-false, ne-eqb, eq-eqb, eqb-true, eqb-false}
 use Rattle.wire.specs.Numbers.{pick}
-use Rattle.wire.specs.Answers.{Answer, accepted, refused, refusal, onAccepted, check}
+use Rattle.wire.specs.Answers.{Answer, accepted, refused, refusal, onAccepted, checkAt}
 use Rattle.wire.proofs.Accepting.{onAccepted-passed, onAccepted-refused, check-accepted, both-true, pick-true}
 use Rattle.text.specs.Hex.{among}
 use Rattle.line.specs.Pieces.{before, behind}
@@ -298,9 +298,9 @@ number-told end (refused x) e = absurd (let z : _≡_ {A = ℕ} 0 1 = cc in omeg
 pub decimal-most : (most : ℕ) (s : List ℕ) {n : ℕ} → readDecimal most s ≡ accepted n → n ≤ most
 unfolding readDecimal
 decimal-most most s {n} e =
-    let a = check-accepted (noSpareZero s) 20 _ e in
-    let b = check-accepted (allDigits s) 20 _ (a .1) in
-    let c = check-accepted (leb (said s) most) 20 _ (b .1) in
+    let a = check-accepted (noSpareZero s) 20 _ _ e in
+    let b = check-accepted (allDigits s) 20 _ _ (a .1) in
+    let c = check-accepted (leb (said s) most) 20 _ _ (b .1) in
     let same : said s ≡ n = cc (c .1) in
     omega (arith, leb-true (said s) most (c .0), same)
 
@@ -308,7 +308,7 @@ decimal-most most s {n} e =
 
 -- no number, so 20
 pub number-wrong : (end most : ℕ) (s : List ℕ) → Number.Wrong ≡ numberAs end (readDecimal most s) → readDecimal most s ≡ refused (refusal 20)
-unfolding numberAs readDecimal check
+unfolding numberAs readDecimal checkAt
 number-wrong end most s e = go (noSpareZero s) (allDigits s) (leb (said s) most) e
   where
     go : (a b c : Bool) → Number.Wrong ≡ numberAs end (pick a (pick b (pick c (accepted (said s)) (refused (refusal 20))) (refused (refusal 20))) (refused (refusal 20)))
@@ -337,7 +337,7 @@ module _ (t : List ℕ) (at : ℕ) (inside : at ≤ length t) (c : ℕ) (no : am
 
     -- nothing behind it
     behind-none : behind c (fieldFrom t at) ≡ [] → splitField ≡ refused (refusal 20)
-    unfolding onAccepted readDecimal check
+    unfolding onAccepted readDecimal checkAt
     behind-none e = go (noSpareZero s) (allDigits s) (leb (said s) most)
       where
         s : List ℕ

@@ -12,7 +12,7 @@ use borrow.Author.Tests.{le-leb, lt-leb, leb-true, leb-false}
 use Rattle.wire.specs.Numbers.{valueFrom, pick}
 use Rattle.wire.specs.Sequences.{All}
 use Rattle.wire.proofs.Widths.{value-lt}
-use Rattle.wire.specs.Answers.{Answer, accepted, refused, refusal, check}
+use Rattle.wire.specs.Answers.{Answer, accepted, refused, refusal, check, checkAt}
 use Rattle.wire.proofs.Accepting.{both-true, check-failed, check-passed}
 use Rattle.text.specs.Hex.{among}
 use Rattle.line.proofs.DecimalLaws.{value-grows}
@@ -85,7 +85,7 @@ module _ (t : List ℕ) (at : ℕ) where
 
         -- too large now, too large at the end
         pub run-large : 2 ^ 64 ≤ n * 10 + (getD t i 0 + 208) % 256 → Number.Wrong ≡ runAs at (run (drop at t))
-        unfolding runAs numberAs check
+        unfolding runAs numberAs checkAt
         run-large big =
             let m = run-turn in
             let grows = value-grows (n * 10 + (getD t i 0 + 208) % 256) (run (drop (i + 1) t)) in
@@ -94,7 +94,7 @@ module _ (t : List ℕ) (at : ℕ) where
 
     -- no digit is left
     pub run-done : run (drop i t) ≡ [] → n < 2 ^ 64 → Number.Of n i ≡ runAs at (run (drop at t))
-    unfolding runAs numberAs check digitsOf valueFrom
+    unfolding runAs numberAs checkAt digitsOf valueFrom
     run-done e small =
         let value : n ≡ said (run (drop at t)) = ap (λ (s : List ℕ). valueFrom 10 n (digitsOf s)) (sym e) ∙ l .value in
         let place : i ≡ at + length (run (drop at t)) = omega (arith, l .place, ap length e) in
@@ -111,7 +111,7 @@ module _ (t : List ℕ) (at : ℕ) where
 -- ---- a number without spare zeros
 
 pub check-refused : {A : Type 0} (test : Bool) → check {A = A} test 20 (refused (refusal 20)) ≡ refused (refusal 20)
-unfolding check
+unfolding checkAt
 check-refused true = refl
 check-refused false = refl
 
@@ -119,21 +119,21 @@ module _ (most : ℕ) (s : List ℕ) where
   pub decimal-over : most < said s → readDecimal most s ≡ refused (refusal 20)
   unfolding readDecimal
   decimal-over h =
-      ap (λ (r : Answer ℕ). check (noSpareZero s) 20 (check (allDigits s) 20 r)) (check-failed (leb (said s) most) 20 _ (lt-leb (said s) most h))
+      ap (λ (r : Answer ℕ). check (noSpareZero s) 20 (check (allDigits s) 20 r)) (check-failed (leb (said s) most) 20 _ _ (lt-leb (said s) most h))
       ∙ ap (λ (r : Answer ℕ). check (noSpareZero s) 20 r) (check-refused (allDigits s))
       ∙ check-refused (noSpareZero s)
 
   pub decimal-spare : noSpareZero s ≡ false → readDecimal most s ≡ refused (refusal 20)
   unfolding readDecimal
-  decimal-spare e = check-failed (noSpareZero s) 20 _ e
+  decimal-spare e = check-failed (noSpareZero s) 20 _ _ e
 
   pub decimal-other : allDigits s ≡ false → readDecimal most s ≡ refused (refusal 20)
   unfolding readDecimal
-  decimal-other e = ap (λ (r : Answer ℕ). check (noSpareZero s) 20 r) (check-failed (allDigits s) 20 _ e) ∙ check-refused (noSpareZero s)
+  decimal-other e = ap (λ (r : Answer ℕ). check (noSpareZero s) 20 r) (check-failed (allDigits s) 20 _ _ e) ∙ check-refused (noSpareZero s)
 
   pub decimal-good : noSpareZero s ≡ true → allDigits s ≡ true → said s ≤ most → readDecimal most s ≡ accepted (said s)
   unfolding readDecimal
-  decimal-good e d h = check-passed (noSpareZero s) 20 _ e ∙ check-passed (allDigits s) 20 _ d ∙ check-passed (leb (said s) most) 20 _ (le-leb (said s) most h)
+  decimal-good e d h = check-passed (noSpareZero s) 20 _ _ e ∙ check-passed (allDigits s) 20 _ _ d ∙ check-passed (leb (said s) most) 20 _ _ (le-leb (said s) most h)
 
 pub run-digits : (s : List ℕ) → allDigits (run s) ≡ true
 unfolding run allDigits
@@ -148,7 +148,7 @@ run-digits (c ∷ s) = go (among 48 57 c) refl (run-digits s)
 module _ (t : List ℕ) (at : ℕ) where
   -- too large for 64 bits
   pub run-wrong : Number.Wrong ≡ runAs at (run (drop at t)) → 2 ^ 64 ≤ said (run (drop at t))
-  unfolding runAs numberAs check
+  unfolding runAs numberAs checkAt
   run-wrong e = go (leb (said (run (drop at t))) (2 ^ 64 - 1)) refl (e)
     where
       go : (b : Bool) → leb (said (run (drop at t))) (2 ^ 64 - 1) ≡ b
@@ -157,7 +157,7 @@ module _ (t : List ℕ) (at : ℕ) where
       go false e h = omega (arith, leb-false (said (run (drop at t))) (2 ^ 64 - 1) e)
 
   pub run-right : {n end : ℕ} → Number.Of n end ≡ runAs at (run (drop at t)) → (n ≡ said (run (drop at t))) × (end ≡ at + length (run (drop at t)))
-  unfolding runAs numberAs check
+  unfolding runAs numberAs checkAt
   run-right {n} {end} e = go (leb (said (run (drop at t))) (2 ^ 64 - 1)) e
     where
       go : (b : Bool) → Number.Of n end ≡ numberAs (at + length (run (drop at t))) (check b 20 (accepted (said (run (drop at t)))))

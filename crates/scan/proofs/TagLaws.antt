@@ -10,7 +10,7 @@ use lib.Seq.{sets, drop-cons, length-sets}
 use lib.Dec.{eqb, leb}
 use borrow.Author.Tests.{leb-true, ne-eqb}
 use Rattle.wire.specs.Numbers.{pick}
-use Rattle.wire.specs.Answers.{Answer, accepted, refused, refusal, onAccepted, check}
+use Rattle.wire.specs.Answers.{Answer, accepted, refused, refusal, onAccepted, checkAt}
 use Rattle.wire.proofs.Accepting.{both-true, pick-either}
 use Rattle.wire.proofs.Storing.{sets-append}
 use Rattle.wire.proofs.BufferLaws.{sets-front}
@@ -43,7 +43,7 @@ DigitOf c (accepted d) = (d < 16) × (eqb c 44 ≡ false)
 DigitOf c (refused r) = r ≡ refusal 20
 
 digit-of : (c : ℕ) → DigitOf c (readHex c)
-unfolding readHex check
+unfolding readHex checkAt
 digit-of c =
     either (DigitOf c) (among 48 57 c) (λ e. (omega (arith, among-low 48 57 c e, among-high 48 57 c e), ne-eqb c 44 (λ z. omega (arith, among-low 48 57 c e))))
     (λ _. either (DigitOf c) (among 65 70 c) (λ e. (omega (arith, among-low 65 70 c e, among-high 65 70 c e), ne-eqb c 44 (λ z. omega (arith, among-low 65 70 c e))))
@@ -114,13 +114,13 @@ module _ (t : List ℕ) (i : ℕ) (inside : i + 1 < length t) where
 
     module _ {l : ℕ} (second : hexAs (readHex (getD t (i + 1) 0)) ≡ Hex.Of l) where
       pub escape-plain : isPlain (h * 16 + l) ≡ true → Wrong slash (fieldFrom t i)
-      unfolding readTag onAccepted check
+      unfolding readTag onAccepted checkAt
       escape-plain e =
           let d = is-digit (getD t (i + 1) 0) (readHex (getD t (i + 1) 0)) (digit-of (getD t (i + 1) 0)) second in
           escape-on ∙ rest-either t (i + 1) (omega arith) (Wrong (high h)) refl (simp (d .0, e))
 
       pub escape-good : isPlain (h * 16 + l) ≡ false → Gives slash t i (h * 16 + l) (i + 2)
-      unfolding readTag onAccepted check
+      unfolding readTag onAccepted checkAt
       escape-good e =
           let c = is-digit (getD t i 0) (readHex (getD t i 0)) (digit-of (getD t i 0)) first in
           let d = is-digit (getD t (i + 1) 0) (readHex (getD t (i + 1) 0)) (digit-of (getD t (i + 1) 0)) second in
@@ -145,7 +145,7 @@ piece-none t i e = rw (field-behind t i (omega arith)) refl
 
 module _ (t : List ℕ) (i : ℕ) (inside : i < length t) where
   quote-end : getD t i 0 ≡ 34 → fieldFrom t (i + 1) ≡ [] → (readTag none (fieldFrom t i) ≡ accepted []) × (length (fieldFrom t i) ≡ 1)
-  unfolding readTag check
+  unfolding readTag checkAt
   quote-end q e =
       let whole : fieldFrom t i ≡ 34 ∷ [] = field-byte t i inside (rw q refl) ∙ rw (q, e) refl in
       (rw whole refl, ap length whole)
@@ -158,7 +158,7 @@ module _ (t : List ℕ) (i : ℕ) (inside : i < length t) where
 
   -- the quote is not the field's last byte
   pub piece-early : getD t i 0 ≡ 34 → i + 1 < length t → (getD t (i + 1) 0 ≡ 44 → ⊥) → Wrong none (fieldFrom t i)
-  unfolding readTag check
+  unfolding readTag checkAt
   piece-early q h e =
       let whole : fieldFrom t i ≡ 34 ∷ getD t (i + 1) 0 ∷ fieldFrom t (i + 1 + 1) = field-byte t i inside (rw q refl) ∙ rw (q, field-byte t (i + 1) h (ne-eqb _ _ e)) refl in
       rw whole (simp (ne-eqb (suc (length (fieldFrom t (i + 1 + 1)))) 0 (λ z. omega arith)))
@@ -183,7 +183,7 @@ module _ (t : List ℕ) (i : ℕ) (inside : i < length t) where
 
   module _ (unquoted : getD t i 0 ≡ 34 → ⊥) (bare : getD t i 0 ≡ 92 → ⊥) where
     pub piece-plain : isPlain (getD t i 0) ≡ true → Gives none t i (getD t i 0) (i + 1)
-    unfolding readTag check
+    unfolding readTag checkAt
     piece-plain e =
         let whole = field-byte t i inside (ne-eqb _ _ (plain-no-comma (getD t i 0) e)) in
         record {
@@ -194,7 +194,7 @@ module _ (t : List ℕ) (i : ℕ) (inside : i < length t) where
         }
 
     pub piece-other : isPlain (getD t i 0) ≡ false → Wrong none (fieldFrom t i)
-    unfolding readTag check
+    unfolding readTag checkAt
     piece-other e = rest-either t i inside (Wrong none) refl (simp (ne-eqb _ _ unquoted, ne-eqb _ _ bare, e))
 
 -- ---- how far a tag is read

@@ -532,6 +532,7 @@ pub fn read_line(s: &[u8]) -> LineAnswer
         Judged::Wrong(_) => LineAnswer::Refused(Refusal {
             number: 20,
             index: 0,
+            place: 0,
         }),
     }
 }
@@ -590,6 +591,7 @@ fn element_from(t: &[u8], at: usize, out: &mut [u8]) -> LineElementAnswer
         Item::Wrong => LineElementAnswer::Refused(Refusal {
             number: 20,
             index: 0,
+            place: 0,
         }),
         Item::Number(id, value, end) => LineElementAnswer::Found(LineElement {
             id,
@@ -603,6 +605,7 @@ fn element_from(t: &[u8], at: usize, out: &mut [u8]) -> LineElementAnswer
                 return LineElementAnswer::Refused(Refusal {
                     number: 18,
                     index: 0,
+                    place: 0,
                 });
             }
             store_tag(t, start, out);
@@ -626,6 +629,7 @@ pub fn element_at(s: &[u8], at: usize, out: &mut [u8]) -> LineElementAnswer
         return LineElementAnswer::Refused(Refusal {
             number: 20,
             index: 0,
+            place: 0,
         });
     }
     let last = s.len() - 1;
@@ -641,12 +645,14 @@ pub fn element_in_line(s: &[u8], k: usize, out: &mut [u8]) -> LineElementAnswer
         Judged::Wrong(_) => LineElementAnswer::Refused(Refusal {
             number: 20,
             index: 0,
+            place: 0,
         }),
         Judged::Taken(f) => {
             if f.elements <= k {
                 return LineElementAnswer::Refused(Refusal {
                     number: 16,
                     index: 0,
+                    place: 0,
                 });
             }
             let last = s.len() - 1;

@@ -12,7 +12,7 @@ use Rattle.wire.specs.declared.Limits.{Limits}
 use Rattle.wire.specs.Numbers.{digits, pick}
 use Rattle.wire.specs.Envelope.{enclosed, codecOf}
 use Rattle.wire.specs.Answers.{accepted, onAccepted}
-use Rattle.wire.proofs.Accepting.{pick-true, pick-false, check-passed, onAccepted-accepted, onAccepted-passed}
+use Rattle.wire.proofs.Accepting.{pick-true, pick-false, check-passed, onAccepted-accepted, onAccepted-passed, from-accepted}
 use Rattle.wire.proofs.Placed.{between-bytes, between-whole}
 use Rattle.frame.specs.Frame.{framed, FrameRules, fieldLength, fieldOf, header, unframe}
 use Rattle.frame.proofs.FrameLaws.{Parts, parts, length-framed, frame-complete}
@@ -58,9 +58,9 @@ module _ (largest : ℕ) (d p : List ℕ) (rules : FrameRules largest d) (whole 
   header-is : header largest p ≡ accepted (length d)
   header-is =
       let k = framed-parts in
-      check-passed _ 2 _ (eq-eqb _ _ (k .zeros))
-      ∙ check-passed _ 3 _ (le-leb 3 (fieldLength p) (omega (arith, k .size, rules .least)))
-      ∙ check-passed _ 3 _ (le-leb (fieldLength p + 12) largest (omega (arith, k .size, rules .most)))
+      check-passed _ 2 _ _ (eq-eqb _ _ (k .zeros))
+      ∙ check-passed _ 3 _ _ (le-leb 3 (fieldLength p) (omega (arith, k .size, rules .least)))
+      ∙ check-passed _ 3 _ _ (le-leb (fieldLength p + 12) largest (omega (arith, k .size, rules .most)))
       ∙ ap accepted (k .size)
 
 -- ---- packets that keep the rules
@@ -117,9 +117,9 @@ module _ (limits : Limits) (p : List ℕ) where
     unfolding readCommand readField codecOf isAccepted
     has-row =
         let d = commandField (k .row) c in
-        let i = onAccepted-accepted (unframe (limits .largest) p) readField (command-complete limits p c k) in
+        let i = onAccepted-accepted (unframe (limits .largest) p) _ (command-complete limits p c k) in
         let same : i .0 ≡ d = cc (i .1, ap (unframe (limits .largest)) (k .whole), frame-complete (limits .largest) d (k .frame)) in
-        let row = onAccepted-accepted (layoutOf (getD (i .0) 0 0)) _ (i .2) in
+        let row = onAccepted-accepted (layoutOf (getD (i .0) 0 0)) _ (from-accepted 8 _ (i .2)) in
         let first : getD p 8 0 ≡ getD (i .0) 0 0 = field-at (limits .largest) d p (k .frame) (k .whole) 0 (omega arith) ∙ ap (λ (l : List ℕ). getD l 0 0) (sym same) in
         ap (λ (n : ℕ). isAccepted (layoutOf n)) first ∙ ap isAccepted (row .1)
 

@@ -11,7 +11,7 @@ use borrow.Author.Tests.{le-leb, lt-leb, leb-false}
 use Rattle.wire.specs.declared.Limits.{Limits}
 use Rattle.wire.specs.declared.Refusal.{Refusal}
 use Rattle.wire.specs.Numbers.{numberAt, pick}
-use Rattle.wire.specs.Answers.{Answer, accepted, refused, check, onAccepted}
+use Rattle.wire.specs.Answers.{Answer, accepted, refused, checkAt, onAccepted}
 use Rattle.wire.proofs.Accepting.{by-length, onAccepted-accepted}
 use Rattle.frame.specs.Frame.{fieldLength, header, heading}
 use Rattle.frame.proofs.FramingLaws.{header-field}
@@ -29,7 +29,7 @@ header-append : (largest : ℕ) (s t : List ℕ) → 8 ≤ length s → header l
 unfolding fieldLength
 header-append largest s t h =
     ap₂
-    (λ (m n : ℕ). check (eqb m 0) 2 (check (leb 3 n) 3 (check (leb (n + 12) largest) 3 (accepted n))))
+    (λ (m n : ℕ). checkAt (eqb m 0) 2 0 (checkAt (leb 3 n) 3 4 (checkAt (leb (n + 12) largest) 3 4 (accepted n))))
     (number-append s t 0 4 (omega arith))
     (number-append s t 4 4 (omega arith))
 

@@ -11,7 +11,7 @@ use Rattle.wire.specs.declared.Refusal.{Refusal}
 use Rattle.wire.specs.declared.Limits.{Limits}
 use Rattle.wire.specs.Limits.{isKnown}
 use Rattle.wire.specs.Numbers.{Bytes}
-use Rattle.wire.specs.Answers.{Answer, accepted, refused, check, onAccepted, refusal}
+use Rattle.wire.specs.Answers.{Answer, accepted, refused, check, checkAt, onAccepted, refusal}
 use Rattle.wire.proofs.Accepting.{both-true, pick-true, check-accepted, check-passed, onAccepted-accepted, onAccepted-passed}
 use Rattle.avl.specs.DataField.{AvlData, DataRules}
 use Rattle.packet.specs.DataPackets.{packetBytes, DataPacket, readPacket}
@@ -44,7 +44,7 @@ abbrev Only17 : {A : Type 0} → Answer A → Type 0
 Only17 r = (x : Refusal) → r ≡ refused x → x ≡ refusal 17
 
 pick-17 : (test : Bool) (a : AvlData) → Only17 (check test 17 (accepted a))
-unfolding check
+unfolding checkAt
 pick-17 true a x e = absurd (let z : _≡_ {A = ℕ} 0 1 = cc in omega arith)
 pick-17 false a x e = cc
 
@@ -62,7 +62,7 @@ form-sound : (limits : Limits) (f : List ℕ) (a : AvlData) → Bytes f → read
 unfolding readForm
 form-sound limits f a h e =
     let i = onAccepted-accepted (or17 (readPacket limits (packetBytes (decoded f)))) _ e in
-    let c = check-accepted (same (form (i .0)) f) 17 (accepted (i .0)) (i .2) in
+    let c = check-accepted (same (form (i .0)) f) 17 _ (accepted (i .0)) (i .2) in
     let k = packet-exact limits (packetBytes (decoded f)) (i .0) (bytes-decoded f h) .0 (or17-accepted _ (i .1)) in
     let result : i .0 ≡ a = cc in
     subst (λ (x : AvlData). FormOf limits x f) result
@@ -76,7 +76,7 @@ form-complete limits f a l k =
     ap (λ (x : AvlData). readPacket limits (packetBytes x)) again ∙ packet-complete limits (packetBytes a) a (k .packet)
     in
     onAccepted-passed (or17 (readPacket limits (packetBytes (decoded f)))) _ (ap or17 accepts)
-    ∙ check-passed (same (form a) f) 17 (accepted a) (ap (λ (x : List ℕ). same (form a) x) (k .form) ∙ equal-same (form a))
+    ∙ check-passed (same (form a) f) 17 _ (accepted a) (ap (λ (x : List ℕ). same (form a) x) (k .form) ∙ equal-same (form a))
 
 -- a form is taken exactly if it is the form of an acceptable packet; every other gets 17
 pub form-exact : (limits : Limits) (f : List ℕ) (a : AvlData) → Bytes f → (limits .longest) < 256 ^ 2
@@ -99,7 +99,7 @@ packet-again limits p f h l e =
     let i = onAccepted-accepted (readPacket limits p) _ e in
     let k = packet-exact limits p (i .0) h .0 (i .1) in
     let own : form (i .0) ≡ f = cc in
-    check-passed _ 21 _ (le-leb 1 (limits .largest) (omega (arith, k .frame .most)))
+    check-passed _ 21 _ _ (le-leb 1 (limits .largest) (omega (arith, k .frame .most)))
     ∙ onAccepted-passed (readForm limits f) _
     (form-complete limits f (i .0) l
     (record { packet = record { rules = k .rules; frame = k .frame; whole = refl }; form = sym own }))
@@ -110,7 +110,7 @@ pub form-again : (limits : Limits) (f p : List ℕ) → Bytes f
     → packetOfForm limits f ≡ accepted p → formOfPacket limits p ≡ accepted f
 unfolding formOfPacket packetWithin packetOfForm
 form-again limits f p h e =
-    let i = onAccepted-accepted (readForm limits f) _ (check-accepted (isKnown (limits .largest)) 21 (packetWithin limits f) e .1) in
+    let i = onAccepted-accepted (readForm limits f) _ (check-accepted (isKnown (limits .largest)) 21 _ (packetWithin limits f) e .1) in
     let k = form-sound limits f (i .0) h (i .1) in
     let own : packetBytes (i .0) ≡ p = cc in
     onAccepted-passed (readPacket limits p) _

@@ -6,16 +6,17 @@ use native.Mathlib.Omega.{arith}
 use mathlib.Core.Path.{_≡_, refl, sym, ap, ap₂, _∙_}
 use mathlib.Core.Bool.{Bool, true, false}
 use mathlib.Core.List.{List, [], _∷_}
-use lib.ListN.{length, drop, getD, drop-of-length-le}
+use lib.ListN.{length, drop, getD, drop-of-length-le, length-drop}
+use lib.Seq.{length-take-le}
 use lib.Dec.{eqb, leb}
 use borrow.Author.Tests.{eq-eqb, ne-eqb, le-leb, lt-leb, leb-true, leb-false}
-use Rattle.wire.specs.declared.Fault.{Fault}
+use Rattle.wire.specs.declared.Refusal.{Refusal}
 use Rattle.wire.specs.declared.Walk.{Walk}
 use Rattle.wire.specs.declared.Walk.the-variants.{On, Stopped}
 use Rattle.wire.specs.Numbers.{Bytes, numberAt, pick}
 use Rattle.wire.specs.Reading.{Read, got, bad, walked, Reader, andThen, _>>=_, _>>_, pure, require, number, bytes, upTo, repeat}
 use Rattle.wire.specs.Envelope.{codecOf, firstCount, lastCount, inner}
-use Rattle.wire.specs.Answers.{Answer, accepted, told, onAccepted}
+use Rattle.wire.specs.Answers.{Answer, accepted, from, told, onAccepted}
 use Rattle.wire.proofs.Widths.{number-lt, byte-pos}
 use Rattle.wire.proofs.Enclosed.{bytes-inner}
 use Rattle.wire.proofs.Accepting.{by-length, pick-true, pick-false, pick-either, check-passed, check-failed}
@@ -27,6 +28,7 @@ use Rattle.walk.specs.declared.Counted.the-variants.{Of}
 use Rattle.walk.specs.declared.Span.{Span}
 use Rattle.walk.specs.declared.Records.{Records}
 use Rattle.walk.specs.declared.Records.the-variants.{All, Broken}
+use Rattle.walk.specs.declared.DataWalk.{DataWalk}
 use Rattle.walk.specs.declared.DataWalk.the-variants.{Taken, Refused}
 use Rattle.avl.specs.Codecs.{codec8, codec8E, codec16, widthsOf, isDataCodec, kinds, allKinds}
 use Rattle.avl.specs.Records.{Element, Fixed, AvlRecord, elementCount, recordBytes}
@@ -34,6 +36,7 @@ use Rattle.avl.specs.RecordReader.{valueSize, element, group, groups, fixedFiel
 use Rattle.avl.specs.DataField.{AvlData, readData}
 use Rattle.walk.specs.Walks.{Narrow, counted, elementsOf, spanOf, spanned, dataWalk}
 use Rattle.walk.proofs.KindLaws.{kind-known, next-kind}
+use Rattle.avl.proofs.OffendingLaws.{all-local}
 use Rattle.avl.proofs.RecordLaws.{element-exact, group-exact, groups-exact, fixed-exact, record-exact, all-sound}
 
 -- what was read lies inside
@@ -139,7 +142,7 @@ module _ {A : Type 0} (m : Reader A) (s : List ℕ) where
       let less : suc n - 1 ≡ n = omega arith in
       ap (λ (k : ℕ). walked (repeat k m s mid)) less ∙ sym (ap walked (list-on m (repeat n m) s at e) ∙ walked-consed a (repeat n m s mid))
 
-  pub repeat-stops : (n at : ℕ) {x : Fault} → 0 < n → m s at ≡ bad x → walked (repeat n m s at) ≡ Stopped x
+  pub repeat-stops : (n at : ℕ) {x : Refusal} → 0 < n → m s at ≡ bad x → walked (repeat n m s at) ≡ Stopped x
   unfolding repeat
   repeat-stops zero at h e = absurd (omega arith)
   repeat-stops (suc n) at h e = walked-bad _ (then-bad m _ s at e)
@@ -211,7 +214,7 @@ module _ (w : Widths) (kind : ℕ) (s : List ℕ) (at : ℕ) {n : ℕ} (is : n �
   unfolding group
   group-repeats h = number-there _ s at (w .count) h ∙ ap (λ (k : ℕ). repeat k (element w kind) s (at + w .count)) (sym is)
 
-  pub group-stops : {x : Fault} → at + w .count ≤ length s → walked (repeat n (element w kind) s (at + w .count)) ≡ Walk.Stopped x
+  pub group-stops : {x : Refusal} → at + w .count ≤ length s → walked (repeat n (element w kind) s (at + w .count)) ≡ Walk.Stopped x
       → counted length (group w kind s at) ≡ Counted.Stopped x
   unfolding counted
   group-stops h e = ap (counted length) (group-repeats h ∙ walked-stopped _ e)
@@ -238,12 +241,12 @@ module _ {A : Type 0} (size : A → ℕ) where
   counted-of (got a m) e = (a, ap (got a) (cc), cc)
   counted-of (bad x) e = absurd (let z : _≡_ {A = ℕ} 0 1 = cc in omega arith)
 
-  counted-stopped : (r : Read A) {x : Fault} → counted size r ≡ Counted.Stopped x → r ≡ bad x
+  counted-stopped : (r : Read A) {x : Refusal} → counted size r ≡ Counted.Stopped x → r ≡ bad x
   unfolding counted
   counted-stopped (got a m) e = absurd (let z : _≡_ {A = ℕ} 0 1 = cc in omega arith)
   counted-stopped (bad y) e = ap bad (cc)
 
-  counted-bad : (r : Read A) {x : Fault} → r ≡ bad x → counted size r ≡ Counted.Stopped x
+  counted-bad : (r : Read A) {x : Refusal} → r ≡ bad x → counted size r ≡ Counted.Stopped x
   unfolding counted
   counted-bad r e = ap (counted size) e
 
@@ -272,7 +275,7 @@ module _ (w : Widths) (k : ℕ) (ks : List ℕ) (s : List ℕ) (at : ℕ) where
   unfolding groups
   groups-on g = list-on (group w k) (groups w ks) s at (g .read)
 
-  pub groups-stop : {x : Fault} → counted length (group w k s at) ≡ Counted.Stopped x → groups w (k ∷ ks) s at ≡ bad x
+  pub groups-stop : {x : Refusal} → counted length (group w k s at) ≡ Counted.Stopped x → groups w (k ∷ ks) s at ≡ bad x
   unfolding groups
   groups-stop e = then-bad (group w k) _ s at (counted-stopped length _ e)
 
@@ -284,7 +287,7 @@ module _ (w : Widths) (s : List ℕ) (k most at : ℕ) where
   countFrom = counted (λ gs. most + elementCount gs) (groups w (drop k (kinds w)) s at)
 
   module _ {kind : ℕ} (h : k < length (kinds w)) (e : kind ≡ getD (kinds w) k 0) where
-    count-stop : {x : Fault} → counted length (group w kind s at) ≡ Counted.Stopped x → countFrom ≡ Counted.Stopped x
+    count-stop : {x : Refusal} → counted length (group w kind s at) ≡ Counted.Stopped x → countFrom ≡ Counted.Stopped x
     unfolding countFrom
     count-stop z = counted-bad _ _ (ap (λ (ks : List ℕ). groups w ks s at) (next-kind w k h e) ∙ groups-stop w kind _ s at z)
 
@@ -323,7 +326,7 @@ module _ (w : Widths) {s : List ℕ} {at most next k : ℕ} (t : Counting w s at
   known : kind ≡ getD (kinds w) k 0
   known = e ∙ kind-known w k h
 
-  pub counting-stops : {x : Fault} → counted length (group w kind s next) ≡ Counted.Stopped x → Counted.Stopped x ≡ counted elementCount (groups w (kinds w) s at)
+  pub counting-stops : {x : Refusal} → counted length (group w kind s next) ≡ Counted.Stopped x → Counted.Stopped x ≡ counted elementCount (groups w (kinds w) s at)
   counting-stops z = sym (count-stop w s k most next h known z) ∙ t .rest
 
   pub counting-on : {n mid : ℕ} → GroupRead w kind s next n mid → Counting w s at (most + n) mid (k + 1)
@@ -333,7 +336,7 @@ module _ (w : Widths) {s : List ℕ} {at most next k : ℕ} (t : Counting w s at
 -- ---- a record
 
 module _ (longest : ℕ) (w : Widths) (s : List ℕ) (at : ℕ) where
-  pub record-unfixed : {x : Fault} → walked (fixedFields w s at) ≡ Stopped x → counted elementsOf (avlRecord longest w s at) ≡ Counted.Stopped x
+  pub record-unfixed : {x : Refusal} → walked (fixedFields w s at) ≡ Stopped x → counted elementsOf (avlRecord longest w s at) ≡ Counted.Stopped x
   unfolding avlRecord
   record-unfixed e = counted-bad elementsOf _ (here-got _ s at ∙ then-bad (fixedFields w) _ s at (walked-stopped _ e))
 
@@ -343,7 +346,7 @@ module _ (longest : ℕ) (w : Widths) (s : List ℕ) (at : ℕ) where
     record-missing h =
         counted-bad elementsOf _ (here-got _ s at ∙ then-got (fixedFields w) _ s at (walked-on _ fixed .1) ∙ number-missing _ s a₁ (w .count) h)
 
-    pub record-stopped : {x : Fault} → a₁ + w .count ≤ length s → counted elementCount (groups w (kinds w) s (a₁ + w .count)) ≡ Counted.Stopped x
+    pub record-stopped : {x : Refusal} → a₁ + w .count ≤ length s → counted elementCount (groups w (kinds w) s (a₁ + w .count)) ≡ Counted.Stopped x
         → counted elementsOf (avlRecord longest w s at) ≡ Counted.Stopped x
     unfolding avlRecord
     record-stopped h e =
@@ -466,7 +469,7 @@ module _ (w : Widths) (s : List ℕ) (count want : ℕ) where
           ap (λ (n : ℕ). avlRecords longest w i n s next) more
           ∙ ap (λ (k : ℕ). (inRecord i (avlRecord longest w) >>= λ r. avlRecords longest w k (count - (i + 1)) >>= λ rs. pure (r ∷ rs)) s next) (sym (add-one i))
 
-      pub answer-broken : {x : Fault} → i < count → counted elementsOf (avlRecord longest w s next) ≡ Counted.Stopped x
+      pub answer-broken : {x : Refusal} → i < count → counted elementsOf (avlRecord longest w s next) ≡ Counted.Stopped x
           → answerFrom i found next ≡ Broken (record { number = x .number; index = i; place = x .place })
       unfolding answerFrom answered inRecord tagged
       answer-broken h e =
@@ -504,7 +507,7 @@ unfolding spanned
 spanned-all w want (got rs next) e = (rs, next, refl, cc)
 spanned-all w want (bad x) e = absurd (let z : _≡_ {A = ℕ} 0 1 = cc in omega arith)
 
-spanned-broken : (w : Widths) (want : ℕ) (r : Read (List AvlRecord)) {x : Fault} → spanned w want r ≡ Broken x → r ≡ bad x
+spanned-broken : (w : Widths) (want : ℕ) (r : Read (List AvlRecord)) {x : Refusal} → spanned w want r ≡ Broken x → r ≡ bad x
 unfolding spanned
 spanned-broken w want (got rs next) e = absurd (let z : _≡_ {A = ℕ} 0 1 = cc in omega arith)
 spanned-broken w want (bad y) e = ap bad (cc)
@@ -514,39 +517,51 @@ abbrev pub recordsOf : ℕ → List ℕ → Read (List AvlRecord)
 recordsOf longest d = allRecords longest (widthsOf (codecOf d)) (firstCount d) (inner d) 0
 
 abbrev withRecords : ℕ → Read (List AvlRecord) → Answer AvlData
-withRecords codec r = onAccepted (told r) (λ rs. accepted (record { codec = codec; records = rs }))
+withRecords codec r = onAccepted (told 2 r) (λ rs. accepted (record { codec = codec; records = rs }))
 
-module _ (longest want : ℕ) (d : List ℕ) where
-  pub data-unknown : isDataCodec (codecOf d) ≡ false → dataWalk want (readData longest d) ≡ Refused (record { number = 6; index = 0 })
-  unfolding readData dataWalk
-  data-unknown e = ap (dataWalk want) (check-failed _ 6 _ e)
+module _ (longest base want : ℕ) (d : List ℕ) where
+  -- what the walk answers of what is read
+  abbrev toldAs : Answer AvlData → DataWalk
+  toldAs r = dataWalk want (from base r)
+
+  pub data-unknown : isDataCodec (codecOf d) ≡ false → toldAs (readData longest d) ≡ Refused (record { number = 6; index = 0; place = base })
+  unfolding readData from dataWalk
+  data-unknown e = ap toldAs (check-failed _ 6 _ _ e) ∙ ap (λ (n : ℕ). Refused (record { number = 6; index = 0; place = n })) (add-zero base)
 
   module _ (known : isDataCodec (codecOf d) ≡ true) where
-    pub data-none : firstCount d < 1 → dataWalk want (readData longest d) ≡ Refused (record { number = 7; index = 0 })
-    unfolding readData dataWalk
-    data-none h = ap (dataWalk want) (check-passed _ 6 _ known ∙ check-failed _ 7 _ (lt-leb 1 (firstCount d) h))
+    pub data-none : firstCount d < 1 → toldAs (readData longest d) ≡ Refused (record { number = 7; index = 0; place = base + 1 })
+    unfolding readData from dataWalk
+    data-none h = ap toldAs (check-passed _ 6 _ _ known ∙ check-failed _ 7 _ _ (lt-leb 1 (firstCount d) h))
 
     module _ (some : 1 ≤ firstCount d) where
-      pub data-uneven : (firstCount d ≡ lastCount d → ⊥) → dataWalk want (readData longest d) ≡ Refused (record { number = 7; index = 0 })
-      unfolding readData dataWalk
+      pub data-uneven : (firstCount d ≡ lastCount d → ⊥) → toldAs (readData longest d) ≡ Refused (record { number = 7; index = 0; place = base + (length d - 1) })
+      unfolding readData from dataWalk
       data-uneven ne =
-          ap (dataWalk want) (check-passed _ 6 _ known ∙ check-passed _ 7 _ (le-leb 1 (firstCount d) some) ∙ check-failed _ 7 _ (ne-eqb (firstCount d) (lastCount d) ne))
+          ap toldAs (check-passed _ 6 _ _ known ∙ check-passed _ 7 _ _ (le-leb 1 (firstCount d) some) ∙ check-failed _ 7 _ _ (ne-eqb (firstCount d) (lastCount d) ne))
 
       module _ (even : firstCount d ≡ lastCount d) where
         data-walk : readData longest d ≡ withRecords (codecOf d) (recordsOf longest d)
         unfolding readData
         data-walk =
-            check-passed _ 6 _ known ∙ check-passed _ 7 _ (le-leb 1 (firstCount d) some) ∙ check-passed _ 7 _ (eq-eqb (firstCount d) (lastCount d) even)
+            check-passed _ 6 _ _ known ∙ check-passed _ 7 _ _ (le-leb 1 (firstCount d) some) ∙ check-passed _ 7 _ _ (eq-eqb (firstCount d) (lastCount d) even)
 
-        pub data-broken : {x : Fault} → spanned (widthsOf (codecOf d)) want (recordsOf longest d) ≡ Broken x
-            → dataWalk want (readData longest d) ≡ Refused (record { number = x .number; index = x .index })
-        unfolding told onAccepted dataWalk
-        data-broken e = ap (dataWalk want) (data-walk ∙ ap (withRecords (codecOf d)) (spanned-broken _ want _ e))
+        pub data-broken : {x : Refusal} → spanned (widthsOf (codecOf d)) want (recordsOf longest d) ≡ Broken x
+            → toldAs (readData longest d) ≡ Refused (record { number = x .number; index = x .index; place = base + (2 + x .place) })
+        unfolding told onAccepted from dataWalk
+        data-broken e = ap toldAs (data-walk ∙ ap (withRecords (codecOf d)) (spanned-broken _ want _ e))
 
         pub data-taken : {span : Span} → Bytes d → spanned (widthsOf (codecOf d)) want (recordsOf longest d) ≡ All span
-            → dataWalk want (readData longest d) ≡ Taken (codecOf d) (firstCount d) span
-        unfolding told onAccepted dataWalk
+            → toldAs (readData longest d) ≡ Taken (codecOf d) (firstCount d) span
+        unfolding told onAccepted from dataWalk
         data-taken b e =
             let rs = spanned-all _ want _ e in
             let size = all-sound longest (widthsOf (codecOf d)) (firstCount d) (inner d) (bytes-inner d b) .if-got _ _ (rs .2) .1 in
-            ap (dataWalk want) (data-walk ∙ ap (withRecords (codecOf d)) (rs .2)) ∙ ap₂ (Taken (codecOf d)) size (rs .3)
+            ap toldAs (data-walk ∙ ap (withRecords (codecOf d)) (rs .2)) ∙ ap₂ (Taken (codecOf d)) size (rs .3)
+
+-- a fault lies in the space between the counts
+pub broken-inside : (longest want : ℕ) (d : List ℕ) {x : Refusal} → 3 ≤ length d → spanned (widthsOf (codecOf d)) want (recordsOf longest d) ≡ Broken x
+    → x .place + 3 ≤ length d
+unfolding inner
+broken-inside longest want d {x} h e =
+    let k = all-local (widthsOf (codecOf d)) (inner d) (narrow (codecOf d) .generation) longest (firstCount d) 0 (omega arith) .stops x (spanned-broken _ want _ e) in
+    omega (arith, k .inside, length-take-le (length d - 3) (drop 2 d) (omega (arith, length-drop 2 d)))

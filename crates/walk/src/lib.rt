@@ -1,6 +1,5 @@
 // The walk over records: the width set of each codec, and the functions that read it.
 use avl::Widths;
-use wire::Fault;
 use wire::Refusal;
 use wire::Walk;
 ghost use mathlib.Core.Path.{_≡_};
@@ -9,6 +8,7 @@ ghost use lib.ListN.{length, getD};
 ghost use lib.Dec.{leb};
 ghost use Rattle.wire.specs.Numbers.{pick};
 ghost use Rattle.wire.specs.Reading.{walked, repeat};
+ghost use Rattle.wire.specs.Answers.{from};
 ghost use Rattle.avl.specs.Codecs.{codec8, codec8E, codec16, widthsOf, isDataCodec, kinds, allKinds};
 ghost use Rattle.avl.specs.Records.{elementCount};
 ghost use Rattle.avl.specs.RecordReader.{fixedFields, element, group, groups, avlRecord, allRecords};
@@ -127,7 +127,7 @@ pub fn is_data_codec(codec: u8) -> bool
 fn missing(at: usize) -> Walk
     ensures { λ r. ⌜ r ≡ Walk.Stopped (record { number = 8; index = 0; place = at }) ⌝ }
 {
-    Walk::Stopped(Fault {
+    Walk::Stopped(Refusal {
         number: 8,
         index: 0,
         place: at,
@@ -137,7 +137,7 @@ fn missing(at: usize) -> Walk
 // How many elements a group, the groups of a record or a record has and where it ends, or why it is broken.
 enum Counted {
     Of(usize, usize),
-    Stopped(Fault),
+    Stopped(Refusal),
 }
 
 // A record's first byte, the one behind its last, and the number of its elements.
@@ -150,7 +150,7 @@ pub struct Span {
 // Where the wanted record lies among the records, or why they are broken.
 pub enum Records {
     All(Span),
-    Broken(Fault),
+    Broken(Refusal),
 }
 
 // A data field's codec and count and where the wanted record lies between the counts; or the refusal. Whole words: bytes among them make an answer slow to copy.
@@ -180,14 +180,14 @@ fn fixed_fields(w: Widths, s: &[u8], at: usize) -> Walk
         return fixed_missing(w, s, at);
     }
     if 2 < s[a1] {
-        return Walk::Stopped(Fault {
+        return Walk::Stopped(Refusal {
             number: 10,
             index: 0,
             place: a1,
         });
     }
     if 7 < wire::short_number(s, a9, generation) {
-        return Walk::Stopped(Fault {
+        return Walk::Stopped(Refusal {
             number: 11,
             index: 0,
             place: a9,
@@ -213,7 +213,7 @@ fn fixed_missing(w: Widths, s: &[u8], at: usize) -> Walk
         return missing(a1);
     }
     if 2 < s[a1] {
-        return Walk::Stopped(Fault {
+        return Walk::Stopped(Refusal {
             number: 10,
             index: 0,
             place: a1,
@@ -312,7 +312,7 @@ fn group_at(w: Widths, kind: usize, s: &[u8], at: usize) -> Counted
     let id = w.id;
     let start = at + count;
     if s.len() < start {
-        return Counted::Stopped(Fault {
+        return Counted::Stopped(Refusal {
             number: 8,
             index: 0,
             place: at,
@@ -326,7 +326,7 @@ fn group_at(w: Widths, kind: usize, s: &[u8], at: usize) -> Counted
             return Counted::Of(n, end);
         }
         let rest = (s.len() - start) % size;
-        return Counted::Stopped(Fault {
+        return Counted::Stopped(Refusal {
             number: 8,
             index: 0,
             place: cut(s.len() - rest, rest, id),
@@ -396,7 +396,7 @@ fn record_at(longest: usize, w: Widths, s: &[u8], at: usize) -> Counted
     };
     let a2 = a1 + count;
     if s.len() < a2 {
-        return Counted::Stopped(Fault {
+        return Counted::Stopped(Refusal {
             number: 8,
             index: 0,
             place: a1,
@@ -407,14 +407,14 @@ fn record_at(longest: usize, w: Widths, s: &[u8], at: usize) -> Counted
         Counted::Stopped(x) => Counted::Stopped(x),
         Counted::Of(elements, end) => {
             if total != elements {
-                return Counted::Stopped(Fault {
+                return Counted::Stopped(Refusal {
                     number: 9,
                     index: 0,
                     place: at,
                 });
             }
             if longest < end - at {
-                return Counted::Stopped(Fault {
+                return Counted::Stopped(Refusal {
                     number: 12,
                     index: 0,
                     place: at,
@@ -446,7 +446,7 @@ fn all_records(longest: usize, w: Widths, s: &[u8], count: usize, want: usize) -
                 next = to;
             }
             Counted::Stopped(x) => {
-                return Records::Broken(Fault {
+                return Records::Broken(Refusal {
                     number: x.number,
                     index: i,
                     place: x.place,
@@ -456,7 +456,7 @@ fn all_records(longest: usize, w: Widths, s: &[u8], count: usize, want: usize) -
         i += 1;
     }
     if next != s.len() {
-        return Records::Broken(Fault {
+        return Records::Broken(Refusal {
             number: 8,
             index: count,
             place: next,
@@ -469,10 +469,10 @@ fn all_records(longest: usize, w: Widths, s: &[u8], count: usize, want: usize) -
     })
 }
 
-// The data field `d`: codec, count, records, count again.
-pub fn read_data(longest: usize, d: &[u8], want: usize) -> DataWalk
-    requires { ⌜ 3 ≤ length (now d) ⌝ }
-    ensures { λ r. ⌜ r ≡ dataWalk want (readData longest (now (d .entry))) ⌝ }
+// The data field `d`, which starts at `base` in the input: codec, count, records, count again.
+pub fn read_data(longest: usize, base: usize, d: &[u8], want: usize) -> DataWalk
+    requires { ⌜ (3 ≤ length (now d)) × (base < 256) ⌝ }
+    ensures { λ r. ⌜ r ≡ dataWalk want (from base (readData longest (now (d .entry)))) ⌝ }
 {
     let codec = d[0];
     let count = d[1];
@@ -481,18 +481,21 @@ pub fn read_data(longest: usize, d: &[u8], want: usize) -> DataWalk
         return DataWalk::Refused(Refusal {
             number: 6,
             index: 0,
+            place: base,
         });
     }
     if count < 1 {
         return DataWalk::Refused(Refusal {
             number: 7,
             index: 0,
+            place: base + 1,
         });
     }
     if count != d[last] {
         return DataWalk::Refused(Refusal {
             number: 7,
             index: 0,
+            place: base + last,
         });
     }
     match all_records(longest, widths_of(codec), &d[2..last], count as usize, want) {
@@ -504,6 +507,7 @@ pub fn read_data(longest: usize, d: &[u8], want: usize) -> DataWalk
         Records::Broken(x) => DataWalk::Refused(Refusal {
             number: x.number,
             index: x.index,
+            place: base + (2 + x.place),
         }),
     }
 }

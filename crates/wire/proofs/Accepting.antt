@@ -1,15 +1,15 @@
 -- Which way a test goes, and what an accepted answer tells of the tests on the way.
 use Prim.Native.Nat.{ℕ, _≤_, _<_}
+use native.Mathlib.Nat.{zero-add}
 use native.Mathlib.Omega.{arith}
-use mathlib.Core.Path.{_≡_, refl, ap}
+use mathlib.Core.Path.{_≡_, refl, ap, _∙_}
 use mathlib.Core.Bool.{Bool, true, false}
 use lib.Dec.{leb}
 use borrow.Author.Tests.{leb-true, leb-false}
-use Rattle.wire.specs.declared.Fault.{Fault}
 use Rattle.wire.specs.declared.Refusal.{Refusal}
 use Rattle.wire.specs.Numbers.{pick}
 use Rattle.wire.specs.Reading.{Read, got, bad}
-use Rattle.wire.specs.Answers.{Answer, accepted, refused, refusal, refusalOf, onAccepted, told, check}
+use Rattle.wire.specs.Answers.{Answer, accepted, refused, refusalAt, onAccepted, movedBy, from, told, unplaced, checkAt}
 
 pub pick-true : {A : Type 0} (test : Bool) (a b : A) → test ≡ true → pick test a b ≡ a
 pick-true test a b e = simp e
@@ -25,18 +25,18 @@ pub both-true : (a b : Bool) → pick a b false ≡ true → (a ≡ true) × (b 
 both-true true b e = (refl, e)
 both-true false b e = absurd (let z : _≡_ {A = ℕ} 0 1 = cc in omega arith)
 
-pub check-accepted : {A : Type 0} (test : Bool) (number : ℕ) (rest : Answer A) {a : A} → check test number rest ≡ accepted a → (test ≡ true) × (rest ≡ accepted a)
-unfolding check
-check-accepted true number rest e = (refl, e)
-check-accepted false number rest e = absurd (let z : _≡_ {A = ℕ} 0 1 = cc in omega arith)
+pub check-accepted : {A : Type 0} (test : Bool) (number place : ℕ) (rest : Answer A) {a : A} → checkAt test number place rest ≡ accepted a → (test ≡ true) × (rest ≡ accepted a)
+unfolding checkAt
+check-accepted true number place rest e = (refl, e)
+check-accepted false number place rest e = absurd (let z : _≡_ {A = ℕ} 0 1 = cc in omega arith)
 
-pub check-passed : {A : Type 0} (test : Bool) (number : ℕ) (rest : Answer A) → test ≡ true → check test number rest ≡ rest
-unfolding check
-check-passed test number rest e = simp e
+pub check-passed : {A : Type 0} (test : Bool) (number place : ℕ) (rest : Answer A) → test ≡ true → checkAt test number place rest ≡ rest
+unfolding checkAt
+check-passed test number place rest e = simp e
 
-pub check-failed : {A : Type 0} (test : Bool) (number : ℕ) (rest : Answer A) → test ≡ false → check test number rest ≡ refused (refusal number)
-unfolding check
-check-failed test number rest e = simp e
+pub check-failed : {A : Type 0} (test : Bool) (number place : ℕ) (rest : Answer A) → test ≡ false → checkAt test number place rest ≡ refused (refusalAt number place)
+unfolding checkAt
+check-failed test number place rest e = simp e
 
 pub onAccepted-refused : {A B : Type 0} (r : Answer A) (f : A → Answer B) {x : Refusal} → r ≡ refused x → onAccepted r f ≡ refused x
 unfolding onAccepted
@@ -51,23 +51,55 @@ pub onAccepted-passed : {A B : Type 0} (r : Answer A) (f : A → Answer B) {a : 
 unfolding onAccepted
 onAccepted-passed r f e = ap (λ x. onAccepted x f) e
 
-pub told-accepted : {A : Type 0} (r : Read A) {a : A} → told r ≡ accepted a → (n : ℕ) × (r ≡ got a n)
+pub told-accepted : {A : Type 0} (base : ℕ) (r : Read A) {a : A} → told base r ≡ accepted a → (n : ℕ) × (r ≡ got a n)
 unfolding told
-told-accepted (got b n) e = (n, ap (λ x. got x n) (cc))
-told-accepted (bad x) e = absurd (let z : _≡_ {A = ℕ} 0 1 = cc in omega arith)
+told-accepted base (got b n) e = (n, ap (λ x. got x n) (cc))
+told-accepted base (bad x) e = absurd (let z : _≡_ {A = ℕ} 0 1 = cc in omega arith)
 
-pub told-refused : {A : Type 0} (r : Read A) {y : Refusal} → told r ≡ refused y → (x : Fault) × (r ≡ bad x) × (refusalOf x ≡ y)
+pub told-refused : {A : Type 0} (base : ℕ) (r : Read A) {y : Refusal} → told base r ≡ refused y → (x : Refusal) × (r ≡ bad x) × (movedBy base x ≡ y)
 unfolding told
-told-refused (got b n) e = absurd (let z : _≡_ {A = ℕ} 0 1 = cc in omega arith)
-told-refused (bad x) e = (x, refl, cc)
+told-refused base (got b n) e = absurd (let z : _≡_ {A = ℕ} 0 1 = cc in omega arith)
+told-refused base (bad x) e = (x, refl, cc)
 
-pub told-bad : {A : Type 0} (r : Read A) {x : Fault} → r ≡ bad x → told r ≡ refused (refusalOf x)
+pub told-bad : {A : Type 0} (base : ℕ) (r : Read A) {x : Refusal} → r ≡ bad x → told base r ≡ refused (movedBy base x)
 unfolding told
-told-bad r e = ap told e
+told-bad base r e = ap (told base) e
 
-pub told-got : {A : Type 0} (r : Read A) {a : A} {n : ℕ} → r ≡ got a n → told r ≡ accepted a
+-- what is read from the input's start
+pub told-whole : {A : Type 0} (r : Read A) {x : Refusal} → r ≡ bad x → told 0 r ≡ refused x
+told-whole r {x} e = told-bad 0 r e ∙ ap (λ (n : ℕ). refused (record { number = x .number; index = x .index; place = n })) (zero-add (x .place))
+
+pub told-got : {A : Type 0} (base : ℕ) (r : Read A) {a : A} {n : ℕ} → r ≡ got a n → told base r ≡ accepted a
 unfolding told
-told-got r e = ap told e
+told-got base r e = ap (told base) e
+
+pub from-accepted : {A : Type 0} (base : ℕ) (r : Answer A) {a : A} → from base r ≡ accepted a → r ≡ accepted a
+unfolding from
+from-accepted base (accepted b) e = e
+from-accepted base (refused x) e = absurd (let z : _≡_ {A = ℕ} 0 1 = cc in omega arith)
+
+-- what starts with the input
+pub from-start : {A : Type 0} (r : Answer A) → from 0 r ≡ r
+unfolding from
+from-start (accepted a) = refl
+from-start (refused x) = ap (λ (n : ℕ). refused (record { number = x .number; index = x .index; place = n })) (zero-add (x .place))
+
+pub from-passed : {A : Type 0} (base : ℕ) (r : Answer A) {a : A} → r ≡ accepted a → from base r ≡ accepted a
+unfolding from
+from-passed base r e = ap (from base) e
+
+pub from-refused : {A : Type 0} (base : ℕ) (r : Answer A) {x : Refusal} → r ≡ refused x → from base r ≡ refused (movedBy base x)
+unfolding from
+from-refused base r e = ap (from base) e
+
+pub unplaced-accepted : {A : Type 0} (r : Answer A) {a : A} → unplaced r ≡ accepted a → r ≡ accepted a
+unfolding unplaced
+unplaced-accepted (accepted b) e = e
+unplaced-accepted (refused x) e = absurd (let z : _≡_ {A = ℕ} 0 1 = cc in omega arith)
+
+pub unplaced-passed : {A : Type 0} (r : Answer A) {a : A} → r ≡ accepted a → unplaced r ≡ accepted a
+unfolding unplaced
+unplaced-passed r e = ap unplaced e
 
 -- it holds where the bytes are there, and where they are not
 pub by-length : {P : Type 0} (m n : ℕ) → (m ≤ n → P) → (n < m → P) → P

@@ -8,17 +8,17 @@ use lib.ListN.{length, drop}
 use lib.Seq.{sets, sets-eq}
 use lib.Dec.{leb}
 use borrow.Author.Tests.{le-leb, lt-leb, leb-true}
-use Rattle.wire.specs.Answers.{Answer, accepted, refused, refusal, onAccepted, check}
+use Rattle.wire.specs.Answers.{Answer, accepted, refused, refusal, onAccepted, checkAt}
 use Rattle.wire.specs.Buffers.{writing, leaving}
 use Rattle.wire.proofs.Accepting.{check-accepted}
 
 module _ (b out : List ℕ) where
   pub writing-done : length b ≤ length out → writing (accepted b) out ≡ accepted (length b)
-  unfolding writing onAccepted check
+  unfolding writing onAccepted checkAt
   writing-done h = simp (le-leb _ _ h)
 
   pub writing-short : length out < length b → writing (accepted b) out ≡ refused (refusal 18)
-  unfolding writing onAccepted check
+  unfolding writing onAccepted checkAt
   writing-short h = simp (lt-leb _ _ h)
 
   pub leaving-done : length b ≤ length out → leaving (accepted b) out ≡ b ++ drop (length b) out
@@ -38,7 +38,7 @@ pub written-fits : (result : Answer (List ℕ)) (before : List ℕ) {n : ℕ} �
     → (g : List ℕ) × (result ≡ accepted g) × (length g ≡ n) × (n ≤ length before)
 unfolding writing onAccepted
 written-fits (accepted g) before {n} e =
-    let c = check-accepted (leb (length g) (length before)) 18 (accepted (length g)) (sym e) in
+    let c = check-accepted (leb (length g) (length before)) 18 _ (accepted (length g)) (sym e) in
     let fits = leb-true (length g) (length before) (c .0) in
     let size : length g ≡ n = cc in
     (g, refl, size, omega arith)

@@ -6,7 +6,7 @@ use mathlib.Core.Path.{_≡_, refl, sym, ap, _∙_, subst}
 use mathlib.Core.Bool.{Bool, true, false}
 use mathlib.Core.List.{List, _∷_}
 use lib.ListN.{length, getD}
-use Rattle.wire.specs.declared.Fault.{Fault}
+use Rattle.wire.specs.declared.Refusal.{Refusal}
 use Rattle.wire.specs.declared.Decimal.the-variants.{Of, Unread}
 use Rattle.wire.specs.Numbers.{Bytes, valueFrom}
 use Rattle.wire.specs.Reading.{Read, got, bad, numbered, Reader, andThen, _>>=_, _>>_, pure, here, require, number, repeat}
@@ -20,7 +20,7 @@ unfolding numbered
 numbered-of (got n k) e = cc
 numbered-of (bad x) e = absurd (let z : _≡_ {A = ℕ} 0 1 = cc in omega arith)
 
-pub numbered-unread : (r : Read ℕ) {x : Fault} → numbered r ≡ Unread x → r ≡ bad x
+pub numbered-unread : (r : Read ℕ) {x : Refusal} → numbered r ≡ Unread x → r ≡ bad x
 unfolding numbered
 numbered-unread (got n k) e = absurd (let z : _≡_ {A = ℕ} 0 1 = cc in omega arith)
 numbered-unread (bad y) e = cc
@@ -29,7 +29,7 @@ pub numbered-got : (r : Read ℕ) {n next : ℕ} → r ≡ got n next → number
 unfolding numbered
 numbered-got r e = ap numbered e
 
-pub numbered-bad : (r : Read ℕ) {x : Fault} → r ≡ bad x → numbered r ≡ Unread x
+pub numbered-bad : (r : Read ℕ) {x : Refusal} → r ≡ bad x → numbered r ≡ Unread x
 unfolding numbered
 numbered-bad r e = ap numbered e
 
@@ -71,7 +71,7 @@ module _ (m : Reader ℕ) (base n value : ℕ) (s : List ℕ) (at : ℕ) where
       rest (got l k) = refl
       rest (bad x) = refl
 
-  digits-bad : {x : Fault} → m s at ≡ bad x → digitsFrom m base (suc n) value s at ≡ bad x
+  digits-bad : {x : Refusal} → m s at ≡ bad x → digitsFrom m base (suc n) value s at ≡ bad x
   unfolding repeat _>>=_ andThen pure
   digits-bad e = simp e
 
@@ -108,7 +108,7 @@ module _ {m : Reader ℕ} {base most left value at : ℕ} {s : List ℕ} {answer
         rest = sym (digits-more m base (left - 1) value s at e) ∙ ap (λ (n : ℕ). digitsFrom m base n value s at) one-more ∙ now .rest;
       }
 
-  pub digits-stop : {x : Fault} → m s at ≡ bad x → answer ≡ bad x
+  pub digits-stop : {x : Refusal} → m s at ≡ bad x → answer ≡ bad x
   digits-stop e = sym (now .rest) ∙ ap (λ (n : ℕ). digitsFrom m base n value s at) (sym one-more) ∙ digits-bad m base (left - 1) value s at e
 
 -- the number is below the bound

@@ -10,7 +10,7 @@ use lib.ListN.{length, take, drop, length-drop}
 use lib.Seq.{length-take-le}
 use lib.Dec.{leb}
 use borrow.Author.Tests.{le-leb, leb-true}
-use Rattle.wire.specs.declared.Fault.{Fault}
+use Rattle.wire.specs.declared.Refusal.{Refusal}
 use Rattle.wire.specs.Numbers.{Bytes, be, pick}
 use Rattle.wire.specs.Sequences.{joined, All}
 use Rattle.wire.specs.Reading.{Read, got, bad, Reader, andThen, _>>=_, _>>_, pure, here, require, span, number, bytes, upTo, repeat}
@@ -58,7 +58,7 @@ pub meets-pure : {A : Type 0} {Q : A → ℕ → Type 0} (a : A) (s : List ℕ) 
 unfolding pure
 meets-pure a s at h = meets-got a at h
 
-pub meets-pick : {A : Type 0} {Q : A → ℕ → Type 0} (test : Bool) (r : Read A) (x : Fault) → (test ≡ true → Meets r Q) → Meets (pick test r (bad x)) Q
+pub meets-pick : {A : Type 0} {Q : A → ℕ → Type 0} (test : Bool) (r : Read A) (x : Refusal) → (test ≡ true → Meets r Q) → Meets (pick test r (bad x)) Q
 meets-pick true r x h = h refl
 meets-pick false r x h = record { if-got = λ b n e. absurd (let z : _≡_ {A = ℕ} 0 1 = cc in omega arith) }
 

@@ -14,3 +14,5 @@ pub mod ImeiWord
 pub mod BufferLaws
 pub mod Storing
 pub mod LimitLaws
+pub mod Locality
+pub mod ImeiLocality

@@ -7,21 +7,21 @@ use mathlib.Core.List.{List}
 use lib.ListN.{length, take, drop}
 use lib.Dec.{leb}
 use borrow.Author.Tests.{le-leb, lt-leb}
-use Rattle.wire.specs.declared.Fault.{Fault}
+use Rattle.wire.specs.declared.Refusal.{Refusal}
 use Rattle.wire.specs.declared.Walk.the-variants.{On, Stopped}
 use Rattle.wire.specs.Numbers.{numberAt}
 use Rattle.wire.specs.Reading.{Read, got, bad, walked, Reader, andThen, _>>=_, _>>_, pure, require, span, number, bytes, upTo}
 use Rattle.wire.proofs.Exactness.{then-got, here-got, require-got}
 
 -- a field's bytes are missing
-abbrev pub short : ℕ → Fault
+abbrev pub short : ℕ → Refusal
 short at = record { number = 8; index = 0; place = at }
 
-pub then-bad : {A B : Type 0} (m : Reader A) (f : A → Reader B) (s : List ℕ) (at : ℕ) {x : Fault} → m s at ≡ bad x → (m >>= f) s at ≡ bad x
+pub then-bad : {A B : Type 0} (m : Reader A) (f : A → Reader B) (s : List ℕ) (at : ℕ) {x : Refusal} → m s at ≡ bad x → (m >>= f) s at ≡ bad x
 unfolding _>>=_ andThen
 then-bad m f s at e = ap (λ r. andThen r (λ a next. f a s next)) e
 
-pub next-bad : {A B : Type 0} (m : Reader A) (n : Reader B) (s : List ℕ) (at : ℕ) {x : Fault} → m s at ≡ bad x → (m >> n) s at ≡ bad x
+pub next-bad : {A B : Type 0} (m : Reader A) (n : Reader B) (s : List ℕ) (at : ℕ) {x : Refusal} → m s at ≡ bad x → (m >> n) s at ≡ bad x
 unfolding _>>_
 next-bad m n s at e = then-bad m (λ a. n) s at e
 
@@ -76,7 +76,7 @@ unfolding walked
 walked-on (got a n) e = (a, ap (got a) (cc))
 walked-on (bad x) e = absurd (let z : _≡_ {A = ℕ} 0 1 = cc in omega arith)
 
-pub walked-stopped : {A : Type 0} (r : Read A) {x : Fault} → walked r ≡ Stopped x → r ≡ bad x
+pub walked-stopped : {A : Type 0} (r : Read A) {x : Refusal} → walked r ≡ Stopped x → r ≡ bad x
 unfolding walked
 walked-stopped (got a n) e = absurd (let z : _≡_ {A = ℕ} 0 1 = cc in omega arith)
 walked-stopped (bad y) e = ap bad (cc)
@@ -85,6 +85,6 @@ pub walked-got : {A : Type 0} (r : Read A) {a : A} {next : ℕ} → r ≡ got a 
 unfolding walked
 walked-got r e = ap walked e
 
-pub walked-bad : {A : Type 0} (r : Read A) {x : Fault} → r ≡ bad x → walked r ≡ Stopped x
+pub walked-bad : {A : Type 0} (r : Read A) {x : Refusal} → r ≡ bad x → walked r ≡ Stopped x
 unfolding walked
 walked-bad r e = ap walked e

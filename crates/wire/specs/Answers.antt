@@ -1,7 +1,6 @@
 -- An answer: its result, or the refusal.
-use Prim.Native.Nat.{ℕ}
+use Prim.Native.Nat.{ℕ, _+_}
 use mathlib.Core.Bool.{Bool}
-use Rattle.wire.specs.declared.Fault.{Fault}
 use Rattle.wire.specs.declared.Refusal.{Refusal}
 use Rattle.wire.specs.Numbers.{pick}
 use Rattle.wire.specs.Reading.{Read, got, bad}
@@ -14,19 +13,39 @@ unfoldable pub onAccepted : {A B : Type 0} → Answer A → (A → Answer B) →
 onAccepted (accepted a) f = f a
 onAccepted (refused r) f = refused r
 
--- the refusal with this number, which no record has
-abbrev pub refusal : ℕ → Refusal
-refusal number = record { number = number; index = 0 }
+-- the refusal with this number, which no record has, of the field at this place
+abbrev pub refusalAt : ℕ → ℕ → Refusal
+refusalAt number place = record { number = number; index = 0; place = place }
 
--- the refusal of a fault; its place is not told yet
-abbrev pub refusalOf : Fault → Refusal
-refusalOf x = record { number = x .number; index = x .index }
+-- of no field: the place is 0
+abbrev pub refusal : ℕ → Refusal
+refusal number = refusalAt number 0
+
+-- ---- places count from the input's start; what is refused of a part of it, which starts at `base`, is moved by that
+
+abbrev pub movedBy : ℕ → Refusal → Refusal
+movedBy base r = record { number = r .number; index = r .index; place = base + r .place }
+
+-- what is read of such a part
+unfoldable pub from : {A : Type 0} → ℕ → Answer A → Answer A
+from base (accepted a) = accepted a
+from base (refused r) = refused (movedBy base r)
 
 -- a walk's answer
-unfoldable pub told : {A : Type 0} → Read A → Answer A
-told (got a next) = accepted a
-told (bad x) = refused (refusalOf x)
+unfoldable pub told : {A : Type 0} → ℕ → Read A → Answer A
+told base (got a next) = accepted a
+told base (bad x) = refused (movedBy base x)
 
--- the rest where the test holds, else the refusal
-unfoldable pub check : {A : Type 0} → Bool → ℕ → Answer A → Answer A
-check test number rest = pick test rest (refused (refusal number))
+-- what is no input, as a writer's own arguments, has no places
+unfoldable pub unplaced : {A : Type 0} → Answer A → Answer A
+unplaced (accepted a) = accepted a
+unplaced (refused r) = refused (refusal (r .number))
+
+-- ---- the rest where the test holds, else the refusal of the field at this place
+
+unfoldable pub checkAt : {A : Type 0} → Bool → ℕ → ℕ → Answer A → Answer A
+checkAt test number place rest = pick test rest (refused (refusalAt number place))
+
+-- of no field
+abbrev pub check : {A : Type 0} → Bool → ℕ → Answer A → Answer A
+check test number rest = checkAt test number 0 rest

@@ -4,7 +4,7 @@ use mathlib.Core.Bool.{Bool}
 use mathlib.Core.List.{List, [], _∷_}
 use lib.ListN.{length, take, drop}
 use lib.Dec.{leb}
-use Rattle.wire.specs.declared.Fault.{Fault}
+use Rattle.wire.specs.declared.Refusal.{Refusal}
 use Rattle.wire.specs.declared.Walk.{Walk}
 use Rattle.wire.specs.declared.Walk.the-variants.{On, Stopped}
 use Rattle.wire.specs.declared.Decimal.{Decimal}
@@ -14,7 +14,7 @@ use Rattle.wire.specs.Numbers.{numberAt, pick}
 -- what was read and the offset behind it, or why not
 pub data Read (A : Type 0) : Type 0 where
   got : A → ℕ → Read A
-  bad : Fault → Read A
+  bad : Refusal → Read A
 
 -- where the walk goes on, or why it stopped
 unfoldable pub walked : {A : Type 0} → Read A → Walk

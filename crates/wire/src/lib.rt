@@ -52,8 +52,8 @@ pub fn limits_of(family: usize) -> Limits
     }
 }
 
-// Why a walk stopped: the refusal's number, the record's index, and the offset at which the offending field starts.
-pub struct Fault {
+// Why an input is refused: the number of document 01, the record's index, and the place, which is the offset at which the offending field starts (request 6).
+pub struct Refusal {
     pub number: usize,
     pub index: usize,
     pub place: usize,
@@ -62,19 +62,13 @@ pub struct Fault {
 // A walk goes on at an offset, or has stopped.
 pub enum Walk {
     On(usize),
-    Stopped(Fault),
+    Stopped(Refusal),
 }
 
 // A number that was read and the offset behind it, or why it was not.
 pub enum Decimal {
     Of(u64, usize),
-    Unread(Fault),
-}
-
-// Why an input is refused: the number of document 01 and the record's index.
-pub struct Refusal {
-    pub number: usize,
-    pub index: usize,
+    Unread(Refusal),
 }
 
 // How many bytes were written (of a table of contents: words), or why none were.
@@ -175,7 +169,7 @@ pub fn signed32(x: u32) -> i32
 fn unread(number: usize, place: usize) -> Decimal
     ensures { λ r. ⌜ r ≡ Decimal.Unread (record { number = number; index = 0; place = place }) ⌝ }
 {
-    Decimal::Unread(Fault {
+    Decimal::Unread(Refusal {
         number,
         index: 0,
         place,

@@ -15,7 +15,7 @@ flat-lent-requires c κs = search needs
 
 returns : tie.Need-returns
 unfolding flatLent flatFed
-returns c = ap (λ l. record { number = l .number; index = l .index; used = l .used; item = l .item; imei = l .imei; size = l .size; packet = c .before .before .before .feed .result .packet; state = c .before .before .before .feed .result .state }) (c .flat-lent .ensures) ∙ ap flatFed (c .before .before .before .feed .ensures)
+returns c = ap (λ l. record { number = l .number; index = l .index; place = l .place; used = l .used; item = l .item; imei = l .imei; size = l .size; packet = c .before .before .before .feed .result .packet; state = c .before .before .before .feed .result .state }) (c .flat-lent .ensures) ∙ ap flatFed (c .before .before .before .feed .ensures)
 
 pub brundilope-feed-spec : {M : Type 1} → statement M
 brundilope-feed-spec = tie.close (tie.spec feed-requires flat-lent-requires returns)

@@ -24,6 +24,7 @@ returns c = let f = c .before .before .f .given .0 .0 in
     (λ i. record {
       number = 0;
       index = 0;
+      place = 0;
       timestamp = f .timestamp;
       longitude = lon i;
       latitude = lat i;

@@ -22,6 +22,7 @@ returns c = let f = c .before .before .a .given .0 .0 in
     (λ i. record {
       number = 0;
       index = 0;
+      place = 0;
       timestamp = f .timestamp;
       priority = f .priority;
       longitude = lon i;

@@ -29,8 +29,8 @@ unframed-requires c κs = search needs
 enum-known-number : tie.Need-enum-known-number
 enum-known-number c = search needs
 
-refused-requires : tie.Need-refused-requires
-refused-requires c κs = search needs
+refusal-of-requires : tie.Need-refusal-of-requires
+refusal-of-requires c κs = search needs
 
 enum-known-n : tie.Need-enum-known-n
 enum-known-n c = search needs
@@ -56,7 +56,7 @@ read-field-requires c κs =
 
 returns : tie.Need-returns
 unfolding commandAs answerCommand answered readCommand onAccepted
-returns c = simp (c .refused .ensures, framing-unframed _ _ _ (sym (c .before .before .before .before .unframed .ensures) ∙ c .before .before .number .given .1))
+returns c = simp (c .refusal-of .ensures, framing-unframed _ _ _ (sym (c .before .before .before .before .unframed .ensures) ∙ c .before .before .number .given .1))
 
 returns-2 : tie.Need-returns-2
 unfolding answerCommand readCommand answered onAccepted
@@ -68,7 +68,7 @@ judge-command-spec =
     (tie.spec
     unframed-requires
     enum-known-number
-    refused-requires
+    refusal-of-requires
     enum-known-n
     add-end
     sub-read-field

@@ -12,7 +12,7 @@ use Rattle.command.specs.declared.Layout.{Layout}
 use Rattle.command.specs.Walks.{bodyAs}
 use Rattle.command.specs.Commands.{answered, commandBody, commandAs}
 use Rattle.command.specs.Layouts.{layoutOf, rowAs}
-use Rattle.command.proofs.FieldLaws.{codec-unknown, first-wrong, last-wrong, field-taken, field-stopped}
+use Rattle.command.proofs.FieldLaws.{codec-unknown, first-wrong, last-wrong, field-taken, field-stopped, stopped-inside}
 use Rattle.command.proofs.CommandLaws.{layout-narrow}
 use Rattle.command.proofs.read_field.Statement.{statement}
 use Rattle.command.proofs.read_field.Tie as tie
@@ -61,6 +61,9 @@ sub-last c = search needs
 shared-slice-read-if2 : tie.Need-shared-slice-read-if2
 shared-slice-read-if2 c = search needs
 
+add-refused : tie.Need-add-refused
+add-refused c = search needs
+
 refused-requires-3 : tie.Need-refused-requires-3
 refused-requires-3 c κs = search needs
 
@@ -83,11 +86,18 @@ read-body-requires c κs = layout-narrow _ (found (c .before .before .before .be
 enum-known-kind : tie.Need-enum-known-kind
 enum-known-kind c = search needs
 
-add-t23 : tie.Need-add-t23
-add-t23 c = omega (arith, layout-narrow _ (found (c .before .before .before .before .before .before .before .before .before .before)))
+add-t24 : tie.Need-add-t24
+add-t24 c = omega (arith, layout-narrow _ (found (c .before .before .before .before .before .before .before .before .before .before)))
 
 enum-known-x : tie.Need-enum-known-x
 enum-known-x c = search needs
+
+-- the fault's place lies in the data field
+add-t26 : tie.Need-add-t26
+add-t26 c = omega (arith, stopped-inside _ (c .before .before .before .before .before .before .before .before .before .before .before .before .before .before .before .before .args .d .now) (c .before .before .before .before .before .before .before .before .before .before .before .before .before .before .before .before .pre) (sym (lent _ (c .before .before .before .before .before .before .before .before .before .before .before .before .before .before .before .before .args .d .now)) ∙ sym (c .before .before .before .before .read-body .ensures) ∙ c .before .before .x .given .1))
+
+add-t27 : tie.Need-add-t27
+add-t27 c = omega (arith, stopped-inside _ (c .before .before .before .before .before .before .before .before .before .before .before .before .before .before .before .before .args .d .now) (c .before .before .before .before .before .before .before .before .before .before .before .before .before .before .before .before .pre) (sym (lent _ (c .before .before .before .before .before .before .before .before .before .before .before .before .before .before .before .before .args .d .now)) ∙ sym (c .before .before .before .before .read-body .ensures) ∙ c .before .before .x .given .1))
 
 returns-3 : tie.Need-returns-3
 unfolding commandAs answered onAccepted codecOf rowAs
@@ -99,7 +109,7 @@ returns-4 c = sym (field-taken (c .before .before .before .before .before .befor
 
 returns-5 : tie.Need-returns-5
 unfolding commandAs firstCount lastCount
-returns-5 c = sym (field-stopped (c .before .before .before .before .before .before .before .before .before .before .before .before .before .before .before .args .d .now) (found (c .before .before .before .before .before .before .before .before .before)) (c .before .before .before .before .before .before .before .if1 .left) (c .before .before .before .before .before .if2 .left) (sym (lent _ (c .before .before .before .before .before .before .before .before .before .before .before .before .before .before .before .args .d .now)) ∙ sym (c .before .before .before .read-body .ensures) ∙ c .before .x .given .1))
+returns-5 c = sym (field-stopped (c .before .before .before .before .before .before .before .before .before .before .before .before .before .before .before .before .args .d .now) (found (c .before .before .before .before .before .before .before .before .before .before)) (c .before .before .before .before .before .before .before .before .if1 .left) (c .before .before .before .before .before .before .if2 .left) (sym (lent _ (c .before .before .before .before .before .before .before .before .before .before .before .before .before .before .before .before .args .d .now)) ∙ sym (c .before .before .before .before .read-body .ensures) ∙ c .before .before .x .given .1))
 
 pub read-field-spec : {M : Type 1} → statement M
 read-field-spec =
@@ -115,6 +125,7 @@ read-field-spec =
     returns
     sub-last
     shared-slice-read-if2
+    add-refused
     refused-requires-3
     returns-2
     sub-read-body
@@ -122,8 +133,10 @@ read-field-spec =
     part-read-body-end
     read-body-requires
     enum-known-kind
-    add-t23
+    add-t24
     enum-known-x
+    add-t26
+    add-t27
     returns-3
     returns-4
     returns-5)

@@ -1,4 +1,5 @@
-use Prim.Native.Nat.{_-_}
+use Prim.Native.Nat.{_+_, _-_}
+use Rattle.wire.specs.declared.Refusal.{Refusal}
 use Rattle.connection.proofs.GatherLaws.{phase-back, next-held, front-fits, front-room, stored-room, header-taken, header-cleared, judged-within, few-taken, few-stored, few-filled, few-fit, rest-room, whole-room, enough-taken, enough-part, enough-cleared, part-long}
 use Rattle.connection.proofs.FeedLaws.{by-taken}
 use Rattle.connection.proofs.OpenLaws.{open-is}
@@ -6,7 +7,7 @@ use Rattle.connection.proofs.JudgeLaws.{leaving-none}
 use Rattle.connection.specs.Feeding.{outcome, lentAs, itemAs, packetIn}
 use Rattle.connection.specs.State.{kept, phaseOf}
 use Rattle.connection.specs.declared.Item.the-variants.{More}
-use Rattle.stream.specs.Stream.{settled, judged, next}
+use Rattle.stream.specs.Stream.{settled, refusing, judged, next, closed}
 use Rattle.wire.specs.Buffers.{leaving}
 use Rattle.wire.specs.Answers.{accepted}
 use lib.Dec.{lit≤}
@@ -52,6 +53,9 @@ enum-known-number c = search needs
 
 clear-requires : tie.Need-clear-requires
 clear-requires c κs = stored-room (c .before .before .before .before .before .before .before .before .before .before .before .before .before .before .before .before .pre) (c .before .before .before .before .before .before .before .before .before .before .before .before .before .before .before .before .args .bytes .now) (lit≤ tt) (c .before .before .before .before .before .before .before .before .before .before .before .before .header-rest .result) (c .before .before .before .before .before .before .before .before .before .before .before .before .header-rest .ensures) (c .before .before .before .before .before .before .before .before .before .put-bytes .last .0) (c .before .before .before .before .before .before .before .before .before .put-bytes .ensures) .1
+
+refusal-of-requires : tie.Need-refusal-of-requires
+refusal-of-requires c κs = search needs
 
 closing-requires : tie.Need-closing-requires
 closing-requires c κs = search needs
@@ -110,7 +114,7 @@ same-length-2 c = search needs
 
 returns-2 : tie.Need-returns-2
 unfolding outcome kept packetIn
-returns-2 c = by-taken (c .before .before .before .before .before .before .before .before .before .before .before .before .before .before .before .before .before .before .before .before .pre) (c .before .before .before .before .before .before .before .before .before .before .before .before .before .before .before .before .before .before .before .before .args .bytes .now) (header-taken (c .before .before .before .before .before .before .before .before .before .before .before .before .before .before .before .before .before .before .before .before .pre) (c .before .before .before .before .before .before .before .before .before .before .before .before .before .before .before .before .before .before .before .before .args .bytes .now) (lit≤ tt) (c .before .before .before .before .before .before .before .before .before .before .before .before .before .before .before .before .header-rest .result) (c .before .before .before .before .before .before .before .before .before .before .before .before .before .before .before .before .header-rest .ensures) (c .before .before .before .before .before .before .before .before .before .before .before .before .before .put-bytes .last .0) (c .before .before .before .before .before .before .before .before .before .before .before .before .before .put-bytes .ensures) (c .before .before .before .before .before .before .number .given .0 .0) (sym (c .before .before .before .before .before .before .before .before .needed .ensures) ∙ c .before .before .before .before .before .before .number .given .1)) (record { answer = c .closing .ensures; state = c .before .before .before .clear .ensures ∙ header-cleared (c .before .before .before .before .before .before .before .before .before .before .before .before .before .before .before .before .before .before .before .before .pre) (c .before .before .before .before .before .before .before .before .before .before .before .before .before .before .before .before .before .before .before .before .args .bytes .now) (lit≤ tt) (c .before .before .before .before .before .before .before .before .before .before .before .before .before .before .before .before .header-rest .result) (c .before .before .before .before .before .before .before .before .before .before .before .before .before .before .before .before .header-rest .ensures) (c .before .before .before .before .before .before .before .before .before .before .before .before .before .put-bytes .last .0) (c .before .before .before .before .before .before .before .before .before .before .before .before .before .put-bytes .ensures) (c .before .before .before .before .before .before .number .given .0 .0) (sym (c .before .before .before .before .before .before .before .before .needed .ensures) ∙ c .before .before .before .before .before .before .number .given .1); buffer = sym (leaving-none (c .before .before .before .before .before .before .before .before .before .before .before .before .before .before .before .before .before .before .before .before .args .out .now)) })
+returns-2 c = by-taken (c .before .before .before .before .before .before .before .before .before .before .before .before .before .before .before .before .before .before .before .before .before .pre) (c .before .before .before .before .before .before .before .before .before .before .before .before .before .before .before .before .before .before .before .before .before .args .bytes .now) (header-taken (c .before .before .before .before .before .before .before .before .before .before .before .before .before .before .before .before .before .before .before .before .before .pre) (c .before .before .before .before .before .before .before .before .before .before .before .before .before .before .before .before .before .before .before .before .before .args .bytes .now) (lit≤ tt) (c .before .before .before .before .before .before .before .before .before .before .before .before .before .before .before .before .before .header-rest .result) (c .before .before .before .before .before .before .before .before .before .before .before .before .before .before .before .before .before .header-rest .ensures) (c .before .before .before .before .before .before .before .before .before .before .before .before .before .before .put-bytes .last .0) (c .before .before .before .before .before .before .before .before .before .before .before .before .before .before .put-bytes .ensures) (c .before .before .before .before .before .before .before .before .before .before .before .before .before .before .before .before .before .before .before .before .before .args .fill + c .before .before .before .before .before .before .before .before .before .before .before .before .before .before .before .before .before .header-rest .result) (c .before .before .before .before .before .before .before .number .given .0 .0) (sym (c .before .before .before .before .before .before .before .before .before .needed .ensures) ∙ c .before .before .before .before .before .before .before .number .given .1)) (record { answer = c .closing .ensures ∙ ap (λ (r : Refusal). lentAs (outcome 1280 (record { used = c .before .before .before .before .before .before .before .before .before .before .before .before .before .before .before .before .before .header-rest .result; told = settled (refusing r); state = closed }))) (c .before .refusal-of .ensures); state = c .before .before .before .before .clear .ensures ∙ header-cleared (c .before .before .before .before .before .before .before .before .before .before .before .before .before .before .before .before .before .before .before .before .before .pre) (c .before .before .before .before .before .before .before .before .before .before .before .before .before .before .before .before .before .before .before .before .before .args .bytes .now) (lit≤ tt) (c .before .before .before .before .before .before .before .before .before .before .before .before .before .before .before .before .before .header-rest .result) (c .before .before .before .before .before .before .before .before .before .before .before .before .before .before .before .before .before .header-rest .ensures) (c .before .before .before .before .before .before .before .before .before .before .before .before .before .before .put-bytes .last .0) (c .before .before .before .before .before .before .before .before .before .before .before .before .before .before .put-bytes .ensures) (c .before .before .before .before .before .before .before .before .before .before .before .before .before .before .before .before .before .before .before .before .before .args .fill + c .before .before .before .before .before .before .before .before .before .before .before .before .before .before .before .before .before .header-rest .result) (c .before .before .before .before .before .before .before .number .given .0 .0) (sym (c .before .before .before .before .before .before .before .before .before .needed .ensures) ∙ c .before .before .before .before .before .before .before .number .given .1); buffer = sym (leaving-none (c .before .before .before .before .before .before .before .before .before .before .before .before .before .before .before .before .before .before .before .before .before .args .out .now)) })
 
 same-length-3 : tie.Need-same-length-3
 same-length-3 c = search needs
@@ -138,6 +142,7 @@ gather-spec =
     needed-requires
     enum-known-number
     clear-requires
+    refusal-of-requires
     closing-requires
     enum-known-n
     sub-used

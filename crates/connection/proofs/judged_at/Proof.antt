@@ -4,7 +4,7 @@ use Rattle.stream.specs.Stream.{needed}
 use Rattle.connection.proofs.PaddedLaws.{front-part, rest-part}
 use Rattle.connection.proofs.OpenLaws.{needed-unframed, at-more, at-full, at-refused}
 use Rattle.frame.proofs.FramingLaws.{heading-accepted}
-use Rattle.wire.specs.Answers.{check, onAccepted}
+use Rattle.wire.specs.Answers.{checkAt, onAccepted}
 use borrow.Author.Tests.{le-leb, lt-leb, eq-eqb, ne-eqb}
 use lib.ListN.{drop}
 use mathlib.Core.Path.{_≡_, sym, ap, _∙_}
@@ -13,19 +13,19 @@ use Rattle.connection.proofs.judged_at.Statement.{statement}
 use Rattle.connection.proofs.judged_at.Tie as tie
 
 returns : tie.Need-returns
-unfolding countOf judgedAt opened check onAccepted
+unfolding countOf judgedAt opened checkAt onAccepted
 returns c = simp (lt-leb _ _ (c .if1 .taken))
 
 returns-2 : tie.Need-returns-2
-unfolding countOf judgedAt opened check onAccepted
+unfolding countOf judgedAt opened checkAt onAccepted
 returns-2 c = simp (le-leb _ _ (c .before .if1 .left), lt-leb _ _ (c .if2 .taken))
 
 returns-3 : tie.Need-returns-3
-unfolding countOf judgedAt opened check onAccepted
+unfolding countOf judgedAt opened checkAt onAccepted
 returns-3 c = simp (le-leb _ _ (c .before .before .if1 .left), le-leb _ _ (c .before .if2 .left), ne-eqb _ _ (c .if3 .taken))
 
 returns-4 : tie.Need-returns-4
-unfolding countOf judgedAt opened check onAccepted
+unfolding countOf judgedAt opened checkAt onAccepted
 returns-4 c = simp (le-leb _ _ (c .before .before .before .if1 .left), le-leb _ _ (c .before .before .if2 .left), eq-eqb _ _ (c .before .if3 .left), lt-leb _ _ (c .if4 .taken))
 
 sub-union : tie.Need-sub-union
@@ -41,7 +41,7 @@ union-requires : tie.Need-union-requires
 union-requires c κs = search needs
 
 returns-5 : tie.Need-returns-5
-unfolding countOf judgedAt opened check onAccepted
+unfolding countOf judgedAt opened checkAt onAccepted
 returns-5 c = let spare : isZero (drop (c .before .before .before .before .before .before .before .before .before .args .fill) (c .before .before .before .before .before .before .before .before .before .args .held .now)) ≡ _ = sym (c .before .union .ensures ∙ ap isZero (rest-part (c .before .before .before .before .before .before .before .before .before .args .held .now) (c .before .before .before .before .before .before .before .before .before .args .fill))) in simp (le-leb _ _ (c .before .before .before .before .before .before .if1 .left), le-leb _ _ (c .before .before .before .before .before .if2 .left), eq-eqb _ _ (c .before .before .before .before .if3 .left), le-leb _ _ (c .before .before .before .if4 .left), spare, ne-eqb _ _ (c .if5 .taken))
 
 sub-needed : tie.Need-sub-needed
@@ -68,7 +68,7 @@ returns-6 c = let held = c .before .before .before .before .before .before .befo
 
 returns-7 : tie.Need-returns-7
 unfolding heldBy
-returns-7 c = let held = c .before .before .before .before .before .before .before .before .before .before .before .before .before .args .held .now in let k : Gathered = record { held = held; fill = c .before .before .before .before .before .before .before .before .before .before .before .before .before .args .fill; phase = c .before .before .before .before .before .before .before .before .before .before .before .before .before .args .phase } in let spare = sym (c .before .before .before .before .before .union .ensures ∙ ap isZero (rest-part held (c .before .before .before .before .before .before .before .before .before .before .before .before .before .args .fill))) ∙ eq-eqb _ _ (c .before .before .before .before .if5 .left) in let tells = sym (c .before .before .needed .ensures ∙ ap (λ s. heading (needed (c .before .before .before .before .before .before .before .before .before .before .before .before .before .args .limits) (phaseOf (c .before .before .before .before .before .before .before .before .before .before .before .before .before .args .phase)) s)) (front-part held (c .before .before .before .before .before .before .before .before .before .before .before .before .before .args .fill))) ∙ c .enum-told .given .1 in sym (at-refused (c .before .before .before .before .before .before .before .before .before .before .before .before .before .args .limits) 1280 k (c .before .before .before .before .before .before .before .before .before .before .if1 .left) (c .before .before .before .before .before .before .before .before .before .if2 .left) (c .before .before .before .before .before .before .before .before .if3 .left) (c .before .before .before .before .before .before .before .if4 .left) spare (needed-unframed (c .before .before .before .before .before .before .before .before .before .before .before .before .before .args .limits) (phaseOf (c .before .before .before .before .before .before .before .before .before .before .before .before .before .args .phase)) _ _ tells))
+returns-7 c = let held = c .before .before .before .before .before .before .before .before .before .before .before .before .before .args .held .now in let k : Gathered = record { held = held; fill = c .before .before .before .before .before .before .before .before .before .before .before .before .before .args .fill; phase = c .before .before .before .before .before .before .before .before .before .before .before .before .before .args .phase } in let spare = sym (c .before .before .before .before .before .union .ensures ∙ ap isZero (rest-part held (c .before .before .before .before .before .before .before .before .before .before .before .before .before .args .fill))) ∙ eq-eqb _ _ (c .before .before .before .before .if5 .left) in let tells = sym (c .before .before .needed .ensures ∙ ap (λ s. heading (needed (c .before .before .before .before .before .before .before .before .before .before .before .before .before .args .limits) (phaseOf (c .before .before .before .before .before .before .before .before .before .before .before .before .before .args .phase)) s)) (front-part held (c .before .before .before .before .before .before .before .before .before .before .before .before .before .args .fill))) ∙ c .enum-told .given .1 in sym (at-refused (c .before .before .before .before .before .before .before .before .before .before .before .before .before .args .limits) 1280 k (c .before .before .before .before .before .before .before .before .before .before .if1 .left) (c .before .before .before .before .before .before .before .before .before .if2 .left) (c .before .before .before .before .before .before .before .before .if3 .left) (c .before .before .before .before .before .before .before .if4 .left) spare (needed-unframed (c .before .before .before .before .before .before .before .before .before .before .before .before .before .args .limits) (phaseOf (c .before .before .before .before .before .before .before .before .before .before .before .before .before .args .phase)) _ 0 _ tells))
 
 returns-8 : tie.Need-returns-8
 unfolding heldBy

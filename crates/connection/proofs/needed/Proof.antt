@@ -1,4 +1,4 @@
-use Rattle.frame.specs.Frame.{header, fieldLength, heading}
+use Rattle.frame.specs.Frame.{header, fieldLength, heading, refusalOf}
 use Rattle.wire.specs.Answers.{accepted, onAccepted}
 use Rattle.connection.specs.State.{phaseOf}
 use Rattle.stream.specs.Stream.{needed}
@@ -31,8 +31,8 @@ add-t10 : tie.Need-add-t10
 add-t10 c = omega (arith, header-field (c .before .before .before .before .before .before .before .args .limits .largest) (c .before .before .before .before .before .before .before .args .s .now) (c .before .n .given .0 .0) (sym (c .before .before .before .header .ensures) ∙ c .before .n .given .1))
 
 returns-3 : tie.Need-returns-3
-unfolding heading needed phaseOf onAccepted
-returns-3 c = simp (ne-eqb _ _ (c .before .before .before .before .before .if1 .left), le-leb _ _ (c .before .before .before .before .if2 .left), header-unframed (c .before .before .before .before .before .before .before .args .limits .largest) (c .before .before .before .before .before .before .before .args .s .now) (c .before .number .given .0 .0) (sym (c .before .before .before .header .ensures) ∙ c .before .number .given .1) (accepted (fieldLength (c .before .before .before .before .before .before .before .args .s .now))))
+unfolding heading needed phaseOf onAccepted refusalOf
+returns-3 c = simp (ne-eqb _ _ (c .before .before .before .before .before .if1 .left), le-leb _ _ (c .before .before .before .before .if2 .left), header-unframed (c .before .before .before .before .before .before .before .args .limits .largest) (c .before .before .before .before .before .before .before .args .s .now) 0 (c .before .number .given .0 .0) (sym (c .before .before .before .header .ensures) ∙ c .before .number .given .1) (accepted (fieldLength (c .before .before .before .before .before .before .before .args .s .now))))
 
 returns-4 : tie.Need-returns-4
 unfolding heading needed phaseOf onAccepted

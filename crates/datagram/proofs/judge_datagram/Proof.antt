@@ -4,6 +4,7 @@ use borrow.Author.Needs.{needs}
 use Rattle.datagram.specs.Datagrams.{headerAs}
 use Rattle.walk.specs.Walks.{dataWalk}
 use Rattle.avl.specs.DataField.{readData}
+use Rattle.wire.specs.Answers.{from}
 use Rattle.datagram.proofs.WalkLaws.{payload-part, payload-long, walk-refused, walk-on}
 use Rattle.datagram.proofs.judge_datagram.Statement.{statement}
 use Rattle.datagram.proofs.judge_datagram.Tie as tie
@@ -37,11 +38,11 @@ part-read-data-end c = search needs
 
 read-data-requires : tie.Need-read-data-requires
 unfolding headerAs
-read-data-requires c κs = payload-long (c .before .before .before .before .limits-of .result .datagram) (c .before .before .before .before .before .before .args .p .now) (sym (c .before .before .before .read-header .ensures) ∙ ap (headerAs (c .before .before .before .before .before .before .args .p .now)) (c .before .enum-told .given .1)) .1
+read-data-requires c κs = (payload-long (c .before .before .before .before .limits-of .result .datagram) (c .before .before .before .before .before .before .args .p .now) (sym (c .before .before .before .read-header .ensures) ∙ ap (headerAs (c .before .before .before .before .before .before .args .p .now)) (c .before .enum-told .given .1)) .1, omega arith)
 
 returns-2 : tie.Need-returns-2
 unfolding headerAs
-returns-2 c = rw (← (c .before .before .before .before .before .limits-of .ensures)) (c .read-data .ensures ∙ ap (λ l. dataWalk (c .before .before .before .before .before .before .before .args .want) (readData (c .before .before .before .before .before .limits-of .result .longest) l)) (payload-part (c .before .before .before .before .before .before .before .args .p .now)) ∙ walk-on (c .before .before .before .before .before .limits-of .result) (c .before .before .before .before .before .before .before .args .p .now) (sym (c .before .before .before .before .read-header .ensures) ∙ ap (headerAs (c .before .before .before .before .before .before .before .args .p .now)) (c .before .before .enum-told .given .1)) (c .before .before .before .before .before .before .before .args .want))
+returns-2 c = rw (← (c .before .before .before .before .before .limits-of .ensures)) (c .read-data .ensures ∙ ap (λ l. dataWalk (c .before .before .before .before .before .before .before .args .want) (from 23 (readData (c .before .before .before .before .before .limits-of .result .longest) l))) (payload-part (c .before .before .before .before .before .before .before .args .p .now)) ∙ walk-on (c .before .before .before .before .before .limits-of .result) (c .before .before .before .before .before .before .before .args .p .now) (sym (c .before .before .before .before .read-header .ensures) ∙ ap (headerAs (c .before .before .before .before .before .before .before .args .p .now)) (c .before .before .enum-told .given .1)) (c .before .before .before .before .before .before .before .args .want))
 
 pub judge-datagram-spec : {M : Type 1} → statement M
 judge-datagram-spec =

@@ -51,12 +51,12 @@ returns-5 : tie.Need-returns-5
 unfolding headerAs
 returns-5 c = sym (header-is (c .before .before .before .before .before .before .before .before .args .largest) (c .before .before .before .before .before .before .before .before .args .p .now) (c .before .before .before .before .before .before .if1 .left) (c .before .before .before .before .before .if2 .left) (c .before .before .before .before .if3 .left) (c .before .before .if4 .left ∙ ap (λ (n : ℕ). n + 2) (c .before .before .before .be16 .ensures)) (sym (c .before .read-imei .ensures) ∙ word-imei _ _ _ (c .if5 .taken)))
 
-refused-requires-5 : tie.Need-refused-requires-5
-refused-requires-5 c κs = search needs
+add-t8 : tie.Need-add-t8
+add-t8 c = search needs
 
 returns-6 : tie.Need-returns-6
 unfolding headerAs
-returns-6 c = ap (headerAs (c .before .before .before .before .before .before .before .before .before .args .p .now)) (c .refused5 .ensures) ∙ sym (header-imei (c .before .before .before .before .before .before .before .before .before .args .largest) (c .before .before .before .before .before .before .before .before .before .args .p .now) (c .before .before .before .before .before .before .before .if1 .left) (c .before .before .before .before .before .before .if2 .left) (c .before .before .before .before .before .if3 .left) (c .before .before .before .if4 .left ∙ ap (λ (n : ℕ). n + 2) (c .before .before .before .before .be16 .ensures)) (sym (c .before .before .read-imei .ensures) ∙ word-none _ _ _ (c .before .if5 .left)))
+returns-6 c = sym (header-imei (c .before .before .before .before .before .before .before .before .args .largest) (c .before .before .before .before .before .before .before .before .args .p .now) (c .before .before .before .before .before .before .if1 .left) (c .before .before .before .before .before .if2 .left) (c .before .before .before .before .if3 .left) (c .before .before .if4 .left ∙ ap (λ (n : ℕ). n + 2) (c .before .before .before .be16 .ensures)) (sym (c .before .read-imei .ensures) ∙ word-none _ _ _ (c .if5 .left)))
 
 pub read-header-spec : {M : Type 1} → statement M
 read-header-spec =
@@ -75,5 +75,5 @@ read-header-spec =
     returns-4
     read-imei-requires
     returns-5
-    refused-requires-5
+    add-t8
     returns-6)

@@ -1,9 +1,9 @@
 -- The tests of the judge, one by one.
 use Rattle.frame.proofs.FramingLaws.{header-field, refused-header, behind-header}
-use Rattle.frame.specs.Frame.{unframe, framing}
+use Rattle.frame.specs.Frame.{unframe, framing, refusalOf}
 use Rattle.frame.specs.declared.Framed.the-variants.{Field}
 use Rattle.checksum.specs.Crc.{crc}
-use Rattle.wire.specs.Answers.{check}
+use Rattle.wire.specs.Answers.{checkAt}
 use borrow.Author.Tests.{le-leb, lt-leb, eq-eqb, ne-eqb}
 use lib.Seq.{length-take-le}
 use lib.ListN.{length-drop, take, drop}
@@ -20,11 +20,11 @@ lent : (n : ℕ) (p : List ℕ) → crc (take (8 + n - 8) (drop 8 p)) ≡ crc (t
 lent n p = let size : 8 + n - 8 ≡ n = omega arith in ap (λ (k : ℕ). crc (take k (drop 8 p))) size
 
 returns : tie.Need-returns
-unfolding unframe framing check
+unfolding unframe framing checkAt
 returns c = simp (lt-leb _ _ (c .if1 .taken))
 
 returns-2 : tie.Need-returns-2
-unfolding unframe framing check
+unfolding unframe framing checkAt
 returns-2 c = simp (le-leb _ _ (c .before .if1 .left), lt-leb _ _ (c .if2 .taken))
 
 header-requires : tie.Need-header-requires
@@ -34,8 +34,8 @@ enum-known-number : tie.Need-enum-known-number
 enum-known-number c = search needs
 
 returns-3 : tie.Need-returns-3
-unfolding framing
-returns-3 c = sym (ap framing (refused-header (c .before .before .before .before .before .before .before .args .largest) (c .before .before .before .before .before .before .before .args .p .now) _ (sym (c .before .before .before .header .ensures) ∙ c .before .number .given .1) (c .before .before .before .before .before .if1 .left) (c .before .before .before .before .if2 .left)))
+unfolding framing refusalOf
+returns-3 c = sym (ap framing (refused-header (c .before .before .before .before .before .before .before .args .largest) (c .before .before .before .before .before .before .before .args .p .now) 0 _ (sym (c .before .before .before .header .ensures) ∙ c .before .number .given .1) (c .before .before .before .before .before .if1 .left) (c .before .before .before .before .if2 .left)))
 
 enum-known-n : tie.Need-enum-known-n
 enum-known-n c = search needs
@@ -44,7 +44,7 @@ add-if3 : tie.Need-add-if3
 add-if3 c = omega (arith, header-field (c .before .before .before .before .before .before .before .args .largest) (c .before .before .before .before .before .before .before .args .p .now) (c .before .n .given .0 .0) (sym (c .before .before .before .header .ensures) ∙ c .before .n .given .1))
 
 returns-4 : tie.Need-returns-4
-unfolding framing check
+unfolding framing checkAt
 returns-4 c = simp (behind-header (c .before .before .before .before .before .before .before .before .args .largest) (c .before .before .before .before .before .before .before .before .args .p .now) (c .before .before .n .given .0 .0) (sym (c .before .before .before .before .header .ensures) ∙ c .before .before .n .given .1) (c .before .before .before .before .before .before .if1 .left) (c .before .before .before .before .before .if2 .left), ne-eqb _ _ (c .if3 .taken))
 
 add-end : tie.Need-add-end
@@ -69,11 +69,11 @@ cast-if4 : tie.Need-cast-if4
 cast-if4 c = search needs
 
 returns-5 : tie.Need-returns-5
-unfolding framing check
+unfolding framing checkAt
 returns-5 c = let p = c .before .before .before .before .before .before .before .before .before .before .before .before .args .p .now in let n = c .before .before .before .before .before .before .n .given .0 .0 in simp (behind-header (c .before .before .before .before .before .before .before .before .before .before .before .before .args .largest) p n (sym (c .before .before .before .before .before .before .before .before .header .ensures) ∙ c .before .before .before .before .before .before .n .given .1) (c .before .before .before .before .before .before .before .before .before .before .if1 .left) (c .before .before .before .before .before .before .before .before .before .if2 .left), eq-eqb _ _ (c .before .before .before .before .if3 .left), ne-eqb _ _ (λ e. c .if4 .taken (c .before .before .before .be32 .ensures ∙ e ∙ sym (c .before .crc16 .ensures ∙ lent n p))))
 
 returns-6 : tie.Need-returns-6
-unfolding framing check
+unfolding framing checkAt
 returns-6 c = let p = c .before .before .before .before .before .before .before .before .before .before .before .before .args .p .now in let n = c .before .before .before .before .before .before .n .given .0 .0 in simp (behind-header (c .before .before .before .before .before .before .before .before .before .before .before .before .args .largest) p n (sym (c .before .before .before .before .before .before .before .before .header .ensures) ∙ c .before .before .before .before .before .before .n .given .1) (c .before .before .before .before .before .before .before .before .before .before .if1 .left) (c .before .before .before .before .before .before .before .before .before .if2 .left), eq-eqb _ _ (c .before .before .before .before .if3 .left), eq-eqb _ _ (sym (c .before .before .before .be32 .ensures) ∙ c .if4 .left ∙ c .before .crc16 .ensures ∙ lent n p)) (ap Field (sym (length-take-le n (drop 8 p) (omega (arith, length-drop 8 p, c .before .before .before .before .if3 .left)))))
 
 pub unframed-spec : {M : Type 1} → statement M

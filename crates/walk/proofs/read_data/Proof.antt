@@ -17,7 +17,7 @@ use Rattle.walk.proofs.read_data.Lts as lts
 use Rattle.walk.proofs.all_records.Reads as all-records-reads
 use Rattle.walk.proofs.is_data_codec.Reads as is-data-codec-reads
 use Rattle.walk.proofs.widths_of.Reads as widths-of-reads
-use Rattle.walk.proofs.WalkLaws.{narrow, recordsOf, data-unknown, data-none, data-uneven, data-broken, data-taken}
+use Rattle.walk.proofs.WalkLaws.{narrow, recordsOf, data-unknown, data-none, data-uneven, data-broken, data-taken, broken-inside}
 use Rattle.walk.proofs.read_data.Statement.{statement}
 
 -- what the walk over the space between the counts answers
@@ -50,22 +50,28 @@ returns : tie.Need-returns
 unfolding codecOf
 returns c =
     let args = c .before .before .before .before .before .args in
-    sym (data-unknown (args .longest) (args .want) (args .d .now) (sym (c .before .is-data-codec .ensures) ∙ not-true _ (c .if1 .taken)))
+    sym (data-unknown (args .longest) (args .base) (args .want) (args .d .now) (sym (c .before .is-data-codec .ensures) ∙ not-true _ (c .if1 .taken)))
+
+add-t17 : tie.Need-add-t17
+add-t17 c = search needs
 
 returns-2 : tie.Need-returns-2
 unfolding codecOf firstCount
 returns-2 c =
     let args = c .before .before .before .before .before .before .args in
-    sym (data-none (args .longest) (args .want) (args .d .now) (sym (c .before .before .is-data-codec .ensures) ∙ not-false _ (c .before .if1 .left)) (c .if2 .taken))
+    sym (data-none (args .longest) (args .base) (args .want) (args .d .now) (sym (c .before .before .is-data-codec .ensures) ∙ not-false _ (c .before .if1 .left)) (c .if2 .taken))
 
 shared-slice-read-if3 : tie.Need-shared-slice-read-if3
 shared-slice-read-if3 c = search needs
+
+add-t20 : tie.Need-add-t20
+add-t20 c = search needs
 
 returns-3 : tie.Need-returns-3
 unfolding codecOf firstCount lastCount
 returns-3 c =
     let args = c .before .before .before .before .before .before .before .before .args in
-    sym (data-uneven (args .longest) (args .want) (args .d .now) (sym (c .before .before .before .before .is-data-codec .ensures) ∙ not-false _ (c .before .before .before .if1 .left)) (c .before .before .if2 .left) (c .if3 .taken))
+    sym (data-uneven (args .longest) (args .base) (args .want) (args .d .now) (sym (c .before .before .before .before .is-data-codec .ensures) ∙ not-false _ (c .before .before .before .if1 .left)) (c .before .before .if2 .left) (c .if3 .taken))
 
 widths-of-requires : tie.Need-widths-of-requires
 widths-of-requires c κs = search needs
@@ -88,29 +94,36 @@ all-records-requires c κs = subst Narrow (sym (c .before .widths-of .ensures)) 
 enum-known-span : tie.Need-enum-known-span
 enum-known-span c = search needs
 
-cast-t26 : tie.Need-cast-t26
-cast-t26 c = omega (arith, c .before .before .before .before .before .before .before .before .before .before .before .before .before .shared-slice-known .given 0 .fits)
+cast-t29 : tie.Need-cast-t29
+cast-t29 c = omega (arith, c .before .before .before .before .before .before .before .before .before .before .before .before .before .shared-slice-known .given 0 .fits)
 
-cast-t27 : tie.Need-cast-t27
-cast-t27 c = omega (arith, c .before .before .before .before .before .before .before .before .before .before .before .before .before .shared-slice-known .given 1 .fits)
+cast-t30 : tie.Need-cast-t30
+cast-t30 c = omega (arith, c .before .before .before .before .before .before .before .before .before .before .before .before .before .shared-slice-known .given 1 .fits)
 
 enum-known-x : tie.Need-enum-known-x
 enum-known-x c = search needs
+
+-- the fault's place lies in the data field
+add-t31 : tie.Need-add-t31
+add-t31 c = omega (arith, broken-inside (c .before .before .before .before .before .before .before .before .before .before .before .before .before .before .before .args .longest) (c .before .before .before .before .before .before .before .before .before .before .before .before .before .before .before .args .want) (c .before .before .before .before .before .before .before .before .before .before .before .before .before .before .before .args .d .now) (c .before .before .before .before .before .before .before .before .before .before .before .before .before .before .before .pre .0) (sym (walk (c .before .before .before .before)) ∙ c .before .before .x .given .1))
+
+add-t32 : tie.Need-add-t32
+add-t32 c = omega (arith, broken-inside (c .before .before .before .before .before .before .before .before .before .before .before .before .before .before .before .args .longest) (c .before .before .before .before .before .before .before .before .before .before .before .before .before .before .before .args .want) (c .before .before .before .before .before .before .before .before .before .before .before .before .before .before .before .args .d .now) (c .before .before .before .before .before .before .before .before .before .before .before .before .before .before .before .pre .0) (sym (walk (c .before .before .before .before)) ∙ c .before .before .x .given .1), c .before .before .before .before .before .before .before .before .before .before .before .before .before .before .before .pre .1)
 
 returns-4 : tie.Need-returns-4
 unfolding codecOf firstCount lastCount
 returns-4 c =
     let args = c .before .before .before .before .before .before .before .before .before .before .before .before .before .before .args in
     let d = args .d .now in
-    sym (data-taken (args .longest) (args .want) d (sym (c .before .before .before .before .before .before .before .before .before .before .is-data-codec .ensures) ∙ not-false _ (c .before .before .before .before .before .before .before .before .before .if1 .left)) (c .before .before .before .before .before .before .before .before .if2 .left) (c .before .before .before .before .before .before .if3 .left)
+    sym (data-taken (args .longest) (args .base) (args .want) d (sym (c .before .before .before .before .before .before .before .before .before .before .is-data-codec .ensures) ∙ not-false _ (c .before .before .before .before .before .before .before .before .before .if1 .left)) (c .before .before .before .before .before .before .before .before .if2 .left) (c .before .before .before .before .before .before .if3 .left)
     (getD-bytes d (λ k. c .before .before .before .before .before .before .before .before .before .before .before .before .before .shared-slice-known .given k .fits)) (sym (walk (c .before .before .before)) ∙ c .before .span .given .1))
 
 returns-5 : tie.Need-returns-5
 unfolding codecOf firstCount lastCount
 returns-5 c =
-    let args = c .before .before .before .before .before .before .before .before .before .before .before .before .before .before .args in
-    sym (data-broken (args .longest) (args .want) (args .d .now) (sym (c .before .before .before .before .before .before .before .before .before .before .is-data-codec .ensures) ∙ not-false _ (c .before .before .before .before .before .before .before .before .before .if1 .left)) (c .before .before .before .before .before .before .before .before .if2 .left) (c .before .before .before .before .before .before .if3 .left)
-    (sym (walk (c .before .before .before)) ∙ c .before .x .given .1))
+    let args = c .before .before .before .before .before .before .before .before .before .before .before .before .before .before .before .args in
+    sym (data-broken (args .longest) (args .base) (args .want) (args .d .now) (sym (c .before .before .before .before .before .before .before .before .before .before .before .is-data-codec .ensures) ∙ not-false _ (c .before .before .before .before .before .before .before .before .before .before .if1 .left)) (c .before .before .before .before .before .before .before .before .before .if2 .left) (c .before .before .before .before .before .before .before .if3 .left)
+    (sym (walk (c .before .before .before .before)) ∙ c .before .before .x .given .1))
 
 pub read-data-spec : {M : Type 1} → statement M
 read-data-spec =
@@ -121,8 +134,10 @@ read-data-spec =
     sub-last
     is-data-codec-requires
     returns
+    add-t17
     returns-2
     shared-slice-read-if3
+    add-t20
     returns-3
     widths-of-requires
     sub-all-records
@@ -131,8 +146,10 @@ read-data-spec =
     cast-all-records
     all-records-requires
     enum-known-span
-    cast-t26
-    cast-t27
+    cast-t29
+    cast-t30
     enum-known-x
+    add-t31
+    add-t32
     returns-4
     returns-5)

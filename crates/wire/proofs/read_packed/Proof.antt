@@ -13,7 +13,7 @@ use Rattle.wire.proofs.Widths.{getD-bytes}
 use Rattle.wire.specs.Imei.{pairUpTo, readPacked}
 use Rattle.wire.specs.Reading.{got, bad, numbered, pure}
 use Rattle.wire.specs.Numbers.{valueFrom}
-use Rattle.wire.specs.declared.Fault.{Fault}
+use Rattle.wire.specs.declared.Refusal.{Refusal}
 use Rattle.wire.proofs.read_packed.Statement.{statement}
 use Rattle.wire.proofs.read_packed.Tie as tie
 
@@ -26,7 +26,7 @@ packed-more (suc n) s at {d} {next} some e =
     let value : 0 * 100 + d ≡ d = omega arith in
     then-got (pairUpTo 0) _ s at e ∙ ap₂ (λ (k v : ℕ). digitsFrom (pairUpTo 9) 100 k v s next) left value
 
-packed-bad : (w : ℕ) (s : List ℕ) (at : ℕ) {x : Fault} → (w ≡ 0 → ⊥) → pairUpTo 0 s at ≡ bad x → readPacked w s at ≡ bad x
+packed-bad : (w : ℕ) (s : List ℕ) (at : ℕ) {x : Refusal} → (w ≡ 0 → ⊥) → pairUpTo 0 s at ≡ bad x → readPacked w s at ≡ bad x
 unfolding readPacked
 packed-bad zero s at some e = absurd (some refl)
 packed-bad (suc n) s at some e = then-bad (pairUpTo 0) _ s at e
