@@ -8,7 +8,8 @@ and the edges of the rules, with the answers the papers give, then N
 generated lines. What family 1 accepts is asked for in family 2, too, which has to
 give the same. Each program is started anew for each batch, gets its lines on its
 standard input and must answer each with one line. Exit 1 on a difference, and if
-a refusal that the papers let a call give was never reached.
+a refusal that the papers let a call give was never reached, or only with offsets
+that tell nothing.
 """
 
 import argparse

@@ -1,6 +1,14 @@
-"""What documents 01 and 02 let each call answer, and how often a run reached it."""
+"""What documents 01 and 02 let each call answer, and how often a run reached it.
 
-from collections import Counter
+Every call has to reach every refusal that it can give, and all calls on a sort of
+input together every place of it; each time with an offset that tells something:
+where the place has the same offset in every input, with that one; else with two
+at least, since one alone could come from a fixed number. Only answers that show
+an offset count for this. A field of several bytes has to be missing as a whole
+and in part, so that its start is told from the end of the bytes.
+"""
+
+from collections import Counter, defaultdict
 
 import reference
 
@@ -11,13 +19,30 @@ UNKNOWN = "unknown"             # stands for every family that is not known
 
 # The refusals of each input in the order of document 01, each with its places: the parts of the rule.
 FRAME = {1: [""], 2: [""], 3: ["under", "over"], 4: ["missing", "too many"], 5: ["upper", "lower"]}
-COUNTS = {6: [""], 7: ["zero", "differ"]}
-# The walk of a data packet or datagram: the fields that can be missing, and the other rules.
-WALK = {8: ["timestamp", "priority", "longitude", "latitude", "altitude", "angle", "satellites", "speed", "event ID",
-            "generation type", "total", "1 count", "1 ID", "1 value", "2 count", "2 ID", "2 value", "4 count", "4 ID",
-            "4 value", "8 count", "8 ID", "8 value", "variable count", "variable ID", "variable length",
-            "variable value", "left over"],
-        9: ["", "variable left out"], 10: [""], 11: [""], 12: [""]}
+COUNTS = {6: [""], 7: ["zero", "first zero", "differ"]}
+# The fields of a record: each can be missing.
+RECORD_FIELDS = [
+    "timestamp", "priority", "longitude", "latitude", "altitude", "angle", "satellites", "speed", "event ID",
+    "generation type", "total", "1 count", "1 ID", "1 value", "2 count", "2 ID", "2 value", "4 count", "4 ID",
+    "4 value", "8 count", "8 ID", "8 value", "variable count", "variable ID", "variable length", "variable value"]
+PART = ", in part"
+
+
+def one_byte(field, codec):
+    """Has a field one byte in a codec, so that it cannot be missing in part?"""
+    widths = reference.WIDTHS[codec]
+    if field == "event ID":
+        return widths.event == 1
+    if field.endswith(" ID"):
+        return widths.id == 1
+    if field == "total" or field.endswith(" count"):
+        return widths.count == 1
+    return field in ("priority", "satellites", "generation type", "1 value")
+
+
+# The walk of a data packet or datagram.
+PARTED = [field + PART for field in RECORD_FIELDS if not all(one_byte(field, codec) for codec in CODECS)]
+WALK = {8: [*RECORD_FIELDS, *PARTED, "left over"], 9: ["", "variable left out"], 10: [""], 11: [""], 12: [""]}
 
 
 def number_places(field):
@@ -31,26 +56,59 @@ def degrees_places(field):
 # Why a field is no element of a billing line.
 ELEMENT_PLACES = ["element: no =", *number_places("ID"), *number_places("value"),
                   "tag: end", "tag: byte", "tag: escape", "tag: escape not due"]
+QUANTITIES = ["first", "both", "second"]
+SIZES = ["size", "under 8", "text with 11"]
+LOGIN_IMEI = ["length", "length and digit", "digit", "digits"]
+PACKED_IMEI = [place + others for place in ("first digit", "digit") for others in ("", ", others behind")]
 INPUTS = {
     "packet": FRAME | COUNTS,
-    "datagram": {1: [""], 3: [""], 4: ["missing", "too many"], 15: ["length", "digit"]} | COUNTS,
-    "command": FRAME | {6: [""], 7: ["first", "second"], 8: ["type", "size"], 13: [""],
-                        14: ["size", "under 8", "text with 11"], 15: ["first digit", "digit"]},
-    "login": {1: [""], 4: [""], 15: ["length", "digit"]},
+    "datagram": {1: [""], 3: [""], 4: ["missing", "too many"], 15: LOGIN_IMEI} | COUNTS,
+    "command": FRAME | {6: [""], 7: QUANTITIES, 8: ["type", "size", "size" + PART], 13: [""], 14: SIZES,
+                        15: PACKED_IMEI},
+    "login": {1: [""], 4: [""], 15: LOGIN_IMEI},
     "text": {6: [""], 13: [""], 15: ["length", "digit"], 14: ["over", "text with 11"]},
     "form": {17: ["no entry", "entry's head", "entry's body", "first kind", "codec's length", "codec",
                   "record's length", "priority", "event ID", "generation type", "generation type outside 16",
                   "no record before it", "kind", "order", "element's length", "value's length", "ID", "no record",
                   "record's size", "packet's size", "group's count", "total"]},
-    "connection": {2: [""], 3: ["under", "over"], 5: ["upper", "lower"], 6: [""],
-                   7: ["zero", "differ", "first", "second"], 8: ["timestamp", "left over", "type", "size"], 9: WALK[9],
-                   10: [""], 11: [""], 12: [""], 13: [""], 14: ["size", "under 8", "text with 11"],
-                   15: ["length", "digit", "first digit"]},
+    "connection": {2: [""], 3: ["under", "over"], 5: ["upper", "lower"], 6: [""], 7: COUNTS[7] + QUANTITIES,
+                   8: ["timestamp", "timestamp" + PART, "left over", "type", "size", "size" + PART], 9: WALK[9],
+                   10: [""], 11: [""], 12: [""], 13: [""], 14: SIZES, 15: LOGIN_IMEI + PACKED_IMEI},
     "state": {},
     "line": {20: ["line: LF", "line: fields missing", *number_places("timestamp"), *degrees_places("longitude"),
                   *degrees_places("latitude"), *number_places("speed"), *ELEMENT_PLACES, "element: order"]},
     "field": {20: ELEMENT_PLACES},
 }
+
+TELLING = "at an offset that tells something"
+
+# The offsets (request 6) that are the same in every input, by number or by number and place; 0 beyond 15, too.
+HEADER_AT = {1: 0, 2: 0, 3: 4, 4: 0}
+FIXED = {
+    "packet": HEADER_AT | {6: 8, (7, "zero"): 9, (7, "first zero"): 9},
+    "datagram": {1: 0, 3: 0, 4: 0, 6: 23, (7, "zero"): 24, (7, "first zero"): 24, (15, "length"): 6,
+                 (15, "length and digit"): 6},
+    "command": HEADER_AT | {6: 8, (7, "first"): 9, (7, "both"): 9, (8, "type"): 10, (8, "size"): 11,
+                            (8, "size" + PART): 11, 13: 10, (14, "size"): 11, (14, "under 8"): 11,
+                            (14, "text with 11"): 23, (15, "first digit"): 15, (15, "first digit, others behind"): 15},
+    "login": {1: 0, 4: 0, (15, "length"): 0, (15, "length and digit"): 0},
+    "text": {6: 0, 13: 0, 14: 0, 15: 0},
+}
+FIXED["connection"] = FIXED["packet"] | FIXED["command"] | FIXED["login"]
+
+
+def fixed(source, number, place):
+    """The offset that a place has in every input, None where it depends on the input."""
+    if number > 15:
+        return 0
+    offsets = FIXED.get(source, {})
+    return offsets.get((number, place), offsets.get(number))
+
+
+def telling(seen, wanted):
+    """Do the offsets seen tell something? Wanted are those of the places, None among them where they depend."""
+    return len(seen) > 1 if None in wanted else wanted <= seen
+
 
 # What only a family with a record limit can give, and what only one without: as many elements are over 255 bytes.
 LIMITED = {(12, ""), (17, "record's size")}
@@ -69,7 +127,8 @@ def walk_places(codec, family=None):
     """The (number, place) pairs of a codec's walk."""
     return [(number, place) for number, place in pairs(WALK, family)
             if (codec == 0x10 or (number != 11 and place != "generation type"))
-            and (codec == 0x8E or not place.startswith("variable"))]
+            and (codec == 0x8E or not place.startswith("variable"))
+            and not (place.endswith(PART) and one_byte(place.removesuffix(PART), codec))]
 
 
 # Each call: its input, and what it can give behind or before that input's refusals. A lent buffer is too short by one
@@ -87,6 +146,9 @@ NO_STATE = {19: ["closed", "phase", "length", "fill", "spare byte", "login held"
 BEFORE = ("fresh", "in a login", "between packets", "in a header", "in a packet")
 AFTER = ("no bytes", "more", "item", "item, bytes left", "refusal", "refusal, bytes left")
 FEEDS = [f"{before}: {after}" for before in BEFORE for after in AFTER]
+
+# The item of a stream that is refused: its offsets count from its start.
+STREAMS = ["login refused", "first packet refused", "later packet refused"]
 CALLS = {
     "read_packet": ("packet", {}),
     "read_datagram": ("datagram", {}),
@@ -125,7 +187,7 @@ CALLS = {
     "element_at": ("field", TAG_ROOM),
     "wrong_byte": ("line", {}),
     "feed": ("connection", NO_STATE | {18: ["by one", "by more"], None: FEEDS}),
-    "stream": ("connection", {}),
+    "stream": ("connection", {None: STREAMS}),
     "wanted": ("state", NO_STATE),
     "reset": ("state", {}),
     "start": ("state", {}),
@@ -158,12 +220,17 @@ def more_of(row, family):
     return {number: [place]} if number else {}
 
 
+def rules_of(row, family):
+    """The refusals of a row with their places."""
+    if family == UNKNOWN:
+        return more_of(row, family)
+    return INPUTS[CALLS[row][0]] | more_of(row, family) | (WALK if has_walk(row) else {})
+
+
 def allowed(row, family):
     """The refusals that the papers let a call give, or hide, in a family; None among them if it may accept."""
-    if family == UNKNOWN:
-        return set(more_of(row, family)) or {None}
-    rules = INPUTS[CALLS[row][0]] | more_of(row, family) | (WALK if has_walk(row) else {})
-    return {number for number, _ in pairs(rules, family)} | {None}
+    numbers = {number for number, _ in pairs(rules_of(row, family), family)}
+    return numbers or {None} if family == UNKNOWN else numbers | {None}
 
 
 def family_named(line):
@@ -184,7 +251,7 @@ def from_older(family, words, refusal):
 def feed_kind(words, answer):
     """Where a feed begins and ends, one of FEEDS."""
     phase, fill, _, _, data, _ = words
-    number, _, used, item = answer.split(" lent ")[1].split()[1:5]
+    number, _, _, used, item = answer.split(" lent ")[1].split()[1:6]
     if fill == "0":
         before = "fresh" if phase == "0" else "between packets"
     else:
@@ -198,7 +265,8 @@ def feed_kind(words, answer):
 
 
 def kind_of(name, words, answer, number):
-    """How a call's room compares with what is written, or where a feed begins and ends; None where neither is told."""
+    """How a call's room compares with what is written, where a feed begins and ends, or which item of a stream is
+    refused; None where nothing of this is told."""
     if answer.startswith("written"):
         _, size, lent = answer.split()
         return "exact" if len(lent) == 2 * int(size) * reference.unit(name) else "longer"
@@ -207,6 +275,9 @@ def kind_of(name, words, answer, number):
         return "number" if tag == "0" else "exact" if len(lent.strip("-")) == 2 * int(size) else "longer"
     if name == "feed" and number not in (18, 19):
         return feed_kind(words, answer)
+    if name == "stream" and number not in (None, 21):
+        items = answer.split(" lent ")[0]
+        return STREAMS[("login" in items) + ("packet" in items)]
     return None
 
 
@@ -217,6 +288,8 @@ def rows_of(source):
 class Coverage:
     def __init__(self):
         self.reached = Counter()        # (row of CALLS, family, codec or "kind" or None, number or None, place)
+        self.offsets = defaultdict(set)         # that were shown, by the same
+        self.row_offsets = defaultdict(set)     # by (row, family, number)
         self.indices = {number: Counter() for number in WALK}
 
     def count(self, line, answer, refusal):
@@ -232,12 +305,18 @@ class Coverage:
             codec = int(data[16:18] if CALLS[row][0] == "packet" else data[46:48], 16)
             self.indices[number][refusal.index] += 1
         self.reached[row, family, codec, number, place] += 1
+        if refusal and name not in HIDING:
+            self.offsets[row, family, codec, number, place].add(refusal.offset)
+            self.row_offsets[row, family, number].add(refusal.offset)
         kind = kind_of(name, words, answer, number)
         if kind:
             self.reached[row, family, "kind", None, kind] += 1
 
     def times(self, rows, families, codec, number, place):
         return sum(self.reached[row, family, codec, number, place] for row in rows for family in families)
+
+    def offsets_at(self, rows, family, codec, number, place):
+        return set().union(*(self.offsets[row, family, codec, number, place] for row in rows))
 
     def given(self, row, families):
         """How often a row gave each number, None for an acceptance."""
@@ -264,24 +343,45 @@ class Coverage:
     def missing_of_row(self, row, family):
         given = self.given(row, (family,))
         yield from (number or "an acceptance" for number in allowed(row, family) if not given[number])
+        if row.split(",")[0] not in HIDING:
+            yield from self.untold_of_row(row, family)
         for number, place in pairs(more_of(row, family), family):
             if not self.times([row], (family,), None if number else "kind", number, place):
                 yield f"{number or 'a call'}, {place}"
 
+    def untold_of_row(self, row, family):
+        """The refusals of a row, over all their places, without an offset that tells something."""
+        wanted = defaultdict(set)
+        for number, place in pairs(rules_of(row, family), family):
+            if number:
+                wanted[number].add(fixed(CALLS[row][0], number, place))
+        yield from (f"{number}, {TELLING}" for number in wanted
+                    if not telling(self.row_offsets[row, family, number], wanted[number]))
+
     def missing_of_source(self, source, rows, family):
         for number, place in pairs(INPUTS[source], family):
-            if not self.times(rows, (family,), None, number, place):
-                yield f"{number}, {place or 'the rule'}"
+            yield from self.missing_place(source, rows, family, None, number, place)
         for codec, name in CODECS.items() if has_walk(rows[0]) else ():
             for number, place in walk_places(codec, family):
-                if not self.times(rows, (family,), codec, number, place):
-                    yield f"{number}, {place or 'the rule'}, codec {name}"
+                yield from (f"{missed}, codec {name}"
+                            for missed in self.missing_place(source, rows, family, codec, number, place))
+
+    def missing_place(self, source, rows, family, codec, number, place):
+        said = f"{number}, {place or 'the rule'}"
+        if not self.times(rows, (family,), codec, number, place):
+            yield said
+        elif not telling(self.offsets_at(rows, family, codec, number, place), {fixed(source, number, place)}):
+            yield f"{said}, {TELLING}"
 
     def unforeseen(self):
         """What the papers do not let a call give and the reference gave."""
         for row, family, codec, number, _ in self.reached:
             if codec != "kind" and number not in allowed(row, family):
                 yield f"{row} in family {family} with {number or 'an acceptance'}"
+        for (row, family, _, number, place), offsets in self.offsets.items():
+            only = fixed(CALLS[row][0], number, place)
+            if only is not None and offsets - {only}:
+                yield f"{row} in family {family} with {number}, {place or 'the rule'}, at {min(offsets - {only})}"
 
     # ------------------------------------------------------------ tables
 
@@ -330,6 +430,11 @@ class Coverage:
             yield f"feed, {before}, " + "; ".join(cells)
         for number, indices in self.indices.items():
             yield f"refusal {number} at {len(indices)} record indices, the greatest {max(indices, default='none')}"
+        cells = []
+        for number in range(1, 16):
+            offsets = set().union(*(seen for (*_, given), seen in self.row_offsets.items() if given == number))
+            cells.append(f"{number}: {len(offsets)}, the greatest {max(offsets, default='none')}")
+        yield "offsets shown with " + "; ".join(cells)
 
     def report(self):
         """Prints the tables; returns whether all was reached that has to be."""

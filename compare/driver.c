@@ -104,59 +104,59 @@ static void print_bytes(const uint8_t *at, size_t size) {
     for (size_t i = 0; i < size; i++) printf("%02x", at[i]);
 }
 
-static void head(const char *accepted, size_t number, size_t index) {
-    printf("%s %zu %zu ", number ? "refused" : accepted, number, index);
+static void head(const char *accepted, size_t number, size_t index, size_t place) {
+    printf("%s %zu %zu %zu ", number ? "refused" : accepted, number, index, place);
 }
 
 static void packet(struct brundilope_packet r) {
-    head("accepted", r.number, r.index);
+    head("accepted", r.number, r.index, r.place);
     printf("%u %u", r.codec, r.count);
 }
 
 static void datagram(struct brundilope_datagram r) {
-    head("accepted", r.number, r.index);
+    head("accepted", r.number, r.index, r.place);
     printf("%u %u %" PRIu64 " %u %u %u", r.codec, r.count, r.imei, r.packet_id, r.unused, r.avl_packet_id);
 }
 
 static void login(struct brundilope_login r) {
-    head("accepted", r.number, r.index);
+    head("accepted", r.number, r.index, r.place);
     printf("%" PRIu64, r.imei);
 }
 
 static void command(struct brundilope_command r) {
-    head("accepted", r.number, r.index);
+    head("accepted", r.number, r.index, r.place);
     printf("%u %u %" PRIu64 " %zu %zu", r.codec, r.type, r.imei, r.offset, r.size);
 }
 
 static void record(struct brundilope_record r) {
-    head("accepted", r.number, r.index);
+    head("accepted", r.number, r.index, r.place);
     printf("%" PRIu64 " %u %" PRId32 " %" PRId32 " %d %u %u %u %u %u %zu", r.timestamp, r.priority, r.longitude, r.latitude, r.altitude,
            r.angle, r.satellites, r.speed, r.event, r.generation, r.elements);
 }
 
 static void value(struct brundilope_value v) {
-    head("accepted", v.number, v.index);
+    head("accepted", v.number, v.index, v.place);
     printf("%u %u %zu %zu", v.id, v.kind, v.offset, v.size);
 }
 
 static void known(struct brundilope_known k) {
-    head("accepted", k.number, k.index);
+    head("accepted", k.number, k.index, k.place);
     printf("%d %u %u %zu %zu", k.older, k.id, k.kind, k.offset, k.size);
 }
 
 static void written(struct brundilope_written w, struct bytes out) {
-    head("written", w.number, w.index);
+    head("written", w.number, w.index, w.place);
     printf("%zu ", w.written);
     print_bytes(out.at, out.size);
 }
 
 static void line(struct brundilope_line l) {
-    head("accepted", l.number, l.index);
+    head("accepted", l.number, l.index, l.place);
     printf("%" PRIu64 " %" PRId32 " %" PRId32 " %u %zu %zu", l.timestamp, l.longitude, l.latitude, l.speed, l.elements, l.start);
 }
 
 static void line_element(struct brundilope_line_element e, struct bytes out) {
-    head("accepted", e.number, e.index);
+    head("accepted", e.number, e.index, e.place);
     printf("%u %d %" PRIu64 " %zu %zu ", e.id, e.tag, e.value, e.size, e.next);
     print_bytes(out.at, out.size);
 }
@@ -270,7 +270,7 @@ static struct brundilope_connection state_of(size_t family, char **w) {
 
 static void start(size_t family) {
     struct brundilope_started s = brundilope_start(family);
-    printf("%s %zu %zu", s.number ? "refused" : "started", s.number, s.index);
+    printf("%s %zu %zu %zu", s.number ? "refused" : "started", s.number, s.index, s.place);
     print_state(s.state);
 }
 
@@ -280,7 +280,7 @@ static void reset(size_t family, char **w) {
 }
 
 static void fed(struct brundilope_fed f) {
-    head("fed", f.number, f.index);
+    head("fed", f.number, f.index, f.place);
     printf("%zu %u %" PRIu64 " %zu ", f.used, f.item, f.imei, f.size);
     print_ended(f.packet, sizeof f.packet, f.size);
     print_state(f.state);
@@ -288,7 +288,7 @@ static void fed(struct brundilope_fed f) {
 
 static void taken(struct brundilope_taken t, struct bytes held, struct bytes packet) {
     size_t shown = t.size < packet.size ? t.size : packet.size;
-    head("fed", t.number, t.index);
+    head("fed", t.number, t.index, t.place);
     printf("%zu %u %" PRIu64 " %zu ", t.used, t.item, t.imei, t.size);
     print_bytes(packet.at, shown);
     print_gathered(t.phase, t.fill, held.at, held.size);
@@ -324,7 +324,7 @@ static struct brundilope_taken feed_by_value(struct brundilope_connection *c, co
     struct brundilope_fed f = brundilope_feed(*c, bytes, bytes_len);
     *c = f.state;
     memcpy(packet, f.packet, packet_len);
-    return (struct brundilope_taken){f.number, f.index, f.used, f.item, f.imei, f.size, f.state.fill, f.state.phase};
+    return (struct brundilope_taken){f.number, f.index, f.place, f.used, f.item, f.imei, f.size, f.state.fill, f.state.phase};
 }
 
 /* Starts a connection and feeds the pieces of a stream, each unused rest again, until it is closed; sizes of pieces go
@@ -332,7 +332,7 @@ static struct brundilope_taken feed_by_value(struct brundilope_connection *c, co
 static void stream(feed_call *call, size_t family, const char *sizes, struct bytes p) {
     struct brundilope_started s = brundilope_start(family);
     struct brundilope_connection c = s.state;
-    struct brundilope_taken t = {.number = s.number, .index = s.index};
+    struct brundilope_taken t = {.number = s.number, .index = s.index, .place = s.place};
     uint8_t packet[BRUNDILOPE_LARGEST];
     const char *next = sizes;
     size_t used = 0, end = 0;
@@ -357,7 +357,7 @@ static void stream(feed_call *call, size_t family, const char *sizes, struct byt
             used += t.used;
         } while (used < end && t.number == 0);
     }
-    printf(" end %zu %zu %zu", t.number, t.index, used);
+    printf(" end %zu %zu %zu %zu", t.number, t.index, t.place, used);
     print_state(c);
 }
 

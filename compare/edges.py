@@ -33,6 +33,8 @@ def udp(field):
 
 
 SIDES = {"packet": tcp, "datagram": udp}        # how a data field becomes an input
+FIELD_AT = {"packet": 8, "datagram": 23}        # where it starts in the input
+RECORDS_AT = {"packet": 10, "datagram": 25}     # where its records do
 
 
 def room_for_records(family, side):
@@ -115,8 +117,39 @@ def reading(name, side, data, expected=None):
     return name, f"read_{side} {shown(data)}", expected
 
 
-def refused(number, index=0):
-    return f"refused {number} {index}"
+def refused(number, index=0, offset=0):
+    return f"refused {number} {index} {offset}"
+
+
+# The answer to an input that is too long.
+TOO_LONG = {"packet": refused(3, offset=4), "datagram": refused(3)}
+
+
+def rows(codec, each):
+    """The widths of a record's fields, as the layout has them: of an element its ID, its length if it is written, and
+    its value."""
+    event, generation, count, ident = WIDTHS[codec]
+    widths = [8, 1, 4, 4, 2, 2, 1, 2, event, *([generation] if generation else []), count]
+    for kind, group in zip(KINDS if codec == 0x8E else KINDS[:4], each.groups):
+        widths.append(count)
+        for _, value in group:
+            widths += [ident, *([2] if kind == 9 else []), len(value)]
+    return widths
+
+
+def missing_at(codec, records, kept):
+    """Where the first field starts that is not whole in so many bytes of records, fewer than there are."""
+    at = 0
+    for width in (width for each in records for width in rows(codec, each)):
+        if at + width > kept:
+            break
+        at += width
+    return at
+
+
+def second_count(side, data):
+    """Where the second count or quantity of an input is."""
+    return len(data) - (1 if side == "datagram" else 5)
 
 
 def accepted(side, codec, count):
@@ -125,9 +158,9 @@ def accepted(side, codec, count):
     return f"accepted {codec} {count}{head}"
 
 
-def over_255(family, index, otherwise):
-    """The answer where a record has more than 255 bytes."""
-    return refused(12, index) if family.record else otherwise
+def over_255(family, index, start, otherwise):
+    """The answer where a record has more than 255 bytes; start is where it does."""
+    return refused(12, index, start) if family.record else otherwise
 
 
 # ---------------------------------------------------------------- heads
@@ -147,25 +180,27 @@ def beginnings(_):
 def frames(family):
     """First four bytes, data length and CRC, bit by bit."""
     most = family.packet - 12
-    for side, field in (("packet", data_field(0x08, pair(0x08))), ("command", command_field(0x0C))):
+    for side, field in (("packet", data_field(0x08, pair(0x08))), ("command", command_field(0x0C)),
+                        ("command", command_field(0x0E))):
         data = tcp(field)
+        wrong_crc = refused(5, offset=8 + len(field))
         for bit in range(32):
             flipped = 1 << bit
             yield reading("first bytes", side, number(flipped, 4) + data[4:], refused(2))
             length = len(field) ^ flipped
             yield reading("data length", side, data[:4] + number(length, 4) + data[8:],
-                          refused(4 if 3 <= length <= most else 3))
+                          refused(4) if 3 <= length <= most else refused(3, offset=4))
             crc = int.from_bytes(data[-4:], "big") ^ flipped
-            yield reading("CRC field", side, data[:-4] + number(crc, 4), refused(5))
+            yield reading("CRC field", side, data[:-4] + number(crc, 4), wrong_crc)
         for length in (0, 1, 2, most + 1, family.packet):
-            yield reading("data length", side, data[:4] + number(length, 4) + data[8:], refused(3))
+            yield reading("data length", side, data[:4] + number(length, 4) + data[8:], refused(3, offset=4))
         for place in range(8, len(data) - 4):
-            yield reading("data byte", side, changed(data, place, data[place] ^ 1), refused(5))
+            yield reading("data byte", side, changed(data, place, data[place] ^ 1), wrong_crc)
         whole = tcp(data[4:8] + field)
-        yield reading("CRC over the length too", side, data[:-4] + whole[-4:], refused(5))
-        yield reading("CRC bytes the other way", side, data[:-2] + data[:-3:-1], refused(5))
+        yield reading("CRC over the length too", side, data[:-4] + whole[-4:], wrong_crc)
+        yield reading("CRC bytes the other way", side, data[:-2] + data[:-3:-1], wrong_crc)
     for size in range(3):
-        yield reading("short data field", "packet", tcp(bytes([8, 0])[:size]), refused(3))
+        yield reading("short data field", "packet", tcp(bytes([8, 0])[:size]), refused(3, offset=4))
     data = udp(data_field(0x08, pair(0x08)))
     for bit in range(16):
         length = int.from_bytes(data[:2], "big") ^ 1 << bit
@@ -178,23 +213,26 @@ def checksums(family):
         text = bytes((37 * place + size) & 255 for place in range(size - 8))
         data = tcp(command_field(0x0C, text=text)[:size])
         yield reading("CRC of each length", "command", data)
-        yield reading("CRC of each length", "command", changed(data, size + 7, data[size + 7] ^ 0x80), refused(5))
+        yield reading("CRC of each length", "command", changed(data, size + 7, data[size + 7] ^ 0x80),
+                      refused(5, offset=8 + size))
 
 
 def codecs_and_counts(family):
     for codec in range(256):
         for side, wrap in SIDES.items():
             field = bytes([codec]) + data_field(0x08, pair(0x08))[1:]
-            yield reading("codec", side, wrap(field), None if codec in CODECS else refused(6))
+            yield reading("codec", side, wrap(field), None if codec in CODECS else refused(6, offset=FIELD_AT[side]))
         known = codec in (0x0C, 0x0E)
         field = bytes([codec]) + command_field(0x0C)[1:]
-        yield reading("codec", "command", tcp(field), None if known else refused(6))
+        yield reading("codec", "command", tcp(field), None if known else refused(6, offset=8))
         yield ("codec", f"write_command {codec} 5 - - {'ee' * 20}",
                None if known else refused(6) + " " + "ee" * 20)
     for codec, side, wrap, _ in each_side(family):
         for counts in ((0, 0), (0, 2), (2, 0), (1, 2), (2, 1), (3, 2), (255, 2), (2, 255), (130, 2)):
-            yield reading("counts", side, wrap(data_field(codec, pair(codec), *counts)), refused(7))
-        yield reading("no records", side, wrap(data_field(codec, [])), refused(7))
+            data = wrap(data_field(codec, pair(codec), *counts))
+            wrong = second_count(side, data) if counts[0] else FIELD_AT[side] + 1
+            yield reading("counts", side, data, refused(7, offset=wrong))
+        yield reading("no records", side, wrap(data_field(codec, [])), refused(7, offset=FIELD_AT[side] + 1))
 
 
 # ---------------------------------------------------------------- the walk
@@ -202,16 +240,18 @@ def codecs_and_counts(family):
 def cuts(family):
     """The records end within or before each field; bytes are left over."""
     for codec, side, wrap, _ in each_side(family):
-        field = data_field(codec, pair(codec))
+        field, start = data_field(codec, pair(codec)), RECORDS_AT[side]
         first = record(codec).size(codec)
         for size in range(len(field) - 3):
-            yield reading("cut", side, wrap(field[:2 + size] + field[-1:]), refused(8, int(size >= first)))
+            expected = refused(8, int(size >= first), start + missing_at(codec, pair(codec), size))
+            yield reading("cut", side, wrap(field[:2 + size] + field[-1:]), expected)
+        behind = refused(8, 2, start + 2 * first)
         for more in (1, 2, LEAST[codec], 255):
-            yield reading("left over", side, wrap(field[:-1] + bytes(more) + field[-1:]), refused(8, 2))
+            yield reading("left over", side, wrap(field[:-1] + bytes(more) + field[-1:]), behind)
         one = changed(changed(field, 1, 1), len(field) - 1, 1)
-        yield reading("a record too many", side, wrap(one), refused(8, 1))
+        yield reading("a record too many", side, wrap(one), refused(8, 1, start + first))
         for count in (3, 42, 43, 255):
-            yield reading("missing records", side, wrap(data_field(codec, pair(codec), count)), refused(8, 2))
+            yield reading("missing records", side, wrap(data_field(codec, pair(codec), count)), behind)
 
 
 def fields(family):
@@ -224,14 +264,46 @@ def fields(family):
                 return reading(name, side, wrap(data_field(codec, records)), expected)
 
             accepted = f"accepted {codec} 2" if side == "packet" else None
+            start = RECORDS_AT[side] + place * record(codec).size(codec)
             for priority in (0, 1, 2, 3, 4, 128, 255):
-                yield attempt("priority", accepted if priority < 3 else refused(10, place), priority=priority)
+                yield attempt("priority", accepted if priority < 3 else refused(10, place, start + 8),
+                              priority=priority)
             for generation in (0, 7, 8, 9, 128, 255):
                 wrong = codec == 0x10 and generation > 7
-                yield attempt("generation", refused(11, place) if wrong else accepted, generation=generation)
+                yield attempt("generation", refused(11, place, start + 26) if wrong else accepted,
+                              generation=generation)
             # the right one of 8E is 10: 8 leaves out the variable values, 12 has them twice, 266 is 10 in one byte
             for total in (0, 8, 9, 11, 12, 255, 266, 65535) if codec == 0x8E else (0, 7, 9, 10, 255):
-                yield attempt("total", refused(9, place), total=total)
+                yield attempt("total", refused(9, place, start), total=total)
+
+
+def later_records(family):
+    """Each refusal of a record, and bytes left over, behind records of other sizes."""
+    for codec, side, wrap, _ in each_side(family):
+        def several():
+            return [of_elements(codec, *counts) for counts in ((3,), (), (1, 2, 0, 1), (0, 1))]
+
+        start, field = RECORDS_AT[side], data_field(codec, several())
+        for place, each in enumerate(several()):
+            def attempt(expected, **values):
+                records = several()
+                vars(records[place]).update(values)
+                return reading("later record", side, wrap(data_field(codec, records)), expected)
+
+            yield attempt(refused(9, place, start), total=99)
+            yield attempt(refused(10, place, start + 8), priority=3)
+            if codec == 0x10:
+                yield attempt(refused(11, place, start + 26), generation=8)
+            if family.record:
+                yield attempt(refused(12, place, start), groups=MAKER.record(codec, 256).groups)
+            for kept in range(each.size(codec)):
+                cut = field[:start - FIELD_AT[side] + kept] + field[-1:]
+                yield reading("later record cut", side, wrap(cut),
+                              refused(8, place, start + missing_at(codec, [each], kept)))
+            start += each.size(codec)
+            if place < 3:
+                yield reading("records left over", side, wrap(data_field(codec, several(), place + 1)),
+                              refused(8, place + 1, start))
 
 
 def counts_and_lengths(family):
@@ -259,7 +331,8 @@ def past_the_record(_):
         for more in (1, 2, 4, 5, 6):
             records = pair(0x8E)
             records[1].lengths[1] = 3 + more
-            yield reading("past the records", side, wrap(data_field(0x8E, records)), refused(8, 1))
+            value = RECORDS_AT[side] + 2 * records[1].size(0x8E) - 3
+            yield reading("past the records", side, wrap(data_field(0x8E, records)), refused(8, 1, value))
 
 
 def sizes(family):
@@ -269,20 +342,22 @@ def sizes(family):
             right = accepted(side, codec, len(records))
             return reading(name, side, wrap(data_field(codec, records)), expected or right)
 
+        start = RECORDS_AT[side]
         full, over, least = (MAKER.record(codec, size) for size in (255, 256, LEAST[codec]))
         yield attempt("255 bytes", [full, least])
-        yield attempt("256 bytes", [over, least], over_255(family, 0, None))
-        yield attempt("256 bytes", [least, over], over_255(family, 1, None))
+        yield attempt("256 bytes", [over, least], over_255(family, 0, start, None))
+        yield attempt("256 bytes", [least, over], over_255(family, 1, start + LEAST[codec], None))
         over.total = over.elements() + 1
-        yield attempt("256 bytes and a wrong total", [least, over], refused(9, 1))
+        yield attempt("256 bytes and a wrong total", [least, over], refused(9, 1, start + LEAST[codec]))
         yield attempt("the most bytes", filling(codec, room))
-        yield attempt("a byte more", filling(codec, room + 1), refused(3))
-        yield attempt("the most bytes in one record", [MAKER.record(codec, room)], over_255(family, 0, None))
-        yield attempt("a byte more in one record", [MAKER.record(codec, room + 1)], refused(3))
+        yield attempt("a byte more", filling(codec, room + 1), TOO_LONG[side])
+        yield attempt("the most bytes in one record", [MAKER.record(codec, room)], over_255(family, 0, start, None))
+        yield attempt("a byte more in one record", [MAKER.record(codec, room + 1)], TOO_LONG[side])
         most = room // LEAST[codec]
         yield attempt("most records", [least] * most)
-        yield attempt("a record more", [least] * (most + 1), refused(3))
-        yield reading("255 records", side, wrap(data_field(codec, [least] * most, 255)), refused(8, most))
+        yield attempt("a record more", [least] * (most + 1), TOO_LONG[side])
+        yield reading("255 records", side, wrap(data_field(codec, [least] * most, 255)),
+                      refused(8, most, start + most * LEAST[codec]))
 
 
 def wraps(family):
@@ -297,12 +372,13 @@ def wraps(family):
             for before in ([], [least]):
                 if sum(one.size(codec) for one in before + [each]) > room:
                     continue
+                start = RECORDS_AT[side] + len(before) * LEAST[codec]
                 for total in (0, 1, 255, 256):
                     each.total = total
                     right = total == sum(counts) < 256 ** WIDTHS[codec][2]
-                    taken = over_255(family, len(before), accepted(side, codec, len(before) + 1))
+                    taken = over_255(family, len(before), start, accepted(side, codec, len(before) + 1))
                     yield reading("256 elements", side, wrap(data_field(codec, before + [each])),
-                                  taken if right else refused(9, len(before)))
+                                  taken if right else refused(9, len(before), start))
 
 
 def limits():
@@ -310,7 +386,7 @@ def limits():
     their family's word; and a record of 256 bytes, in the same packet for both."""
     for codec, side, wrap, _ in each_side(FAMILIES[1]):
         data = shown(wrap(data_field(codec, [MAKER.record(codec, size) for size in (LEAST[codec], 256)])))
-        yield "256 bytes", f"read_{side} 1 {data}", refused(12, 1)
+        yield "256 bytes", f"read_{side} 1 {data}", refused(12, 1, RECORDS_AT[side] + LEAST[codec])
         yield "256 bytes", f"read_{side} 2 {data}", accepted(side, codec, 2)
     for family, most in ((1, 512), (2, 1280)):
         for codec in CODECS:
@@ -324,14 +400,14 @@ def data_limits(family, most, codec):
         records = filling(codec, most + more - 15)
         packet = tcp(data_field(codec, records))
         yield "limit", f"read_packet {family} {shown(packet)}", \
-            refused(3) if more else accepted("packet", codec, len(records))
+            TOO_LONG["packet"] if more else accepted("packet", codec, len(records))
         name, line, expected = rebuilt("limit", codec, records, not more)
         yield name, in_family(family, line), expected
-        told = fed(refused(3), 8, NONE, 2) if more else fed("fed 0 0", most, f"2 0 {most} {shown(packet)}", 1)
+        told = fed(TOO_LONG["packet"], 8, NONE, 2) if more else fed("fed 0 0 0", most, f"2 0 {most} {shown(packet)}", 1)
         yield "limit", in_family(family, feeding(1, b"", packet, most)), both(FAMILIES[family], told)
         records = filling(codec, most + more - 26)
         yield "limit", f"read_datagram {family} {shown(udp(data_field(codec, records)))}", \
-            refused(3) if more else accepted("datagram", codec, len(records))
+            TOO_LONG["datagram"] if more else accepted("datagram", codec, len(records))
 
 
 def command_limits(family, most, codec, around):
@@ -340,7 +416,7 @@ def command_limits(family, most, codec, around):
         text = b"a" * (most + more - around)
         data = tcp(command_field(codec, 5, text, imei=PACKED))
         yield "limit", f"read_command {family} {shown(data)}", \
-            refused(3) if more else f"accepted {codec} 5 {imei} {around - 5} {len(text)}"
+            TOO_LONG["packet"] if more else f"accepted {codec} 5 {imei} {around - 5} {len(text)}"
         yield "limit", f"write_command {family} {codec} 5 {given} {shown(text)} {ROOMY}", \
             f"{refused(14)} {ROOMY}" if more else f"written {most} {shown(data)}{ROOMY[2 * most:]}"
 
@@ -359,7 +435,8 @@ def tags(_):
                 yield "tag", f"view_in_{side} {shown(wrap(field))} 1 {place}", f"bytes {shown(value)}"
             for total in (0, 2 * len(values), 256 + len(values)):
                 each.total = total
-                yield reading("total of tags", side, wrap(data_field(0x8E, records)), refused(9, 1))
+                yield reading("total of tags", side, wrap(data_field(0x8E, records)),
+                              refused(9, 1, RECORDS_AT[side] + LEAST[0x8E]))
 
 
 # ---------------------------------------------------------------- commands and IMEIs
@@ -368,7 +445,8 @@ def command_rules(family):
     for codec in (0x0C, 0x0E):
         for kind in range(256):
             allowed = kind in (5, 6) or (codec == 0x0E and kind == 0x11)
-            yield reading("type", "command", tcp(command_field(codec, kind, b"")), None if allowed else refused(13))
+            yield reading("type", "command", tcp(command_field(codec, kind, b"")),
+                          None if allowed else refused(13, offset=10))
             if not allowed:
                 text = "ee" * 28
                 imei = shown(IMEI) if codec == 0x0E else "-"
@@ -376,41 +454,64 @@ def command_rules(family):
         size = len(command_field(codec)) - 8
         for wrong in (0, size - 1, size + 1, size - 8, size + 256, size + 65536, 1 << 31, (1 << 32) - 1):
             data = tcp(command_field(codec, size=wrong & 0xFFFFFFFF))
-            yield reading("text size", "command", data, refused(14))
+            yield reading("text size", "command", data, refused(14, offset=11))
         for quantities in ((0, 1), (1, 0), (2, 2), (255, 1), (1, 255), (2, 1), (1, 2), (0, 0)):
             field = command_field(codec)
-            field = changed(changed(field, 1, quantities[0]), len(field) - 1, quantities[1])
-            yield reading("quantities", "command", tcp(field), refused(7))
+            data = tcp(changed(changed(field, 1, quantities[0]), len(field) - 1, quantities[1]))
+            wrong = second_count("command", data) if quantities[0] == 1 else 9
+            yield reading("quantities", "command", data, refused(7, offset=wrong))
         field = command_field(codec)
         for kept in range(2, len(field) - 1):
-            yield reading("cut", "command", tcp(field[:kept] + b"\x01"), refused(8 if kept < 7 else 14))
+            yield reading("cut", "command", tcp(field[:kept] + b"\x01"),
+                          refused(8 if kept < 7 else 14, offset=10 if kept < 3 else 11))
         most = longest_text(family, codec)
         yield reading("longest text", "command", tcp(command_field(codec, 6, bytes(most))), None)
-        yield reading("too long a text", "command", tcp(command_field(codec, 6, bytes(most + 1))), refused(3))
+        yield reading("too long a text", "command", tcp(command_field(codec, 6, bytes(most + 1))), TOO_LONG["packet"])
     for size in range(8):
-        yield reading("0E under 8", "command", tcp(command_field(0x0E, 0x11, b"", imei=bytes(size))), refused(14))
+        for kind in (0x05, 0x11):
+            yield reading("0E under 8", "command", tcp(command_field(0x0E, kind, b"", imei=b"\xff" * size)),
+                          refused(14, offset=11))
     for text in (b"\0", b"nACK", bytes(longest_text(family, 0x0E))):
-        yield reading("text with type 11", "command", tcp(command_field(0x0E, 0x11, text)), refused(14))
+        yield reading("text with type 11", "command", tcp(command_field(0x0E, 0x11, text)), refused(14, offset=23))
+
+
+def wrong_imei(name, length, digits, wrong):
+    """A wrong IMEI, with the byte, from its length on, at which it is: in a login and in a datagram; and its digits
+    where they are given to write."""
+    yield name, f"read_login {shown(length + digits)}", refused(15, offset=wrong)
+    data = udp(data_field(0x08, [record(0x08)]))
+    yield reading(name, "datagram", data[:6] + length + digits + data[23:], refused(15, offset=6 + wrong))
+    if not digits.isdigit():
+        yield name, f"write_command 14 5 {shown(digits)} - -", refused(15) + " -"
 
 
 def imeis(_):
     for place in range(15):
         for wrong in (0x00, 0x2F, 0x3A, 0xFF):
-            bad = changed(IMEI, place, wrong)
-            yield "digit", f"read_login {shown(LOGIN[:2] + bad)}", refused(15)
-            data = udp(data_field(0x08, [record(0x08)]))
-            yield reading("digit", "datagram", data[:8] + bad + data[23:], refused(15))
-            yield "digit", f"write_command 14 5 {shown(bad)} - -", refused(15) + " -"
+            yield from wrong_imei("digit", LOGIN[:2], changed(IMEI, place, wrong), 2 + place)
+        for behind in range(place + 1, 15):
+            yield from wrong_imei("two digits", LOGIN[:2], changed(changed(IMEI, behind, 0x2F), place, 0x3A), 2 + place)
+        yield from wrong_imei("length and digit", number(14, 2), changed(IMEI, place, 0x41), 0)
     for length in (0, 1, 14, 16, 0x0F00, 0x010F, 0x800F, 0xFFFF):
-        yield "IMEI length", f"read_login {shown(number(length, 2) + IMEI)}", refused(15)
-        data = udp(data_field(0x08, [record(0x08)]))
-        yield reading("IMEI length", "datagram", data[:6] + number(length, 2) + data[8:], refused(15))
+        for digits in (IMEI, b"\xff" * 15):
+            yield from wrong_imei("IMEI length", number(length, 2), digits, 0)
+    right = "0352093081452251"
+
+    def packed(expected, *wrong):
+        digits = list(right)
+        for place, digit in wrong:
+            digits[place] = f"{digit:x}"
+        data = tcp(command_field(0x0E, imei=bytes.fromhex("".join(digits))))
+        return reading("packed digit", "command", data, expected)
+
     for place in range(16):
+        expected = refused(15, offset=15 + place // 2)
         for digit in range(1, 16):
-            digits = "0352093081452251"
-            packed = bytes.fromhex(digits[:place] + f"{digit:x}" + digits[place + 1:])
-            yield reading("packed digit", "command", tcp(command_field(0x0E, imei=packed)),
-                          refused(15) if digit > 9 or place == 0 else None)
+            yield packed(expected if digit > 9 or place == 0 else None, (place, digit))
+        for behind in range(place + 1, 16):
+            yield packed(expected, (place, 10), (behind, 15))
+            if place == 0:
+                yield packed(expected, (0, 1), (behind, 10))
     for given in (b"", b"1", IMEI[1:], IMEI + b"0", b"0" + IMEI):
         yield "IMEI to write", f"write_command 14 5 {shown(given)} - {'ee' * 40}", f"{refused(15)} {'ee' * 40}"
         if given:
@@ -498,6 +599,14 @@ def last_known(_):
             words = f"{shown(newer)} {shown(second)} {ident}"
             yield "last known", f"last_known_view {words}", "bytes " + (expected or "-")
             yield "last known", f"last_known {words}", None if expected else refused(16)
+        # one refused for its second record's priority, one for its CRC: the newer counts before the older
+        records = pair(codec)
+        records[1].priority = 3
+        first, second = tcp(data_field(codec, records)), changed(last, len(last) - 1, last[-1] ^ 1)
+        priority, crc = refused(10, 1, 10 + record(codec).size(codec) + 8), refused(5, offset=len(last) - 4)
+        for packets, expected in (((first, second), priority), ((first, older), priority), ((newer, first), priority),
+                                  ((second, first), crc), ((second, older), crc), ((newer, second), crc)):
+            yield "last known", f"last_known {' '.join(map(shown, packets))} 500", expected
 
 
 # ---------------------------------------------------------------- writing
@@ -507,7 +616,7 @@ def lending(name, call, result, unit=1, more=()):
     need = len(result) // unit
     for room in (0, 1, need - 1, need, need + 1, need + 100, *more):
         lent = (bytes(range(1, 256)) + bytes(unit * room))[:unit * room]
-        expected = f"refused 18 0 {shown(lent)}"
+        expected = f"{refused(18)} {shown(lent)}"
         if room >= need:
             expected = f"written {need} {shown(result + lent[len(result):])}"
         yield name, f"{call} {shown(lent)}", expected
@@ -535,8 +644,8 @@ def buffers(family):
         text = b"a" * longest_text(family, codec)
         yield from lending("longest text", f"{call} {shown(text)}", tcp(command_field(codec, 6, text, imei=PACKED)))
         for lent in ("-", ROOMY):
-            yield "too long a text", f"{call} {shown(text)}61 {lent}", f"refused 14 0 {lent}"
-    yield "text with type 11", f"write_command 14 17 {shown(IMEI)} 00 {'ee' * 30}", f"refused 14 0 {'ee' * 30}"
+            yield "too long a text", f"{call} {shown(text)}61 {lent}", f"{refused(14)} {lent}"
+    yield "text with type 11", f"write_command 14 17 {shown(IMEI)} 00 {'ee' * 30}", f"{refused(14)} {'ee' * 30}"
 
 
 # ---------------------------------------------------------------- tables of contents
@@ -584,9 +693,10 @@ def sample_contents(_):
         0x0501_CAFE_0001_0008, 123456789012345, *fields, 0x0001_0020_0019_0000, 0x0001_0035_0001_0015))
     yield from listing("sample", "packet", tcp(sample[23:]), words(
         0x0000_0000_0001_0008, 0, *fields, 0x0001_0020_000A_0000, 0x0001_0026_0001_0015))
-    for place, value, refusal in ((1, 0x37, 4), (9, 0x41, 15), (33, 3, 10), (50, 2, 9), (51, 2, 8), (57, 2, 7)):
+    for place, value, refusal, wrong in ((1, 0x37, 4, 0), (9, 0x41, 15, 9), (33, 3, 10, 33), (50, 2, 9, 25),
+                                         (51, 2, 8, 57), (57, 2, 7, 57)):
         data, lent = shown(changed(sample, place, value)), "ee" * 56
-        yield "sample", f"contents_of_datagram {data} {lent}", f"{refused(refusal)} {lent}"
+        yield "sample", f"contents_of_datagram {data} {lent}", f"{refused(refusal, 0, wrong)} {lent}"
 
 
 # In words, worked out by hand.
@@ -722,28 +832,35 @@ def form_limits(family):
 def walk_orders(family):
     """Records that break several rules at once: the first in the walk counts."""
     for codec, side, wrap, _ in each_side(family):
-        def attempt(expected, first, second, count=2, last=None, more=b""):
+        def attempt(expected, first, second, count=2, last=None, more=b"", named=codec):
             records = pair(codec)
             vars(records[0]).update(first)
             vars(records[1]).update(second)
             field = data_field(codec, records, count, last)
-            if expected == refused(6):
-                field = bytes([0x07]) + field[1:]
-            return reading("order", side, wrap(field[:-1] + more + field[-1:]), expected)
+            return reading("order", side, wrap(bytes([named]) + field[1:-1] + more + field[-1:]), expected)
 
+        start, size = RECORDS_AT[side], record(codec).size(codec)
         wrong = {"priority": 3, "generation": 8, "total": 1}
-        yield attempt(refused(6), wrong, wrong, last=9)
-        yield attempt(refused(7), wrong, wrong, last=9, more=b"\0")
-        yield attempt(refused(10), wrong, wrong)
-        yield attempt(refused(11 if codec == 0x10 else 9), wrong | {"priority": 2}, wrong)
-        yield attempt(refused(9), {"total": 1}, {"priority": 3})
-        yield attempt(refused(10, 1), {}, {"priority": 3}, more=b"\0")
-        yield attempt(refused(9, 1), {}, {"total": 1}, count=3)
-        yield attempt(refused(8), {"total": 1, "counts": {3: 255}}, {"priority": 3})
-        long = vars(of_elements(codec, (256 - LEAST[codec]) // (WIDTHS[codec][3] + 1) + 1))
-        yield attempt(refused(9), long | {"total": 1}, {"priority": 3})
-        yield attempt(over_255(family, 0, refused(10, 1)), long, {"priority": 3}, more=b"\0")
-        yield attempt(over_255(family, 0, refused(8, 2)), long, {}, more=b"\0")
+        yield attempt(refused(6, offset=FIELD_AT[side]), wrong, wrong, last=9, named=0x07)
+        yield attempt(refused(7, offset=start + 2 * size + 1), wrong, wrong, last=9, more=b"\0")
+        yield attempt(refused(10, 0, start + 8), wrong, wrong)
+        yield attempt(refused(11, 0, start + 26) if codec == 0x10 else refused(9, 0, start), wrong | {"priority": 2},
+                      wrong)
+        yield attempt(refused(9, 0, start), {"total": 1}, {"priority": 3})
+        yield attempt(refused(10, 1, start + size + 8), {}, {"priority": 3}, more=b"\0")
+        yield attempt(refused(9, 1, start + size), {}, {"total": 1}, count=3)
+        # The first record's values of 8 bytes go on to the records' end: there an ID or a value is missing. Behind its
+        # own two of them are 16 bytes of tags in 8E.
+        ident = WIDTHS[codec][3]
+        at = size - 2 * (ident + 8) - (16 if codec == 0x8E else 0)
+        values, rest = divmod(2 * size - at, ident + 8)
+        at += values * (ident + 8) + (ident if rest >= ident else 0)
+        yield attempt(refused(8, 0, start + at), {"total": 1, "counts": {3: 255}}, {"priority": 3})
+        long = of_elements(codec, (256 - LEAST[codec]) // (ident + 1) + 1)
+        second, long = start + long.size(codec), vars(long)
+        yield attempt(refused(9, 0, start), long | {"total": 1}, {"priority": 3})
+        yield attempt(over_255(family, 0, start, refused(10, 1, second + 8)), long, {"priority": 3}, more=b"\0")
+        yield attempt(over_255(family, 0, start, refused(8, 2, second + size)), long, {}, more=b"\0")
 
 
 def head_orders(family):
@@ -752,13 +869,13 @@ def head_orders(family):
     frame = tcp(bytes([7]) + bad[1:])
     spoiled = frame[:-1] + bytes([frame[-1] ^ 1])
     for side in ("packet", "command"):
-        for data, refusal in ((b"\x01" * 7, 1), (b"\x01" * 8, 2), (bytes(4) + b"\xff" * 9, 3), (spoiled[:-2], 4),
-                              (spoiled, 5), (frame, 6)):
-            yield reading("order", side, data, refused(refusal))
+        for data, refusal, at in ((b"\x01" * 7, 1, 0), (b"\x01" * 8, 2, 0), (bytes(4) + b"\xff" * 9, 3, 4),
+                                  (spoiled[:-2], 4, 0), (spoiled, 5, len(spoiled) - 4), (frame, 6, 8)):
+            yield reading("order", side, data, refused(refusal, offset=at))
     wrong = changed(udp(bytes([7]) + bad[1:]), 9, 0x41)
-    for data, refusal in ((wrong[:25], 1), (wrong + bytes(family.datagram), 3), (wrong + b"\0", 4), (wrong, 15),
-                          (changed(wrong, 9, 0x31), 6), (udp(bad), 7)):
-        yield reading("order", "datagram", data, refused(refusal))
+    for data, refusal, at in ((wrong[:25], 1, 0), (wrong + bytes(family.datagram), 3, 0), (wrong + b"\0", 4, 0),
+                              (wrong, 15, 9), (changed(wrong, 9, 0x31), 6, 23), (udp(bad), 7, len(wrong) - 1)):
+        yield reading("order", "datagram", data, refused(refusal, offset=at))
     yield "order", f"read_login {shown(bytes(16))}", refused(1)
     yield "order", f"read_login {shown(bytes(18))}", refused(4)
 
@@ -766,12 +883,14 @@ def head_orders(family):
 def command_orders(family):
     """Commands, read and to be written, that break several rules."""
     digit = bytes([0x1F] * 8)
-    for field, refusal in (
-            (b"\x0d\x02\x04\x00\x03", 6), (b"\x0e\x02\x04\x00\x03", 7), (b"\x0e\x01\x04\x00\x01", 13),
-            (b"\x0e\x01\x05\x00\x01", 8), (command_field(0x0E, 4, size=1, imei=digit), 13),
-            (command_field(0x0E, 0x11, size=1, imei=digit), 14), (command_field(0x0E, 0x11, imei=digit), 15),
-            (command_field(0x0E, 0x11), 14), (command_field(0x0C, 0x11, size=1), 13)):
-        yield reading("order", "command", tcp(field), refused(refusal))
+    for field, refusal, at in (
+            (b"\x0d\x02\x04\x00\x03", 6, 8), (b"\x0e\x02\x04\x00\x03", 7, 9), (b"\x0e\x01\x04\x00\x03", 7, 12),
+            (b"\x0e\x01\x04\x00\x01", 13, 10), (b"\x0e\x01\x05\x00\x01", 8, 11),
+            (command_field(0x0E, 4, size=1, imei=digit), 13, 10),
+            (command_field(0x0E, 0x11, size=1, imei=digit), 14, 11),
+            (command_field(0x0E, 0x11, imei=digit), 15, 15), (command_field(0x0E, 0x11), 14, 23),
+            (command_field(0x0C, 0x11, size=1), 13, 10)):
+        yield reading("order", "command", tcp(field), refused(refusal, offset=at))
     long = "61" * (longest_text(family, 0x0C) + 1)
     for words, refusal in ((f"13 4 30 {long}", 6), (f"14 4 30 {long}", 13), (f"12 17 30 {long}", 13),
                            (f"14 5 30 {long}", 15), (f"12 5 30 {long}", 15), (f"14 17 {shown(IMEI)} {long}", 14),
@@ -782,46 +901,58 @@ def command_orders(family):
 # ---------------------------------------------------------------- every refusal in every call
 
 def refused_fields(family, codec):
-    """(number, index, data field) for 6 to 12."""
+    """(number, index, offset from the field's start, data field) for 6 to 12."""
+    field, end = data_field(codec, pair(codec)), 2 + 2 * record(codec).size(codec)
+    yield 6, 0, 0, bytes([0x0C]) + field[1:]
+    yield 7, 0, 1, changed(field, 1, 0)
+    yield 7, 0, end, changed(field, end, 3)
+    yield 8, 2, end, data_field(codec, pair(codec), 3)
+    yield 8, 2, end, field[:-1] + bytes(5) + field[-1:]
+    for place in range(2):
+        yield from refused_records(family, codec, place)
+
+
+def refused_records(family, codec, place):
+    """The same for 9 to 12, in one of two records."""
     def spoiled(**values):
         records = pair(codec)
-        vars(records[1]).update(values)
+        vars(records[place]).update(values)
         return data_field(codec, records)
 
-    yield 6, 0, bytes([0x0C]) + spoiled()[1:]
-    yield 7, 0, data_field(codec, pair(codec), 2, 3)
-    yield 8, 2, data_field(codec, pair(codec), 3)
-    yield 9, 1, spoiled(total=1)
+    start = 2 + place * record(codec).size(codec)
+    yield 9, place, start, spoiled(total=1)
     if codec == 0x8E:
-        yield 9, 1, spoiled(total=8)        # without the variable values
-    yield 10, 1, spoiled(priority=3)
+        yield 9, place, start, spoiled(total=8)     # without the variable values
+    yield 10, place, start + 8, spoiled(priority=3)
     if codec == 0x10:
-        yield 11, 1, spoiled(generation=8)
+        yield 11, place, start + 26, spoiled(generation=8)
     if family.record:
-        yield 12, 1, data_field(codec, [record(codec), MAKER.record(codec, 256)])
+        yield 12, place, start, spoiled(groups=MAKER.record(codec, 256).groups)
 
 
 def refused_inputs(family, side, codec):
-    """(number, index, input) for every refusal of a data packet or datagram."""
+    """(number, index, offset, input) for every refusal of a data packet or datagram."""
     good = SIDES[side](data_field(codec, pair(codec)))
-    yield 1, 0, b""
-    yield 4, 0, good[:-1]
+    yield 1, 0, 0, b""
+    yield 4, 0, 0, good[:-1]
     if side == "packet":
-        yield 2, 0, b"\x80" + good[1:]
-        yield 3, 0, good[:4] + number(family.packet - 11, 4) + good[8:]
-        yield 5, 0, changed(good, len(good) - 1, good[-1] ^ 1)
+        yield 2, 0, 0, b"\x80" + good[1:]
+        yield 3, 0, 4, good[:4] + number(family.packet - 11, 4) + good[8:]
+        yield 5, 0, len(good) - 4, changed(good, len(good) - 1, good[-1] ^ 1)
+        yield 5, 0, len(good) - 4, changed(good, len(good) - 4, 1)
     else:
-        yield 3, 0, number(family.datagram - 1, 2) + good[2:] + bytes(family.datagram + 1 - len(good))
-        yield 15, 0, changed(good, 22, 0x3A)
-    for refusal, index, field in refused_fields(family, codec):
-        yield refusal, index, SIDES[side](field)
+        yield 3, 0, 0, number(family.datagram - 1, 2) + good[2:] + bytes(family.datagram + 1 - len(good))
+        yield 15, 0, 6, changed(good, 7, 16)
+        yield 15, 0, 21, changed(changed(good, 21, 0x2F), 22, 0x3A)
+    for refusal, index, at, field in refused_fields(family, codec):
+        yield refusal, index, FIELD_AT[side] + at, SIDES[side](field)
 
 
 def everywhere(family):
     """Each refusal of an input, in each call that takes it."""
     for codec, side, wrap, _ in each_side(family):
-        for refusal, index, data in refused_inputs(family, side, codec):
-            data, answer = shown(data), refused(refusal, index)
+        for refusal, index, at, data in refused_inputs(family, side, codec):
+            data, answer = shown(data), refused(refusal, index, at)
             yield reading("everywhere", side, bytes.fromhex(data.strip("-")), answer)
             yield "everywhere", f"record_in_{side} {data} 9", answer
             yield "everywhere", f"value_in_{side} {data} 9 0", answer
@@ -883,7 +1014,7 @@ def command_texts(_):
         yield "text", f"command_text {shown(data)}", "bytes -"
     for data in (b"", LOGIN[:-1], LOGIN + b"0", changed(LOGIN, 9, 65)):
         yield "answer", f"answer_login {shown(data)} 1 eeee", "written 1 00ee"
-        yield "answer", f"answer_login {shown(data)} 1 -", "refused 18 0 -"
+        yield "answer", f"answer_login {shown(data)} 1 -", refused(18) + " -"
 
 
 # ---------------------------------------------------------------- connections
@@ -910,7 +1041,7 @@ def finishing(family, name, phase, item, answer, places=(0, 1, 7, 8, 9, 16)):
         for behind in (b"", b"\0", LOGIN):
             yield name, feeding(phase, held, rest + behind), both(family, fed(head, len(rest), told, after))
         for part in sorted({b"", rest[:1], rest[:-1]} - {rest}):
-            more = fed("fed 0 0", len(part), NONE, *held_words(phase, held + part))
+            more = fed("fed 0 0 0", len(part), NONE, *held_words(phase, held + part))
             yield name, feeding(phase, held, part), both(family, more)
 
 
@@ -934,63 +1065,85 @@ def good_packets(family):
         yield "longest command", tcp(command_field(codec, 6, bytes(range(1, 21)) * (most // 20) + bytes(most % 20)))
 
 
+def refused_logins():
+    """(offset, login) for its refusal, 15."""
+    yield 0, bytes(17)
+    yield 0, changed(LOGIN, 0, 1)
+    yield 0, changed(LOGIN, 1, 16)
+    yield 0, changed(LOGIN, 1, 14)[:-1] + b"\0"
+    yield 0, tcp(command_field(0x0C))[:17]
+    yield 2, changed(LOGIN, 2, 0x2F)
+    yield 3, changed(changed(LOGIN, 3, 0x41), 9, 0x41)
+    yield 9, changed(changed(LOGIN, 9, 0x41), 16, 0x41)
+    yield 16, changed(LOGIN, 16, 0x3A)
+
+
 def refused_headers(family):
-    """(number, first 8 bytes): a login is none either, nor is the longest packet of a family with longer ones."""
+    """(number, index, offset, first 8 bytes): a login is none either, nor is the longest packet of a family with longer
+    ones."""
     for place in range(4):
-        yield 2, changed(bytes(7) + b"\x21", place, 1)
-    yield 2, LOGIN[:8]
-    yield 2, b"\x80" + bytes(7)
-    yield 2, bytes(3) + b"\xff" * 5
+        yield 2, 0, 0, changed(bytes(7) + b"\x21", place, 1)
+    yield 2, 0, 0, LOGIN[:8]
+    yield 2, 0, 0, b"\x80" + bytes(7)
+    yield 2, 0, 0, bytes(3) + b"\xff" * 5
     longer = [other.packet - 12 for other in FAMILIES.values() if other.packet > family.packet]
     for length in (0, 1, 2, family.packet - 11, family.packet, *longer, 65536 + 33, 1 << 31, (1 << 32) - 12,
                    (1 << 32) - 1):
-        yield 3, bytes(4) + number(length, 4)
+        yield 3, 0, 4, bytes(4) + number(length, 4)
 
 
 def refused_packets(family):
-    """(number, index, packet) for the refusals of whole packets."""
+    """(number, index, offset, packet) for the refusals of whole packets."""
     for codec in CODECS:
-        for refusal, index, data in refused_inputs(family, "packet", codec):
+        for refusal, index, at, data in refused_inputs(family, "packet", codec):
             if refusal in (5, 7, 8, 9, 10, 11, 12):
-                yield refusal, index, data
-        yield 7, 0, tcp(data_field(codec, []))
-        yield 8, 2, tcp(data_field(codec, pair(codec))[:-1] + b"\0\x02")
+                yield refusal, index, at, data
+        field, size = data_field(codec, pair(codec)), record(codec).size(codec)
+        yield 7, 0, 9, tcp(data_field(codec, []))
+        yield 8, 2, 10 + 2 * size, tcp(field[:-1] + b"\0\x02")
+        for place in range(2):
+            yield 8, place, 10 + place * size, tcp(field[:9 + place * size] + b"\x02")
     good = tcp(command_field(0x0E))
     for place in range(1, 5):
-        yield 5, 0, changed(good, len(good) - place, good[-place] ^ 128)
+        yield 5, 0, len(good) - 4, changed(good, len(good) - place, good[-place] ^ 128)
     for codec in (0x00, 0x07, 0x0B, 0x0D, 0x0F, 0x8C, 0xFF):
-        yield 6, 0, tcp(bytes([codec, 1, 1]))
-    yield 8, 0, tcp(b"\x08\x01\x01")
-    yield 8, 0, tcp(b"\x0c\x01\x01")
-    yield 8, 0, tcp(b"\x0e\x01\x05\x00\x01")
+        yield 6, 0, 8, tcp(bytes([codec, 1, 1]))
+    yield 8, 0, 10, tcp(b"\x08\x01\x01")
+    yield 8, 0, 10, tcp(b"\x0c\x01\x01")
+    yield 8, 0, 11, tcp(b"\x0e\x01\x05\x00\x01")
+    yield 8, 0, 11, tcp(b"\x0c\x01\x06\x01")
     for codec in (0x0C, 0x0E):
-        yield 7, 0, tcp(bytes([codec, 2]) + command_field(codec)[2:])
-        yield 7, 0, tcp(command_field(codec)[:-1] + b"\x02")
-        yield 13, 0, tcp(command_field(codec, 7))
-        yield 14, 0, tcp(command_field(codec, size=4))
-    yield 13, 0, tcp(command_field(0x0C, 0x11, b""))
-    yield 14, 0, tcp(command_field(0x0E, 0x11, b"", imei=bytes(7)))
-    yield 14, 0, tcp(command_field(0x0E, 0x11))
-    yield 15, 0, tcp(command_field(0x0E, imei=b"\x10" + bytes(7)))
-    yield 15, 0, tcp(command_field(0x0E, imei=bytes(7) + b"\x0a"))
+        field = command_field(codec)
+        yield 7, 0, 9, tcp(bytes([codec, 2]) + field[2:])
+        yield 7, 0, 9, tcp(bytes([codec, 2]) + field[2:-1] + b"\x02")
+        yield 7, 0, 7 + len(field), tcp(field[:-1] + b"\x02")
+        yield 13, 0, 10, tcp(command_field(codec, 7))
+        yield 14, 0, 11, tcp(command_field(codec, size=4))
+    yield 13, 0, 10, tcp(command_field(0x0C, 0x11, b""))
+    yield 14, 0, 11, tcp(command_field(0x0E, 0x11, b"", imei=bytes(7)))
+    yield 14, 0, 23, tcp(command_field(0x0E, 0x11))
+    yield 15, 0, 15, tcp(command_field(0x0E, imei=b"\x10" + bytes(7)))
+    yield 15, 0, 15, tcp(command_field(0x0E, imei=b"\x10" + bytes(6) + b"\xaa"))
+    yield 15, 0, 16, tcp(command_field(0x0E, imei=b"\x09\xa0" + bytes(5) + b"\xff"))
+    yield 15, 0, 19, tcp(command_field(0x0E, imei=bytes(4) + b"\x0a\xa0\0\xff"))
+    yield 15, 0, 22, tcp(command_field(0x0E, imei=bytes(7) + b"\x0a"))
 
 
 def feeds(family):
     """Each item with its every refusal, cut where something is judged."""
-    yield from finishing(family, "login", 0, LOGIN, ("fed 0 0", f"1 {int(IMEI)} 0 -", 1))
-    yield from finishing(family, "login", 0, LOGIN[:2] + b"0" * 15, ("fed 0 0", "1 0 0 -", 1))
-    for bad in (bytes(17), changed(LOGIN, 0, 1), changed(LOGIN, 1, 16), changed(LOGIN, 2, 0x2F),
-                changed(LOGIN, 16, 0x3A), tcp(command_field(0x0C))[:17]):
-        yield from finishing(family, "login refused", 0, bad, (refused(15), NONE, 2))
-    for refusal, header in refused_headers(family):
-        yield from finishing(family, "header refused", 1, header, (refused(refusal), NONE, 2))
+    yield from finishing(family, "login", 0, LOGIN, ("fed 0 0 0", f"1 {int(IMEI)} 0 -", 1))
+    yield from finishing(family, "login", 0, LOGIN[:2] + b"0" * 15, ("fed 0 0 0", "1 0 0 -", 1))
+    for at, bad in refused_logins():
+        yield from finishing(family, "login refused", 0, bad, (refused(15, offset=at), NONE, 2))
+    for refusal, index, at, header in refused_headers(family):
+        yield from finishing(family, "header refused", 1, header, (refused(refusal, index, at), NONE, 2))
     for name, data in good_packets(family):
-        yield from finishing(family, name, 1, data, ("fed 0 0", f"2 0 {len(data)} {shown(data)}", 1))
-    for refusal, index, data in refused_packets(family):
-        yield from finishing(family, "packet refused", 1, data, (refused(refusal, index), NONE, 2), (0, 9))
+        yield from finishing(family, name, 1, data, ("fed 0 0 0", f"2 0 {len(data)} {shown(data)}", 1))
+    for refusal, index, at, data in refused_packets(family):
+        yield from finishing(family, "packet refused", 1, data, (refused(refusal, index, at), NONE, 2), (0, 9))
     for length in (3, family.packet - 12):
         header = bytes(4) + number(length, 4)
-        yield "header", feeding(1, b"", header), both(family, fed("fed 0 0", 8, NONE, *held_words(1, header)))
+        yield "header", feeding(1, b"", header), both(family, fed("fed 0 0 0", 8, NONE, *held_words(1, header)))
 
 
 def unreachable(family):
@@ -1014,7 +1167,7 @@ def unreachable(family):
     yield 0, STATE_ROOM, b"", STATE_ROOM
     for held in (LOGIN, LOGIN + b"\0", changed(LOGIN, 9, 0x41), bytes(17)):
         yield 0, len(held), held, STATE_ROOM
-    for _, header in refused_headers(family):
+    for *_, header in refused_headers(family):
         for more in (0, 1, 30, STATE_ROOM - 8):
             yield 1, 8 + more, header, STATE_ROOM
     for data in (good, bad, changed(good, 24, 0), least_data(0x08)):
@@ -1050,7 +1203,7 @@ def refused_states(family):
 def starts(family):
     """A start; and resets of states that feeds give."""
     fresh = f"family {family.number} 0 0 -"
-    yield "start", "start", f"started 0 0 {fresh}"
+    yield "start", "start", f"started 0 0 0 {fresh}"
     for phase, held in ((0, b""), (0, LOGIN[:5]), (1, b""), (1, tcp(command_field(0x0C))[:12])):
         yield "reset", f"reset {phase} {len(held)} {shown(held)}", f"state {fresh}"
 
@@ -1060,9 +1213,9 @@ def unknown_starts():
     family. A feed of that state gets 19, and nothing is wanted. All calls have their family's word."""
     closed, good = "family 1 2 0 -", tcp(command_field(0x0C))
     for family in UNKNOWN:
-        yield "start", f"start {family}", f"refused 21 0 {closed}"
+        yield "start", f"start {family}", f"{refused(21)} {closed}"
         for sizes, data in (("1", b""), ("1", LOGIN), ("99999", LOGIN + good), ("7", b"\xff" * 30)):
-            ended = f"items end 21 0 0 {closed}"
+            ended = f"items end 21 0 0 0 {closed}"
             yield "start", f"stream {family} {sizes} {shown(data)}", f"{ended} lent {ended}"
         for phase, held in ((0, b""), (0, LOGIN[:5]), (1, b""), (1, good[:12]), (2, b""), (3, b"")):
             state = f"{phase} {len(held)} {shown(held)}"
@@ -1081,13 +1234,13 @@ def packet_rooms(family):
     good, longest = tcp(command_field(0x0C)), tcp(command_field(0x0C, text=bytes(longest_text(family, 0x0C))))
     most = family.packet
     for phase, held, data, value in (
-            (0, b"", b"", fed("fed 0 0", 0, NONE, 0)),
-            (0, LOGIN[:3], LOGIN[3:], fed("fed 0 0", 14, f"1 {int(IMEI)} 0 -", 1)),
-            (1, good[:9], b"", fed("fed 0 0", 0, NONE, *held_words(1, good[:9]))),
-            (1, b"", good[:9], fed("fed 0 0", 9, NONE, *held_words(1, good[:9]))),
-            (1, good[:9], good[9:], fed("fed 0 0", len(good) - 9, f"2 0 {len(good)} {shown(good)}", 1)),
-            (1, b"", longest, fed("fed 0 0", most, f"2 0 {most} {shown(longest)}", 1)),
-            (1, longest[:9], longest[9:], fed("fed 0 0", most - 9, f"2 0 {most} {shown(longest)}", 1)),
+            (0, b"", b"", fed("fed 0 0 0", 0, NONE, 0)),
+            (0, LOGIN[:3], LOGIN[3:], fed("fed 0 0 0", 14, f"1 {int(IMEI)} 0 -", 1)),
+            (1, good[:9], b"", fed("fed 0 0 0", 0, NONE, *held_words(1, good[:9]))),
+            (1, b"", good[:9], fed("fed 0 0 0", 9, NONE, *held_words(1, good[:9]))),
+            (1, good[:9], good[9:], fed("fed 0 0 0", len(good) - 9, f"2 0 {len(good)} {shown(good)}", 1)),
+            (1, b"", longest, fed("fed 0 0 0", most, f"2 0 {most} {shown(longest)}", 1)),
+            (1, longest[:9], longest[9:], fed("fed 0 0 0", most - 9, f"2 0 {most} {shown(longest)}", 1)),
             (1, b"", b"\x01" * 8, fed(refused(2), 8, NONE, 2))):
         for room in (0, 1, len(good), 511, 512, 513, 1279, 1280, 1281, STATE_ROOM + 1, 2 * STATE_ROOM):
             lent = value if room >= most else unused(18, phase, len(held), held)
@@ -1109,11 +1262,11 @@ def wanted(family):
             yield "wanted", f"wanted 1 {held} {'ff' * held} {STATE_ROOM}", f"wanted {8 - held}"
 
 
-def streaming(family, name, sizes, data, items, number=0, index=0, used=None, phase=1, held=b""):
-    """A stream cut into pieces of these sizes; items are the login and the packets."""
+def streaming(family, name, sizes, data, items, end="0 0 0", used=None, phase=1, held=b""):
+    """A stream cut into pieces of these sizes; items are the login and the packets, end is the refusal's numbers."""
     used = len(data) if used is None else used
     told = [f"login {int(item[2:])}" if len(item) == 17 else f"packet {shown(item)}" for item in items]
-    end = f"end {number} {index} {used} family {family.number}"
+    end = f"end {end} {used} family {family.number}"
     answer = " ".join(("items", *told, end, *map(str, held_words(phase, held))))
     return name, f"stream {sizes} {shown(data)}", f"{answer} lent {answer}"
 
@@ -1136,19 +1289,20 @@ def streams(family):
         for sizes in ("1", "99999"):
             yield streaming(family, "beginning", sizes, data[:size], short[:done], phase=min(done, 1),
                             held=data[ends[done]:size])
-    closing = [(refusal, 0, header) for refusal, header in refused_headers(family)] + list(refused_packets(family))
-    for refusal, index, last in closing:
-        for sizes in ("1", "8", "99999"):
-            yield streaming(family, "closed", sizes, data + last + LOGIN, short, refusal, index, len(data + last), 2)
+    for *end, last in (*refused_headers(family), *refused_packets(family)):
+        end = " ".join(map(str, end))
+        for sizes in ("1", "8", "11,30", "99999"):
+            yield streaming(family, "closed", sizes, data + last + LOGIN, short, end, len(data + last), 2)
     for sizes in ("1", "16", "17", "99999"):
-        yield streaming(family, "login refused", sizes, bytes(17) + data, [], 15, 0, 17, 2)
-        yield streaming(family, "a second login", sizes, LOGIN + data, [LOGIN], 2, 0, 25, 2)
+        for at, login in refused_logins():
+            yield streaming(family, "login refused", sizes, login + data, [], f"15 0 {at}", 17, 2)
+        yield streaming(family, "a second login", sizes, LOGIN + data, [LOGIN], "2 0 0", 25, 2)
 
 
-PARTS = (beginnings, frames, checksums, codecs_and_counts, cuts, fields, counts_and_lengths, past_the_record, sizes,
-         wraps, tags, command_rules, imeis, lookups, long_records, twice, last_known, buffers, sample_contents, contents,
-         form_entries, form_rules, form_limits, walk_orders, head_orders, command_orders, everywhere, command_texts,
-         feeds, refused_states, starts, packet_rooms, wanted, streams)
+PARTS = (beginnings, frames, checksums, codecs_and_counts, cuts, fields, later_records, counts_and_lengths,
+         past_the_record, sizes, wraps, tags, command_rules, imeis, lookups, long_records, twice, last_known, buffers,
+         sample_contents, contents, form_entries, form_rules, form_limits, walk_orders, head_orders, command_orders,
+         everywhere, command_texts, feeds, refused_states, starts, packet_rooms, wanted, streams)
 
 
 def in_each_family(parts):

@@ -3,9 +3,9 @@
 P1 to P13 are the bench sheet of document 01; compare/vectors/006.txt holds the
 streams of document 006, compare/vectors/request-2.txt our own, for request 2 of
 document 02, samples/lines.txt the lines of samples. The expected answers are
-those of the papers, but for TLV forms and the packets behind them, which the
-reference makes. The calls are written here without the word of their family;
-`example_calls` puts it in.
+those of the papers, a refusal's offset that of request 6 by hand; but TLV forms
+and the packets behind them are made by the reference. The calls are written here
+without the word of their family; `example_calls` puts it in.
 """
 
 import os
@@ -38,22 +38,22 @@ def bench_calls():
     return [
         ("P1", f"form_of_datagram {SAMPLE} {'ee' * 45}", f"written 43 {SAMPLE_FORM}eeee"),
         ("P2", f"acknowledge_datagram {SAMPLE} {'ee' * 7}", "written 7 0005cafe010501"),
-        ("P3", f"read_datagram {changed(SAMPLE, 1, 0x37)}", "refused 4 0"),
-        ("P4", f"read_datagram {changed(SAMPLE, -1, 2)}", "refused 7 0"),
-        ("P5", f"read_datagram {changed(SAMPLE, 33, 3)}", "refused 10 0"),
-        ("P6", f"read_datagram {changed(SAMPLE, 50, 2)}", "refused 9 0"),
-        ("P7", f"read_datagram {changed(SAMPLE, 51, 2)}", "refused 8 0"),
-        ("P8", f"read_datagram {counts}", "refused 8 1"),
+        ("P3", f"read_datagram {changed(SAMPLE, 1, 0x37)}", "refused 4 0 0"),
+        ("P4", f"read_datagram {changed(SAMPLE, -1, 2)}", "refused 7 0 57"),
+        ("P5", f"read_datagram {changed(SAMPLE, 33, 3)}", "refused 10 0 33"),
+        ("P6", f"read_datagram {changed(SAMPLE, 50, 2)}", "refused 9 0 25"),
+        ("P7", f"read_datagram {changed(SAMPLE, 51, 2)}", "refused 8 0 57"),
+        ("P8", f"read_datagram {counts}", "refused 8 1 57"),
         ("P9", f"read_command {GETIO}", "accepted 12 5 0 15 5"),
-        ("P10", f"read_command {changed(GETIO, -1, 0xCA)}", "refused 5 0"),
-        ("P11", "read_packet -", "refused 1 0"),
-        ("P11", "read_command -", "refused 1 0"),
-        ("P12", "read_packet 0000000000000000", "refused 3 0"),
-        ("P12", "read_command 0000000000000000", "refused 3 0"),
-        ("P13", "read_packet 00000000000004f5", "refused 3 0"),
-        ("P13", "read_packet 00000000000004f4", "refused 4 0"),
-        ("P13", "read_command 00000000000004f5", "refused 3 0"),
-        ("P13", "read_command 00000000000004f4", "refused 4 0"),
+        ("P10", f"read_command {changed(GETIO, -1, 0xCA)}", "refused 5 0 21"),
+        ("P11", "read_packet -", "refused 1 0 0"),
+        ("P11", "read_command -", "refused 1 0 0"),
+        ("P12", "read_packet 0000000000000000", "refused 3 0 4"),
+        ("P12", "read_command 0000000000000000", "refused 3 0 4"),
+        ("P13", "read_packet 00000000000004f5", "refused 3 0 4"),
+        ("P13", "read_packet 00000000000004f4", "refused 4 0 0"),
+        ("P13", "read_command 00000000000004f5", "refused 3 0 4"),
+        ("P13", "read_command 00000000000004f4", "refused 4 0 0"),
         ("sample", f"read_datagram {SAMPLE}", "accepted 8 1 123456789012345 51966 1 5"),
         ("sample", f"record_in_datagram {SAMPLE} 0",
          "accepted 1000 1 -1 547146368 100 0 7 5 0 0 1"),
@@ -64,9 +64,9 @@ def bench_calls():
     ]
 
 
-def refused_calls(name, kind, text, number):
+def refused_calls(name, kind, text, number, offset):
     """An input that document 01 refuses, in each call that takes it."""
-    answer = f"refused {number} 0"
+    answer = f"refused {number} 0 {offset}"
     if kind == "command":
         return [(name, f"read_command {text}", answer), (name, f"command_text {text}", "bytes -")]
     calls = [f"read_{kind} {text}", f"record_in_{kind} {text} 0", f"value_in_{kind} {text} 0 0",
@@ -95,12 +95,12 @@ def both(family, value, lent=None):
 def packet_fed(name, text):
     """A packet fed whole to a connection that expects one."""
     size = len(text) // 2
-    return name, f"feed 1 0 - {ROOM} {text} {ROOM}", both(FAMILY, fed("fed 0 0", size, f"2 0 {size} {text}", 1))
+    return name, f"feed 1 0 - {ROOM} {text} {ROOM}", both(FAMILY, fed("fed 0 0 0", size, f"2 0 {size} {text}", 1))
 
 
 def login_calls(name, text, imei):
     return [(name, f"read_login {text}", f"accepted {imei}"),
-            (name, f"feed 0 0 - {ROOM} {text} {ROOM}", both(FAMILY, fed("fed 0 0", 17, f"1 {imei} 0 -", 1))),
+            (name, f"feed 0 0 - {ROOM} {text} {ROOM}", both(FAMILY, fed("fed 0 0 0", 17, f"1 {imei} 0 -", 1))),
             (name, f"answer_login {text} 1 ee", "written 1 01"),
             (name, f"answer_login {text} 0 ee", "written 1 00")]
 
@@ -133,7 +133,7 @@ def data_calls(name, kind, text, codec, count, reply):
             (name, f"packet_of_form {form.hex()} {'ee' * len(packet)}", f"written {len(packet)} {packet.hex()}"),
             (name, f"contents_of_{kind} {text} {'ee' * 512}", None),
             packet_fed(name, packet.hex()),
-            (name, f"record_in_{kind} {text} {count}", "refused 16 0")]
+            (name, f"record_in_{kind} {text} {count}", "refused 16 0 0")]
 
 
 def record_calls(name, kind, text, number, fields, elements):
@@ -141,7 +141,7 @@ def record_calls(name, kind, text, number, fields, elements):
     values = [item.lower().split("=") for item in elements]
     first = dict(reversed(values))      # of each ID
     calls = [(name, f"record_in_{kind} {text} {number}", f"accepted {' '.join(fields)} {len(values)}"),
-             (name, f"value_in_{kind} {text} {number} {len(values)}", "refused 16 0")]
+             (name, f"value_in_{kind} {text} {number} {len(values)}", "refused 16 0 0")]
     for place, (ident, value) in enumerate(values):
         for call, word, found in (("view", place, value), ("id_view", ident, first[ident])):
             calls.append((name, f"{call}_in_{kind} {text} {number} {word}", f"bytes {found or '-'}"))
@@ -159,7 +159,7 @@ def vector_calls(lines):
             continue
         side, text, told = kind, told[0].lower(), told[1:]
         if told[0] == "refused":
-            yield from refused_calls(name, side, text, told[1])
+            yield from refused_calls(name, side, text, *told[1::2])
         else:
             calls = {"login": login_calls, "command": command_calls}
             first = (name, text) if side in calls else (name, side, text)

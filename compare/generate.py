@@ -173,19 +173,21 @@ class Maker:
     def digits(self):
         return bytes(0x30 + self.upto(10) for _ in range(15))
 
-    def wrong_digit(self, imei):
+    def wrong_digits(self, imei):
+        """One wrong digit, or a few."""
         imei = bytearray(imei)
-        imei[self.upto(15)] = self.pick((0x00, 0x09, 0x20, 0x2F, 0x3A, 0x41, 0x61, 0xB5, 0xFF))
+        for _ in range(self.pick((1, 1, 2, 3))):
+            imei[self.upto(15)] = self.pick((0x00, 0x09, 0x20, 0x2F, 0x3A, 0x41, 0x61, 0xB5, 0xFF))
         return bytes(imei)
 
     def wrong_imei(self, imei):
-        """A login's bytes with a wrong length, a wrong digit, or both."""
+        """A login's bytes with a wrong length, wrong digits, or both."""
         style = self.rng.random()
         if style < 0.5:
             imei = self.pick((b"\x00\x00", b"\x00\x0e", b"\x00\x10", b"\x00\x11", b"\x0f\x00", b"\x01\x0f",
                               b"\x80\x0f", b"\xff\xff")) + imei[2:]
         if style > 0.4:
-            imei = imei[:2] + self.wrong_digit(imei[2:])
+            imei = imei[:2] + self.wrong_digits(imei[2:])
         return imei
 
     def buffer(self, size):
@@ -639,15 +641,16 @@ class Maker:
         return self.huge(data, 0.003)
 
     def wrong_packed(self, imei):
-        """An IMEI of sixteen digits with one that is not allowed."""
+        """An IMEI of sixteen digits with one that is not allowed, or a few."""
         imei = bytearray(imei)
-        place = self.upto(8)
-        if self.chance(0.4):
-            imei[0] |= self.pick((0x10, 0x10, 0x30, 0x80, 0x90, 0xA0, 0xF0))
-        elif self.chance(0.5):
-            imei[place] = imei[place] & 0xF0 | self.pick((0x0A, 0x0B, 0x0F))
-        else:
-            imei[place] = imei[place] & 0x0F | self.pick((0xA0, 0xB0, 0xF0))
+        for _ in range(self.pick((1, 1, 2, 3))):
+            place = self.upto(8)
+            if self.chance(0.4):
+                imei[0] |= self.pick((0x10, 0x10, 0x30, 0x80, 0x90, 0xA0, 0xF0))
+            elif self.chance(0.5):
+                imei[place] = imei[place] & 0xF0 | self.pick((0x0A, 0x0B, 0x0F))
+            else:
+                imei[place] = imei[place] & 0x0F | self.pick((0xA0, 0xB0, 0xF0))
         return bytes(imei)
 
     def login(self, valid=0.4):
@@ -686,8 +689,8 @@ class Maker:
                 text = self.bytes(self.pick((5000, 65536)))
         if 15 in aims:
             imei = self.pick((b"", b"0", self.digits()[:14], self.digits() + b"0", b"0" + self.digits(),
-                              self.wrong_digit(self.digits()), self.wrong_digit(self.digits()),
-                              self.digits(), self.wrong_digit(self.digits()) + b"7"))
+                              self.wrong_digits(self.digits()), self.wrong_digits(self.digits()),
+                              self.digits(), self.wrong_digits(self.digits()) + b"7"))
         return f"{codec} {kind} {shown(imei)} {shown(text)} {shown(self.buffer(size))}"
 
     # ------------------------------------------------------------ TLV forms

@@ -1,5 +1,5 @@
 #!/usr/bin/env python3
-"""A second implementation of the rules of document 01 and of requests 1, 2, 4 and 5 of document 02.
+"""A second implementation of the rules of document 01 and of requests 1, 2, 4, 5 and 6 of document 02.
 
     python3 reference.py     answers calls from standard input, one a line
 
@@ -72,12 +72,13 @@ Item = namedtuple("Item", "kind imei packet")
 
 
 class Refused(Exception):
-    """A refusal: its number and its record index. The place, a field or a part of
-    the rule, is no part of an answer: the comparison counts the places it reached."""
+    """A refusal: its number, its record index and the offset of the offending field
+    in the input. The place, a field or a part of the rule, is no part of an answer:
+    the comparison counts the places it reached."""
 
-    def __init__(self, number, index=0, place=""):
-        super().__init__(number, index, place)
-        self.number, self.index, self.place = number, index, place
+    def __init__(self, number, index=0, place="", offset=0):
+        super().__init__(number, index, place, offset)
+        self.number, self.index, self.place, self.offset = number, index, place, offset
 
 
 def family_of(number):
@@ -114,29 +115,29 @@ def crc16(data):
     return crc
 
 
-def ascii_imei(data):
-    """The number of an IMEI of 15 ASCII digits."""
-    if len(data) != 15:
-        raise Refused(15, place="length")
-    if not all(0x30 <= byte <= 0x39 for byte in data):
-        raise Refused(15, place="digit")
-    return int(data)
+def wrong_digits(data):
+    """The bytes, by number, that are no ASCII digits."""
+    return [place for place, byte in enumerate(data) if not 0x30 <= byte <= 0x39]
 
 
-def login_imei(data):
-    """The number of an IMEI of 15 ASCII digits after its length."""
+def login_imei(data, at):
+    """The number of an IMEI of 15 ASCII digits after its length; at is the offset of the data in the input."""
+    wrong = wrong_digits(data[2:])
     if big(data[:2]) != 15:
-        raise Refused(15, place="length")
-    return ascii_imei(data[2:])
+        raise Refused(15, place="length and digit" if wrong else "length", offset=at)
+    if wrong:
+        raise Refused(15, place="digit" if len(wrong) == 1 else "digits", offset=at + 2 + wrong[0])
+    return int(data[2:])
 
 
-def packed_imei(data):
-    """The number of an IMEI of sixteen digits, two a byte, the first of them 0."""
+def packed_imei(data, at):
+    """The number of an IMEI of sixteen digits, two a byte, the first of them 0; at as above."""
     digits = data.hex()
-    if digits[0] != "0":
-        raise Refused(15, place="first digit")
-    if not all(digit in "0123456789" for digit in digits):
-        raise Refused(15, place="digit")
+    wrong = [place for place, digit in enumerate(digits) if digit not in ("0123456789" if place else "0")]
+    if wrong:
+        first, last = wrong[0] // 2, wrong[-1] // 2
+        place = ("digit" if wrong[0] else "first digit") + (", others behind" if first != last else "")
+        raise Refused(15, place=place, offset=at + first)
     return int(digits)
 
 
@@ -151,7 +152,7 @@ class Space:
 
     def take(self, size, field):
         if self.end - self.at < size:
-            raise Refused(8, self.index, field)
+            raise Refused(8, self.index, field + (", in part" if self.at < self.end else ""), self.at)
         start = self.at
         self.at = start + size
         return self.data[start:self.at]
@@ -176,7 +177,7 @@ def read_record(space, widths, longest, index):
     timestamp = big(space.take(8, "timestamp"))
     priority = big(space.take(1, "priority"))
     if priority > 2:
-        raise Refused(10, index)
+        raise Refused(10, index, offset=space.at - 1)
     longitude = signed(space.take(4, "longitude"))
     latitude = signed(space.take(4, "latitude"))
     altitude = signed(space.take(2, "altitude"))
@@ -188,7 +189,7 @@ def read_record(space, widths, longest, index):
     if widths.generation:
         generation = big(space.take(widths.generation, "generation type"))
         if generation > 7:
-            raise Refused(11, index)
+            raise Refused(11, index, offset=space.at - 1)
     total = big(space.take(widths.count, "total"))
     elements = []
     for size in FIXED_KINDS:
@@ -197,9 +198,9 @@ def read_record(space, widths, longest, index):
         elements += read_elements(space, widths, None)
     if total != len(elements):      # variable values count too: so says request 2, not 006
         fixed = sum(element.kind != VARIABLE_KIND for element in elements)
-        raise Refused(9, index, "variable left out" if total == fixed else "")
+        raise Refused(9, index, "variable left out" if total == fixed else "", start)
     if longest is not None and space.at - start > longest:
-        raise Refused(12, index)
+        raise Refused(12, index, offset=start)
     return Record(timestamp, priority, longitude, latitude, altitude, angle,
                   satellites, speed, event, generation, elements, start, space.at - start)
 
@@ -208,14 +209,16 @@ def read_data_field(family, data, start, end):
     """A data field: codec, count, records, count. It has at least 3 bytes."""
     codec = data[start]
     if codec not in WIDTHS:
-        raise Refused(6)
-    count = data[start + 1]
-    if count == 0 or count != data[end - 1]:
-        raise Refused(7, place="differ" if count != data[end - 1] else "zero")
+        raise Refused(6, offset=start)
+    count, again = data[start + 1], data[end - 1]
+    if count == 0:
+        raise Refused(7, place="zero" if again == 0 else "first zero", offset=start + 1)
+    if count != again:
+        raise Refused(7, place="differ", offset=end - 1)
     space = Space(data, start + 2, end - 1)
     records = [read_record(space, WIDTHS[codec], family.record, index) for index in range(count)]
     if space.at != space.end:
-        raise Refused(8, count, "left over")
+        raise Refused(8, count, "left over", space.at)
     return codec, records
 
 
@@ -227,7 +230,7 @@ def check_header(family, data):
         raise Refused(2)
     length = big(data[4:8])
     if not 3 <= length <= family.packet - AROUND:
-        raise Refused(3, place="under" if length < 3 else "over")
+        raise Refused(3, place="under" if length < 3 else "over", offset=4)
     return length
 
 
@@ -239,7 +242,7 @@ def check_frame(family, data):
     if len(data) != size:
         raise Refused(4, place="missing" if len(data) < size else "too many")
     if big(data[-4:]) != crc16(data[8:-4]):
-        raise Refused(5, place="upper" if any(data[-4:-2]) else "lower")
+        raise Refused(5, place="upper" if any(data[-4:-2]) else "lower", offset=len(data) - 4)
 
 
 def read_packet(family, data):
@@ -254,7 +257,7 @@ def read_datagram(family, data):
         raise Refused(3)
     if len(data) != 2 + big(data[:2]):
         raise Refused(4, place="missing" if len(data) < 2 + big(data[:2]) else "too many")
-    imei = login_imei(data[6:23])
+    imei = login_imei(data[6:23], 6)
     codec, records = read_data_field(family, data, 23, len(data))
     return Datagram(codec, records, imei, big(data[2:4]), data[4], data[5])
 
@@ -264,31 +267,33 @@ def read_login(data):
         raise Refused(1)
     if len(data) > 17:
         raise Refused(4)
-    return login_imei(data)
+    return login_imei(data, 0)
 
 
 def read_command(family, data):
     check_frame(family, data)
     codec = data[8]
     if codec not in TYPES:
-        raise Refused(6)
-    if data[9] != 1 or data[-5] != 1:
-        raise Refused(7, place="first" if data[9] != 1 else "second")
+        raise Refused(6, offset=8)
+    if data[9] != 1:
+        raise Refused(7, place="first" if data[-5] == 1 else "both", offset=9)
+    if data[-5] != 1:
+        raise Refused(7, place="second", offset=len(data) - 5)
     space = Space(data, 10, len(data) - 5)
     kind = big(space.take(1, "type"))
     if kind not in TYPES[codec]:
-        raise Refused(13)
+        raise Refused(13, offset=10)
     size = big(space.take(4, "size"))
     if size != space.end - space.at:
-        raise Refused(14, place="size")
+        raise Refused(14, place="size", offset=11)
     imei = 0
     if codec == 0x0E:
         if size < 8:
-            raise Refused(14, place="under 8")
-        imei = packed_imei(space.take(8, "IMEI"))
+            raise Refused(14, place="under 8", offset=11)
+        imei = packed_imei(space.take(8, "IMEI"), space.at - 8)
     text = space.end - space.at
     if kind == NO_MATCH and text > 0:
-        raise Refused(14, place="text with 11")
+        raise Refused(14, place="text with 11", offset=space.at)
     return Command(codec, kind, imei, space.at, text)
 
 
@@ -515,16 +520,16 @@ def packet_of_form(family, form):
 # ---------------------------------------------------------------- writing commands and answers
 
 def write_command(family, codec, kind, imei, text):
+    """A command packet. What is refused here are arguments, so no offset goes with it."""
     if codec not in TYPES:
         raise Refused(6)
     if kind not in TYPES[codec]:
         raise Refused(13)
-    packed = b""
-    if codec == 0x0E:
-        ascii_imei(imei)
-        packed = bytes.fromhex("0" + imei.decode("ascii"))
-    elif imei:
+    if len(imei) != (15 if codec == 0x0E else 0):
         raise Refused(15, place="length")
+    if wrong_digits(imei):
+        raise Refused(15, place="digit")
+    packed = bytes.fromhex("0" + imei.decode("ascii")) if imei else b""
     body = packed + text
     field = bytes([codec, 1, kind]) + len(body).to_bytes(4, "big") + body + b"\x01"
     if AROUND + len(field) > family.packet:
@@ -681,6 +686,11 @@ def shown(data):
     return data.hex() or "-"
 
 
+def numbers_of(refusal):
+    """The number, the index and the offset of a refusal, 0 where there is none."""
+    return f"{refusal.number} {refusal.index} {refusal.offset}" if refusal else "0 0 0"
+
+
 def packet_words(family, data):
     packet = read_packet(family, data)
     return packet.codec, len(packet.records)
@@ -771,8 +781,8 @@ def state_words(number, *gathered):
 
 def start(number):
     connection, refusal = started(number)
-    head = f"refused {refusal.number} {refusal.index}" if refusal else "started 0 0"
-    return f"{head} {state_words(connection.family.number, *connection.state())}", refusal
+    head = "refused" if refusal else "started"
+    return f"{head} {numbers_of(refusal)} {state_words(connection.family.number, *connection.state())}", refusal
 
 
 def reset(number, *_):
@@ -782,8 +792,8 @@ def reset(number, *_):
 
 
 def fed_words(used, item, refusal):
-    head = f"refused {refusal.number} {refusal.index}" if refusal else "fed 0 0"
-    return f"{head} {used} {item.kind} {item.imei} {len(item.packet)} {shown(item.packet)}"
+    head = "refused" if refusal else "fed"
+    return f"{head} {numbers_of(refusal)} {used} {item.kind} {item.imei} {len(item.packet)} {shown(item.packet)}"
 
 
 def fed(number, phase, fill, held, data, room):
@@ -826,8 +836,7 @@ def stream(number, _, data):
         more, item, refusal = connection.feed(data[used:])
         used += more
         answer += ("", f" login {item.imei}", f" packet {shown(item.packet)}")[item.kind]
-    ended, index = (refusal.number, refusal.index) if refusal else (0, 0)
-    answer += f" end {ended} {index} {used} {state_words(connection.family.number, *connection.state())}"
+    answer += f" end {numbers_of(refusal)} {used} {state_words(connection.family.number, *connection.state())}"
     return f"{answer} lent {answer}", refusal
 
 
@@ -877,7 +886,7 @@ CALLS = {
     "stream": ("whole", "CSP", stream),
 }
 
-# How many fields an answer of C has besides the number and the index, all 0 on a refusal.
+# How many fields an answer of C has besides the number, the index and the offset, all 0 on a refusal.
 FIELDS = {
     "read_packet": 2, "read_datagram": 6, "read_login": 1, "read_command": 5, "record_in_packet": 11,
     "record_in_datagram": 11, "value_in_packet": 4, "value_in_datagram": 4, "id_in_packet": 4, "id_in_datagram": 4,
@@ -973,7 +982,7 @@ def evaluate(line):
         one = unit(words[0])
         return f"written {len(result) // one} {written(result, lent, one)}", behind
     except Refused as refusal:
-        text = f"refused {refusal.number} {refusal.index}"
+        text = f"refused {numbers_of(refusal)}"
         if answered == "view":
             text = "bytes -"
         elif answered in ("write", "receipt", "element"):
@@ -982,16 +991,16 @@ def evaluate(line):
 
 
 def flat(line, answer):
-    """An answer as the calls for C give it, every field of it: the number and the index, 0 and 0 for
+    """An answer as the calls for C give it, every field of it: the number, the index and the offset, all 0 for
     an accepted input, then the others, all 0 on a refusal. Views are not for C."""
     name = line.split()[0] if line.strip() else ""
     said, *words = answer.split()
     if said == "error" or name not in FIELDS:
         return answer
     if said == "refused":
-        words[2:2] = ["0"] * FIELDS[name]
+        words[3:3] = ["0"] * FIELDS[name]
     else:
-        words[:0] = ["0", "0"]
+        words[:0] = numbers_of(None).split()
     return " ".join((said, *words))
 
 
