@@ -4,6 +4,19 @@
 use crate::hand::{self, sum_of_bytes, sum_of_fields, sum_of_received, Answer, Connection};
 use brundilope::{Contents, DataDatagram, DataPacket, Family, Item, Records};
 
+/// Where an input is refused. The other sides do not work it out, so that it is not compared.
+#[repr(transparent)]
+#[derive(Clone, Copy, Debug, Default)]
+pub struct Place(usize);
+
+impl PartialEq for Place {
+    fn eq(&self, _: &Self) -> bool {
+        true
+    }
+}
+
+impl Eq for Place {}
+
 macro_rules! answer {
     ($name:ident { $($field:ident: $type:ty),* }) => {
         #[repr(C)]
@@ -11,6 +24,7 @@ macro_rules! answer {
         pub struct $name {
             pub number: usize,
             pub index: usize,
+            pub place: Place,
             $(pub $field: $type),*
         }
     };
@@ -45,6 +59,7 @@ answer!(Taken { used: usize, item: u8, imei: u64, size: usize, fill: usize, phas
 pub struct Fed {
     pub number: usize,
     pub index: usize,
+    pub place: Place,
     pub used: usize,
     pub item: u8,
     pub imei: u64,
@@ -251,7 +266,7 @@ macro_rules! shape {
         impl From<Answer<$from>> for $answer {
             fn from(a: Answer<$from>) -> Self {
                 match a {
-                    Ok($value) => $answer { number: 0, index: 0, $($field: $e),* },
+                    Ok($value) => $answer { $($field: $e,)* ..Default::default() },
                     Err(r) => $answer { number: usize::from(r.number), index: r.index, ..Default::default() },
                 }
             }
@@ -282,8 +297,8 @@ shape!((bool, hand::Value), a => Known {
 
 impl From<&Fed> for Taken {
     fn from(f: &Fed) -> Self {
-        let Fed { number, index, used, item, imei, size, .. } = *f;
-        Taken { number, index, used, item, imei, size, fill: f.state.fill, phase: f.state.phase }
+        let Fed { number, index, place, used, item, imei, size, .. } = *f;
+        Taken { number, index, place, used, item, imei, size, fill: f.state.fill, phase: f.state.phase }
     }
 }
 

@@ -18,7 +18,7 @@ int main(void) {
             struct brundilope_taken taken = brundilope_feed_at(&state, piece + at, size - at, packet, sizeof packet);
             at += taken.used;
             if (taken.number != 0) {
-                printf("refusal %zu\n", taken.number);
+                printf("refusal %zu, byte %zu\n", taken.number, taken.place); /* the byte of this item */
                 return 1;
             }
             if (taken.item == 1) printf("login of %015" PRIu64 "\n", taken.imei);

@@ -12,7 +12,7 @@ int main(void) {
     struct brundilope_written answer =
         brundilope_lines_of_packet(BRUNDILOPE_FAMILY_STANDARD, bytes, size, lines, sizeof lines);
     if (answer.number != 0) {
-        printf("refusal %zu\n", answer.number);
+        printf("refusal %zu, byte %zu\n", answer.number, answer.place);
         return 1;
     }
     return fwrite(lines, 1, answer.written, stdout) == answer.written ? 0 : 1;

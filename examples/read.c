@@ -11,9 +11,10 @@ int main(void) {
     size_t size = fread(bytes, 1, sizeof bytes, stdin);
 
     size_t family = BRUNDILOPE_FAMILY_STANDARD; /* all units but FMB640, FMB641, FMC640, FMM640 */
-    size_t refusal = brundilope_contents_of_packet(family, bytes, size, words, BRUNDILOPE_LARGEST_CONTENTS).number;
-    if (refusal != 0) {
-        printf("refusal %zu\n", refusal);
+    struct brundilope_written answer =
+        brundilope_contents_of_packet(family, bytes, size, words, BRUNDILOPE_LARGEST_CONTENTS);
+    if (answer.number != 0) {
+        printf("refusal %zu, byte %zu\n", answer.number, answer.place);
         return 1;
     }
     printf("codec %02X, records %u\n", brundilope_contents_codec(words), brundilope_contents_count(words));

@@ -37,7 +37,7 @@
  *    6  the codec
  *    7  the first count if that is 0 (a quantity: if it is not 1), else the second
  *    8  the first field whose bytes are not all there, each row of the layout being a field (an ID, a length, a value);
- *       or the first of the bytes that are left over. It may be where the input ends
+ *       or the first of the bytes that are left over; at the latest, the byte of the second count
  *    9  the record, as 12
  *   10  the priority
  *   11  the generation type
@@ -45,8 +45,9 @@
  *   14  the size; with type 0x11 the text
  *   15  the length of the IMEI; else the byte of its first wrong digit
  *
- * It is 0 with all other numbers, and where a writer refuses its own arguments (6, 13, 14, 15). A call that reads a
- * packet to write something else of it, or to look something up, gives the packet's own.
+ * There is always a byte of the input at it. It is 0 with all other numbers, and where a writer refuses its own
+ * arguments (6, 13, 14, 15). A call that reads a packet to write something else of it, or to look something up, gives
+ * the packet's own.
  *
  * A call that judges or builds a packet or datagram names the family of the unit as a number, its first argument; a
  * connection names it when it starts. There are two, and whatever family 1 accepts, family 2 accepts with the same

@@ -28,6 +28,7 @@ static struct brundilope_taken feed(const uint8_t *from, size_t size, size_t roo
     by_value = fed.state;
     HOLD(taken.number - fed.number, 0);
     HOLD(taken.index - fed.index, 0);
+    HOLD(taken.place - fed.place, 0);
     HOLD(taken.used - fed.used, 0);
     HOLD(taken.item - fed.item, 0);
     HOLD(taken.imei - fed.imei, 0);
@@ -64,6 +65,7 @@ static void log_in(size_t family) {
     struct brundilope_started started = brundilope_start(family);
     HOLD(started.number, 0);
     HOLD(started.index, 0);
+    HOLD(started.place, 0);
     put_empty(started.state, 0, (long long)family);
     HOLD(feed(bytes, LOGIN, sizeof packet).item, 1);
     HOLD(state.family, (long long)family);
@@ -101,10 +103,12 @@ static void refusal(size_t family) {
     expect(1, 7);
     struct brundilope_taken taken = feed(bytes + LOGIN + COMMAND + 7, 1, sizeof packet);
     HOLD(taken.number, 3);
+    HOLD(taken.place, 4);
     HOLD(taken.used, 1);
     expect(2, 0);
     taken = feed(bytes, LOGIN, sizeof packet);
     HOLD(taken.number, 19);
+    HOLD(taken.place, 0);
     HOLD(taken.used, 0);
     expect(2, 0);
 
@@ -113,11 +117,37 @@ static void refusal(size_t family) {
     expect(1, 0);
 }
 
+/* Places count from the item's first byte, wherever it is cut: a wrong digit of the login, a wrong CRC of a command
+ * behind another. */
+static void places(size_t family) {
+    uint8_t damaged[COMMAND];
+    memcpy(damaged, bytes, LOGIN);
+    damaged[12] = ':';
+    for (size_t cut = 0; cut < LOGIN; cut++) {
+        put_empty(brundilope_start(family).state, 0, (long long)family);
+        HOLD(feed(damaged, cut, sizeof packet).place, 0);
+        struct brundilope_taken taken = feed(damaged + cut, LOGIN - cut, sizeof packet);
+        HOLD(taken.number, 15);
+        HOLD(taken.place, 12);
+    }
+    memcpy(damaged, bytes + LOGIN, COMMAND);
+    damaged[COMMAND - 1] ^= 1;
+    for (size_t cut = 0; cut < COMMAND; cut++) {
+        log_in(family);
+        HOLD(feed(bytes + LOGIN, COMMAND, sizeof packet).place, 0);
+        HOLD(feed(damaged, cut, sizeof packet).place, 0);
+        struct brundilope_taken taken = feed(damaged + cut, COMMAND - cut, sizeof packet);
+        HOLD(taken.number, 5);
+        HOLD(taken.place, COMMAND - 4);
+    }
+}
+
 /* A start of no family is closed, and its reset is a fresh connection of family 1. */
 static void refused_start(size_t family) {
     struct brundilope_started started = brundilope_start(family);
     HOLD(started.number, 21);
     HOLD(started.index, 0);
+    HOLD(started.place, 0);
     put_empty(started.state, 2, BRUNDILOPE_FAMILY_640);
     HOLD(feed(NULL, 0, sizeof packet).number, 19);
     struct brundilope_taken taken = feed(bytes, LOGIN, sizeof packet);
@@ -198,6 +228,8 @@ int main(void) {
     items(BRUNDILOPE_FAMILY_640, LARGEST_640);
     refusal(BRUNDILOPE_FAMILY_STANDARD);
     refusal(BRUNDILOPE_FAMILY_640);
+    places(BRUNDILOPE_FAMILY_STANDARD);
+    places(BRUNDILOPE_FAMILY_640);
     static const size_t none[] = {0, 3, 255, 256, 257, 258, SIZE_MAX};
     for (size_t n = 0; n < sizeof none / sizeof *none; n++) refused_start(none[n]);
     lost_family(0);

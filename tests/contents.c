@@ -6,6 +6,7 @@
 #include "hold.h"
 
 enum { BARE = 8, BARE_SIZE = 32, WORDS = 2 + 4 * (BARE + 1) + 3 }; /* records before the last; their size */
+enum { PRIORITY = 25 + BARE * BARE_SIZE + 8 };                     /* of the last */
 
 static const uint8_t head[] = {0xC0, 0xDE, 0x5A, 0x69, 0x00, 0x0F, '1', '2', '3', '4', '5', '6',
                                '7',  '8',  '9',  '0',  '1',  '2',  '3', '4', '5', 0x10, BARE + 1};
@@ -40,9 +41,17 @@ int main(void) {
     uint64_t words[WORDS];
     size_t size = datagram(bytes);
     HOLD(brundilope_contents_of_datagram(3, bytes, size, words, 0).number, 21);
+    bytes[PRIORITY]++;
     struct brundilope_written answer =
         brundilope_contents_of_datagram(BRUNDILOPE_FAMILY_640, bytes, size, words, WORDS);
+    HOLD(answer.number, 10);
+    HOLD(answer.index, BARE);
+    HOLD(answer.place, PRIORITY);
+    HOLD(answer.written, 0);
+    bytes[PRIORITY]--;
+    answer = brundilope_contents_of_datagram(BRUNDILOPE_FAMILY_640, bytes, size, words, WORDS);
     HOLD(answer.number, 0);
+    HOLD(answer.place, 0);
     HOLD(answer.written, WORDS);
     if (wrong) return 1;
 

@@ -1,7 +1,7 @@
 /* Linked around five calls by the linker's --wrap, does what DAMAGE says: what the driver has to see. */
 #include "brundilope.h"
 
-enum { COUNT = 1, BEFORE, BEHIND, INPUT, WORD, STATE, FAMILY, SPARE, HELD, LENT };
+enum { COUNT = 1, PLACE, BEFORE, BEHIND, INPUT, WORD, STATE, FAMILY, SPARE, HELD, LENT };
 
 /* A call of the library, and the one around it, whose body follows. */
 #define AROUND(answer, call, ...)                                     \
@@ -12,6 +12,7 @@ enum { COUNT = 1, BEFORE, BEHIND, INPUT, WORD, STATE, FAMILY, SPARE, HELD, LENT 
 AROUND(packet, read_packet, size_t family, const uint8_t *p, size_t p_len) {
     struct brundilope_packet answer = __real_brundilope_read_packet(family, p, p_len);
     if (DAMAGE == COUNT && answer.number) answer.count = 1;
+    if (DAMAGE == PLACE) answer.place++;
     return answer;
 }
 

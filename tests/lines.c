@@ -8,6 +8,7 @@
 #include "hold.h"
 
 enum { FAMILY = BRUNDILOPE_FAMILY_STANDARD, ROOM = 64, SIZE = 143, RECORDS = 2, HEAD = 23, GRAM = HEAD + SIZE - 12 };
+enum { PRIORITY = 89 }; /* of the second record */
 
 /* samples/driver-tags.hex, the first name's bytes made odd: quote, comma, backslash, LF and 0xFF among them. */
 static uint8_t packet[] = {
@@ -196,6 +197,24 @@ static void refused(size_t family, const uint8_t *p, const uint8_t *gram, long l
     HOLD(brundilope_lines_of_datagram(family, gram, GRAM - 1, NULL, 0).number, number);
 }
 
+/* The second record's priority is wrong, and there is no room. */
+static void broken(uint8_t *p, uint8_t *gram) {
+    packet[PRIORITY] = 3;
+    put_crc();
+    memcpy(p, packet, SIZE);
+    memcpy(gram + HEAD, packet + 8, GRAM - HEAD);
+    for (size_t n = 0; n <= RECORDS; n++) {
+        struct brundilope_written of_packet = write_into(p, SIZE, n, NULL, 0);
+        struct brundilope_written of_gram = write_into(gram, GRAM, n, NULL, 0);
+        HOLD(of_packet.number, 10);
+        HOLD(of_gram.number, 10);
+        HOLD(of_packet.index, 1);
+        HOLD(of_gram.index, 1);
+        HOLD(of_packet.place, PRIORITY);
+        HOLD(of_gram.place, PRIORITY - 8 + HEAD);
+    }
+}
+
 int main(void) {
     put_crc();
     HOLD(sizeof packet, SIZE);
@@ -225,6 +244,7 @@ int main(void) {
     HOLD(brundilope_element_in_line(NULL, 0, 0, NULL, 0).number, 20);
     HOLD(brundilope_element_at(NULL, 0, 0, NULL, 0).number, 20);
     HOLD(brundilope_wrong_byte(NULL, 0), 0);
+    broken(p, gram);
     free(p);
     free(gram);
     return wrong;

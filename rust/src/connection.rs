@@ -7,7 +7,7 @@ use crate::contents::{Contents, DataPacket};
 use crate::family::Family;
 use crate::raw;
 use crate::reading::{read_command, Command, Login};
-use crate::refusal::{data_judged, judged, Refusal};
+use crate::refusal::{data_judged, input_judged, Refusal};
 use crate::LARGEST;
 
 /// What a connection expects.
@@ -74,7 +74,8 @@ impl Connection {
 
     /// Takes bytes up to the one that finishes or refuses an item, and none behind it: feed the rest again. If no item
     /// is finished, all bytes are used and held. Refusals 15 of the login; 2, 3 of a packet's first eight bytes, 5 to
-    /// 15 of the whole; 19 once the connection is closed.
+    /// 15 of the whole; 19 once the connection is closed. A refusal's offset is in the item, which is what was held
+    /// before and what is used now.
     ///
     /// ```
     /// use brundilope::{samples, Connection, Family, Fed, Item, Login};
@@ -111,8 +112,8 @@ impl Connection {
         };
         let taken = raw::feed(&mut self.0, bytes, packet);
         let judgement = match command {
-            true => judged(taken.number),
-            false => data_judged(taken.number, taken.index),
+            true => input_judged(taken.number, taken.place),
+            false => data_judged(taken.number, taken.index, taken.place),
         };
         match (judgement, taken.item) {
             (Err(refusal), _) => *item = Item::Refused(refusal),
@@ -288,7 +289,7 @@ pub enum Item {
     Data(ReceivedData),
     /// A command packet.
     Command(ReceivedCommand),
-    /// One that was refused, which closes the connection.
+    /// One that was refused, which closes the connection; the offset counts from its first byte.
     Refused(Refusal),
 }
 

@@ -60,7 +60,7 @@ struct Table<'a> {
 impl<'a> Table<'a> {
     #[inline]
     fn judged(family: Family, input: &'a [u8], (answer, words): (raw::Written, &'a [u64])) -> Result<Self, Refusal> {
-        data_judged(answer.number, answer.index)?;
+        data_judged(answer.number, answer.index, answer.place)?;
         Ok(Table { family, input, words })
     }
 
@@ -281,7 +281,7 @@ impl<'a> DataPacket<'a> {
     /// damaged[20] ^= 1;
     /// let mut room = Contents::new();
     /// let refusal = DataPacket::read(Family::Standard, &damaged, &mut room).unwrap_err();
-    /// assert_eq!(refusal.to_string(), "refusal 5: CRC field wrong");
+    /// assert_eq!(refusal.to_string(), "refusal 5 at byte 62: CRC field wrong");
     /// ```
     #[inline]
     pub fn read(family: Family, bytes: &'a [u8], room: &'a mut Contents) -> Result<Self, Refusal> {

@@ -52,7 +52,7 @@ impl TryFrom<u8> for Family {
         match number {
             1 => Ok(Family::Fmx640),
             2 => Ok(Family::Standard),
-            _ => Err(Refusal { number: 21, record: None }),
+            _ => Err(Refusal { number: 21, record: None, offset: None }),
         }
     }
 }

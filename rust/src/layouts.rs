@@ -32,21 +32,21 @@ fn layouts_are_those_of_the_header() {
     let by_value = |line: &&str| line.contains("(started,") || line.contains("(fed,");
     let told: Vec<&str> = told.lines().filter(|line| line.ends_with(')') && !by_value(line)).collect();
     let own = lines! {
-        Packet as "packet" { number, index, codec, count }
-        Datagram as "datagram" { number, index, codec, count, packet_id, unused, avl_packet_id, imei }
-        Login as "login" { number, index, imei }
-        Command as "command" { number, index, codec, message_type, imei, offset, size }
+        Packet as "packet" { number, index, place, codec, count }
+        Datagram as "datagram" { number, index, place, codec, count, packet_id, unused, avl_packet_id, imei }
+        Login as "login" { number, index, place, imei }
+        Command as "command" { number, index, place, codec, message_type, imei, offset, size }
         Record as "record" {
-            number, index, timestamp, priority, longitude, latitude, altitude, angle, satellites, speed, event,
+            number, index, place, timestamp, priority, longitude, latitude, altitude, angle, satellites, speed, event,
             generation, elements
         }
-        Value as "value" { number, index, id, kind, offset, size }
-        Known as "known" { number, index, older, id, kind, offset, size }
-        Written as "written" { number, index, written }
-        Line as "line" { number, index, timestamp, longitude, latitude, speed, elements, start }
-        LineElement as "line_element" { number, index, id, tag, value, size, next }
+        Value as "value" { number, index, place, id, kind, offset, size }
+        Known as "known" { number, index, place, older, id, kind, offset, size }
+        Written as "written" { number, index, place, written }
+        Line as "line" { number, index, place, timestamp, longitude, latitude, speed, elements, start }
+        LineElement as "line_element" { number, index, place, id, tag, value, size, next }
         Connection as "connection" { held, fill, phase, family }
-        Taken as "taken" { number, index, used, item, imei, size, fill, phase }
+        Taken as "taken" { number, index, place, used, item, imei, size, fill, phase }
     };
     assert_eq!(own.as_slice(), told.as_slice());
 }

@@ -2,8 +2,8 @@
 //! 12 and 14.
 //!
 //! The work is done by a library in Rattle, whose every call is proved against definitions of the protocol. This crate
-//! is a safe face of it: functions take slices and give structs, or a [`Refusal`] with its number, meaning and record.
-//! Every input gets an answer, and nothing is allocated unless an owned copy is asked for.
+//! is a safe face of it: functions take slices and give structs, or a [`Refusal`] with its number, meaning, record and
+//! byte. Every input gets an answer, and nothing is allocated unless an owned copy is asked for.
 //!
 //! What judges or builds a packet or datagram names the [`Family`] of the unit, whose limits hold. A [`DataPacket`] or
 //! [`DataDatagram`] is judged once and then has all its records and values at hand:

@@ -104,7 +104,7 @@ pub struct LastKnown<'a> {
 }
 
 fn record(a: raw::Record) -> Result<Record, Refusal> {
-    data_judged(a.number, a.index)?;
+    data_judged(a.number, a.index, a.place)?;
     Ok(Record {
         timestamp: a.timestamp,
         priority: a.priority,
@@ -121,7 +121,7 @@ fn record(a: raw::Record) -> Result<Record, Refusal> {
 }
 
 fn value(a: raw::Value, input: &[u8]) -> Result<Value<'_>, Refusal> {
-    data_judged(a.number, a.index)?;
+    data_judged(a.number, a.index, a.place)?;
     Ok(Value::new(input, a.id, a.kind, a.offset, a.size))
 }
 
@@ -227,7 +227,7 @@ pub fn id_in_datagram(family: Family, datagram: &[u8], record: usize, id: u16) -
 /// ```
 pub fn last_known<'a>(family: Family, newer: &'a [u8], older: &'a [u8], id: u16) -> Result<LastKnown<'a>, Refusal> {
     let a = raw::last_known(family, newer, older, id);
-    data_judged(a.number, a.index)?;
+    data_judged(a.number, a.index, a.place)?;
     let (source, input) = if a.older { (Source::Older, older) } else { (Source::Newer, newer) };
     Ok(LastKnown { source, value: Value::new(input, a.id, a.kind, a.offset, a.size) })
 }

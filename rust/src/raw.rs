@@ -8,6 +8,7 @@ use crate::{Family, LARGEST};
 pub struct Packet {
     pub number: usize,
     pub index: usize,
+    pub place: usize,
     pub codec: u8,
     pub count: u8,
 }
@@ -16,6 +17,7 @@ pub struct Packet {
 pub struct Datagram {
     pub number: usize,
     pub index: usize,
+    pub place: usize,
     pub codec: u8,
     pub count: u8,
     pub packet_id: u16,
@@ -28,6 +30,7 @@ pub struct Datagram {
 pub struct Login {
     pub number: usize,
     pub index: usize,
+    pub place: usize,
     pub imei: u64,
 }
 
@@ -35,6 +38,7 @@ pub struct Login {
 pub struct Command {
     pub number: usize,
     pub index: usize,
+    pub place: usize,
     pub codec: u8,
     pub message_type: u8,
     pub imei: u64,
@@ -46,6 +50,7 @@ pub struct Command {
 pub struct Record {
     pub number: usize,
     pub index: usize,
+    pub place: usize,
     pub timestamp: u64,
     pub priority: u8,
     pub longitude: i32,
@@ -63,6 +68,7 @@ pub struct Record {
 pub struct Value {
     pub number: usize,
     pub index: usize,
+    pub place: usize,
     pub id: u16,
     pub kind: u8,
     pub offset: usize,
@@ -73,6 +79,7 @@ pub struct Value {
 pub struct Known {
     pub number: usize,
     pub index: usize,
+    pub place: usize,
     pub older: bool,
     pub id: u16,
     pub kind: u8,
@@ -84,6 +91,7 @@ pub struct Known {
 pub struct Written {
     pub number: usize,
     pub index: usize,
+    pub place: usize,
     pub written: usize,
 }
 
@@ -91,6 +99,7 @@ pub struct Written {
 pub struct Line {
     pub number: usize,
     pub index: usize,
+    pub place: usize,
     pub timestamp: u64,
     pub longitude: i32,
     pub latitude: i32,
@@ -103,6 +112,7 @@ pub struct Line {
 pub struct LineElement {
     pub number: usize,
     pub index: usize,
+    pub place: usize,
     pub id: u16,
     pub tag: bool,
     pub value: u64,
@@ -123,6 +133,7 @@ pub struct Connection {
 pub struct Taken {
     pub number: usize,
     pub index: usize,
+    pub place: usize,
     pub used: usize,
     pub item: u8,
     pub imei: u64,

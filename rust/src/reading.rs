@@ -1,7 +1,7 @@
 //! Whole packets, datagrams, logins and commands.
 use crate::family::Family;
 use crate::raw;
-use crate::refusal::{data_judged, judged, Refusal};
+use crate::refusal::{data_judged, input_judged, Refusal};
 
 /// A TCP data packet.
 #[derive(Clone, Copy, Debug, PartialEq, Eq, Hash)]
@@ -80,11 +80,11 @@ pub(crate) fn view(input: &[u8], offset: usize, size: usize) -> &[u8] {
 ///
 /// let mut damaged = samples::CODEC8.to_vec();
 /// damaged[20] ^= 1;
-/// assert_eq!(read_packet(Family::Standard, &damaged), Err(Refusal { number: 5, record: None }));
+/// assert_eq!(read_packet(Family::Standard, &damaged), Err(Refusal { number: 5, record: None, offset: Some(62) }));
 /// ```
 pub fn read_packet(family: Family, packet: &[u8]) -> Result<Packet, Refusal> {
     let a = raw::read_packet(family, packet);
-    data_judged(a.number, a.index)?;
+    data_judged(a.number, a.index, a.place)?;
     Ok(Packet { codec: a.codec, count: a.count })
 }
 
@@ -101,7 +101,7 @@ pub fn read_packet(family: Family, packet: &[u8]) -> Result<Packet, Refusal> {
 /// ```
 pub fn read_datagram(family: Family, datagram: &[u8]) -> Result<Datagram, Refusal> {
     let a = raw::read_datagram(family, datagram);
-    data_judged(a.number, a.index)?;
+    data_judged(a.number, a.index, a.place)?;
     Ok(Datagram {
         codec: a.codec,
         count: a.count,
@@ -121,7 +121,7 @@ pub fn read_datagram(family: Family, datagram: &[u8]) -> Result<Datagram, Refusa
 /// ```
 pub fn read_login(login: &[u8]) -> Result<Login, Refusal> {
     let a = raw::read_login(login);
-    judged(a.number)?;
+    input_judged(a.number, a.place)?;
     Ok(Login { imei: a.imei })
 }
 
@@ -138,7 +138,7 @@ pub fn read_login(login: &[u8]) -> Result<Login, Refusal> {
 /// ```
 pub fn read_command(family: Family, packet: &[u8]) -> Result<Command<'_>, Refusal> {
     let a = raw::read_command(family, packet);
-    judged(a.number)?;
+    input_judged(a.number, a.place)?;
     Ok(Command {
         codec: a.codec,
         message_type: a.message_type,

@@ -10,7 +10,7 @@ fn written(a: raw::Written) -> Result<usize, Refusal> {
 
 /// What a writer gives whose input is a data packet or datagram.
 fn data_written(a: raw::Written) -> Result<usize, Refusal> {
-    data_judged(a.number, a.index)?;
+    data_judged(a.number, a.index, a.place)?;
     Ok(a.written)
 }
 

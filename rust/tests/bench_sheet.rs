@@ -54,12 +54,12 @@ fn with(input: &[u8], changes: &[(usize, u8)]) -> Vec<u8> {
     changed
 }
 
-const fn refused(number: usize) -> Answer {
-    Err(Refusal { number, record: None })
+const fn refused(number: usize, offset: Option<usize>) -> Answer {
+    Err(Refusal { number, record: None, offset })
 }
 
-const fn refused_at(record: usize, number: usize) -> Answer {
-    Err(Refusal { number, record: Some(record) })
+const fn refused_at(record: usize, number: usize, offset: usize) -> Answer {
+    Err(Refusal { number, record: Some(record), offset: Some(offset) })
 }
 
 type Row = (&'static str, fn(&[u8]) -> Answer, Vec<u8>, Answer);
@@ -71,21 +71,21 @@ fn sheet() -> [Row; 17] {
     [
         ("P1", form, DATAGRAM.to_vec(), Ok(FORM.to_vec())),
         ("P2", acknowledgement, DATAGRAM.to_vec(), Ok(vec![0x00, 0x05, 0xCA, 0xFE, 0x01, 0x05, 0x01])),
-        ("P3", datagram, changed(1, 0x37), refused(4)),
-        ("P4", datagram, changed(57, 2), refused(7)),
-        ("P5", datagram, changed(33, 3), refused_at(0, 10)),
-        ("P6", datagram, changed(50, 2), refused_at(0, 9)),
-        ("P7", datagram, changed(51, 2), refused_at(0, 8)),
-        ("P8", datagram, with(&DATAGRAM, &[(24, 2), (57, 2)]), refused_at(1, 8)),
+        ("P3", datagram, changed(1, 0x37), refused(4, None)),
+        ("P4", datagram, changed(57, 2), refused(7, Some(57))),
+        ("P5", datagram, changed(33, 3), refused_at(0, 10, 33)),
+        ("P6", datagram, changed(50, 2), refused_at(0, 9, 25)),
+        ("P7", datagram, changed(51, 2), refused_at(0, 8, 57)),
+        ("P8", datagram, with(&DATAGRAM, &[(24, 2), (57, 2)]), refused_at(1, 8, 57)),
         ("P9", command, getio.to_vec(), Ok(b"\x0C\x05getio".to_vec())),
-        ("P10", command, with(getio, &[(24, 0xCA)]), refused(5)),
-        ("P11 packet", packet, vec![], refused(1)),
-        ("P11 command", command, vec![], refused(1)),
-        ("P12 packet", packet, zeros.to_vec(), refused(3)),
-        ("P12 command", command, zeros.to_vec(), refused(3)),
-        ("P13 with 04 F5", packet, with(&zeros, &[(6, 0x04), (7, 0xF5)]), refused(3)),
-        ("P13 with 04 F4", packet, with(&zeros, &[(6, 0x04), (7, 0xF4)]), refused(4)),
-        ("P13 with 04 F4, command", command, with(&zeros, &[(6, 0x04), (7, 0xF4)]), refused(4)),
+        ("P10", command, with(getio, &[(24, 0xCA)]), refused(5, Some(21))),
+        ("P11 packet", packet, vec![], refused(1, None)),
+        ("P11 command", command, vec![], refused(1, None)),
+        ("P12 packet", packet, zeros.to_vec(), refused(3, Some(4))),
+        ("P12 command", command, zeros.to_vec(), refused(3, Some(4))),
+        ("P13 with 04 F5", packet, with(&zeros, &[(6, 0x04), (7, 0xF5)]), refused(3, Some(4))),
+        ("P13 with 04 F4", packet, with(&zeros, &[(6, 0x04), (7, 0xF4)]), refused(4, None)),
+        ("P13 with 04 F4, command", command, with(&zeros, &[(6, 0x04), (7, 0xF4)]), refused(4, None)),
     ]
 }
 

@@ -1,13 +1,10 @@
-//! What a wrong binding would get wrong: fields in another's place, offsets, records of refusals, lent buffers.
+//! What a wrong binding would get wrong: fields in another's place, views, refusals' records and bytes, lent buffers.
 use brundilope::*;
 use inputs::{datagram, form_of_counts, packet, with, DATA, LINES, LONGEST, LONGEST_640, RECORD, VALUES};
 
 mod inputs;
 
 const PRIORITY: usize = 48;
-const TOTAL: usize = 67;
-const VARIABLE_COUNT: usize = 100;
-const TAG: usize = 103;
 
 #[test]
 fn fields_stand_in_their_places() {
@@ -50,52 +47,35 @@ fn the_last_known_value_says_its_packet() {
     assert_eq!(found(Source::Newer, 0x0405), Ok((true, tag)));
     let voltage = Value { id: 66, kind: 2, offset: 43, bytes: &[0x5E, 0x0F], number: Some(24_079) };
     assert_eq!(found(Source::Older, 66), Ok((true, voltage)));
-    assert_eq!(found(Source::Older, 67), Err(Refusal { number: 16, record: None }));
+    assert_eq!(found(Source::Older, 67), Err(Refusal { number: 16, record: None, offset: None }));
 }
 
 #[test]
-fn a_refusal_says_its_record() {
+fn a_refusal_says_its_record_and_byte() {
     let priority = with(&DATA, PRIORITY, 3);
     let (p, d) = (&packet(&priority)[..], &datagram(&priority)[..]);
-    let refusal = Refusal { number: 10, record: Some(1) };
+    let [of_p, of_d] = [8, 23].map(|start| Refusal { number: 10, record: Some(1), offset: Some(start + PRIORITY) });
     let out = &mut [0; 512][..];
-    assert_eq!(read_packet(Family::Standard, p).err(), Some(refusal));
-    assert_eq!(read_datagram(Family::Standard, d).err(), Some(refusal));
-    assert_eq!(record_in_packet(Family::Standard, p, 0).err(), Some(refusal));
-    assert_eq!(record_in_datagram(Family::Standard, d, 0).err(), Some(refusal));
-    assert_eq!(value_in_packet(Family::Standard, p, 1, 0).err(), Some(refusal));
-    assert_eq!(value_in_datagram(Family::Standard, d, 1, 0).err(), Some(refusal));
-    assert_eq!(id_in_packet(Family::Standard, p, 1, 21).err(), Some(refusal));
-    assert_eq!(id_in_datagram(Family::Standard, d, 1, 21).err(), Some(refusal));
-    assert_eq!(DataPacket::read(Family::Standard, p, &mut Contents::new()).err(), Some(refusal));
-    assert_eq!(DataDatagram::read(Family::Standard, d, &mut Contents::new()).err(), Some(refusal));
-    assert_eq!(last_known(Family::Standard, p, samples::CODEC8, 21).err(), Some(refusal));
-    assert_eq!(last_known(Family::Standard, samples::CODEC8, p, 67).err(), Some(refusal));
-    assert_eq!(form_of_packet(Family::Standard, p, out), Err(refusal));
-    assert_eq!(form_of_datagram(Family::Standard, d, out), Err(refusal));
-    assert_eq!(line_of_packet(Family::Standard, p, 9, out), Err(refusal));
-    assert_eq!(line_of_datagram(Family::Standard, d, 9, out), Err(refusal));
-    assert_eq!(lines_of_packet(Family::Standard, p, out), Err(refusal));
-    assert_eq!(lines_of_datagram(Family::Standard, d, out), Err(refusal));
-    assert_eq!(acknowledge_datagram(Family::Standard, d, out), Err(refusal));
+    assert_eq!(read_packet(Family::Standard, p).err(), Some(of_p));
+    assert_eq!(read_datagram(Family::Standard, d).err(), Some(of_d));
+    assert_eq!(record_in_packet(Family::Standard, p, 0).err(), Some(of_p));
+    assert_eq!(record_in_datagram(Family::Standard, d, 0).err(), Some(of_d));
+    assert_eq!(value_in_packet(Family::Standard, p, 1, 0).err(), Some(of_p));
+    assert_eq!(value_in_datagram(Family::Standard, d, 1, 0).err(), Some(of_d));
+    assert_eq!(id_in_packet(Family::Standard, p, 1, 21).err(), Some(of_p));
+    assert_eq!(id_in_datagram(Family::Standard, d, 1, 21).err(), Some(of_d));
+    assert_eq!(DataPacket::read(Family::Standard, p, &mut Contents::new()).err(), Some(of_p));
+    assert_eq!(DataDatagram::read(Family::Standard, d, &mut Contents::new()).err(), Some(of_d));
+    assert_eq!(last_known(Family::Standard, p, samples::CODEC8, 21).err(), Some(of_p));
+    assert_eq!(last_known(Family::Standard, samples::CODEC8, p, 67).err(), Some(of_p));
+    assert_eq!(form_of_packet(Family::Standard, p, out), Err(of_p));
+    assert_eq!(form_of_datagram(Family::Standard, d, out), Err(of_d));
+    assert_eq!(line_of_packet(Family::Standard, p, 9, out), Err(of_p));
+    assert_eq!(line_of_datagram(Family::Standard, d, 9, out), Err(of_d));
+    assert_eq!(lines_of_packet(Family::Standard, p, out), Err(of_p));
+    assert_eq!(lines_of_datagram(Family::Standard, d, out), Err(of_d));
+    assert_eq!(acknowledge_datagram(Family::Standard, d, out), Err(of_d));
     assert_eq!(out, [0; 512]);
-}
-
-#[test]
-fn refusals_8_to_12_go_with_a_record() {
-    let codec16 = &samples::CODEC16[8..103];
-    let over_255_bytes = [&DATA[..TAG], &[0, 203], &[0; 203], &DATA[TAG + 5..]].concat();
-    let refused = [
-        (8, with(&DATA, VARIABLE_COUNT, 3)),
-        (9, with(&DATA, TOTAL, 4)), // without the variable values
-        (10, with(&DATA, PRIORITY, 3)),
-        (11, with(codec16, 74, 8)),
-        (12, over_255_bytes),
-    ];
-    for (number, data) in refused {
-        assert_eq!(read_packet(Family::Fmx640, &packet(&data)), Err(Refusal { number, record: Some(1) }));
-        assert_eq!(read_datagram(Family::Fmx640, &datagram(&data)), Err(Refusal { number, record: Some(1) }));
-    }
 }
 
 #[test]
@@ -105,16 +85,11 @@ fn the_total_counts_driver_tags() {
     assert_eq!(tag(0, 4), Ok((406, &b""[..])));
     assert_eq!(tag(1, 1), Ok((403, &b"Ona"[..])));
     assert_eq!(tag(1, 2), Ok((403, &b"Jonas"[..])));
-    for (record, total, without) in [(0, 29, 3), (1, 100, 1)] {
+    for (record, start, total, without) in [(0, 2, 29, 3), (1, 73, 100, 1)] {
         let old = with(&samples::DRIVER_TAGS[8..139], total, without);
-        assert_eq!(read_packet(Family::Standard, &packet(&old)), Err(Refusal { number: 9, record: Some(record) }));
+        let refusal = Refusal { number: 9, record: Some(record), offset: Some(8 + start) };
+        assert_eq!(read_packet(Family::Standard, &packet(&old)), Err(refusal));
     }
-}
-
-#[test]
-fn a_command_has_no_records() {
-    let type_missing = packet(&[0x0C, 0x01, 0x01]);
-    assert_eq!(read_command(Family::Standard, &type_missing), Err(Refusal { number: 8, record: None }));
 }
 
 #[test]
@@ -151,7 +126,7 @@ fn writers_keep_to_their_result() {
     ];
     for (n, (write, result)) in writers.iter().enumerate() {
         let mut short = vec![0xEE; result.len() - 1];
-        assert_eq!(write(&mut short), Err(Refusal { number: 18, record: None }), "writer {n}");
+        assert_eq!(write(&mut short), Err(Refusal { number: 18, record: None, offset: None }), "writer {n}");
         assert_eq!(short, vec![0xEE; result.len() - 1], "writer {n}, buffer too short");
         for more in [0, 3] {
             let mut out = vec![0xEE; result.len() + more];
@@ -208,12 +183,13 @@ fn all_samples_are_accepted() {
 #[test]
 fn meanings_are_those_of_the_header() {
     let header = include_str!("../../include/brundilope.h");
+    let meaning = |number| Refusal { number, record: None, offset: None }.meaning();
     for number in 1..=21 {
-        let meaning = Refusal { number, record: None }.meaning();
+        let meaning = meaning(number);
         let line = format!("\n *   {number:2}  {meaning}\n");
         assert!(header.contains(&line), "not in the header: {line}");
     }
-    assert_eq!(Refusal { number: 0, record: None }.meaning(), Refusal { number: 22, record: None }.meaning());
+    assert_eq!(meaning(0), meaning(22));
 }
 
 #[test]
@@ -235,6 +211,6 @@ fn sizes_are_those_of_the_header_and_the_library() {
     assert_eq!(write_command(Family::Standard, 0x0C, 0x05, b"", &text[1..], &mut out), Ok(LARGEST));
     assert_eq!(
         write_command(Family::Standard, 0x0C, 0x05, b"", &text, &mut out),
-        Err(Refusal { number: 14, record: None })
+        Err(Refusal { number: 14, record: None, offset: None })
     );
 }

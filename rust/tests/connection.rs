@@ -157,7 +157,7 @@ fn a_login_is_answered_as_by_itself() {
 
 /// The connection is closed, and says so as often as it is fed.
 fn stays_closed(connection: &mut Connection) {
-    let closed = Item::Refused(Refusal { number: 19, record: None });
+    let closed = Item::Refused(Refusal { number: 19, record: None, offset: None });
     let before = connection.clone();
     assert!(connection.is_closed());
     assert_eq!((connection.phase(), connection.held(), connection.wanted()), (Phase::Closed, &[][..], 0));
@@ -186,31 +186,31 @@ fn refused(fresh: &Connection, input: &[u8], used: usize, refusal: Refusal) {
 
 #[test]
 fn refusals_close() {
-    let no = |number| Refusal { number, record: None };
+    let no = |number, offset| Refusal { number, record: None, offset: Some(offset) };
     let login = with(samples::LOGIN, 16, b':');
-    refused(&Connection::new(Family::Standard), &login, 17, no(15));
-    refused(&Connection::new(Family::Standard), samples::CODEC8, 17, no(15));
+    refused(&Connection::new(Family::Standard), &login, 17, no(15, 16));
+    refused(&Connection::new(Family::Standard), samples::CODEC8, 17, no(15, 0));
     for (family, over) in [(Family::Fmx640, 501), (Family::Standard, 1269)] {
         for length in [0, 2, over, 1 << 24] {
             let header: Vec<u8> = [0; 4].into_iter().chain(u32::to_be_bytes(length)).collect();
-            refused(&logged_in(family), &header, 8, no(3));
+            refused(&logged_in(family), &header, 8, no(3, 4));
         }
     }
     let open = logged_in(Family::Standard);
-    refused(&open, samples::LOGIN, 8, no(2));
+    refused(&open, samples::LOGIN, 8, no(2, 0));
     let crc = with(samples::CODEC8, 65, 0);
-    refused(&open, &crc, 66, no(5));
+    refused(&open, &crc, 66, no(5, 62));
     let fields = [
-        (no(6), vec![0x0D, 1, 1]),
-        (no(7), vec![0x08, 0, 0]),
-        (Refusal { number: 8, record: Some(0) }, vec![0x08, 1, 1]),
-        (Refusal { number: 10, record: Some(1) }, with(&DATA, 48, 3)),
-        (no(7), vec![0x0C, 2, 2]),
-        (no(8), vec![0x0C, 1, 1]),
-        (no(8), vec![0x0E, 1, 1]),
-        (no(13), vec![0x0C, 1, 0x11, 0, 0, 0, 0, 1]),
-        (no(14), vec![0x0C, 1, 5, 0, 0, 0, 1, 1]),
-        (no(15), vec![0x0E, 1, 5, 0, 0, 0, 8, 0x10, 0, 0, 0, 0, 0, 0, 0, 1]),
+        (no(6, 8), vec![0x0D, 1, 1]),
+        (no(7, 9), vec![0x08, 0, 0]),
+        (Refusal { record: Some(0), ..no(8, 10) }, vec![0x08, 1, 1]),
+        (Refusal { record: Some(1), ..no(10, 56) }, with(&DATA, 48, 3)),
+        (no(7, 9), vec![0x0C, 2, 2]),
+        (no(8, 10), vec![0x0C, 1, 1]),
+        (no(8, 10), vec![0x0E, 1, 1]),
+        (no(13, 10), vec![0x0C, 1, 0x11, 0, 0, 0, 0, 1]),
+        (no(14, 11), vec![0x0C, 1, 5, 0, 0, 0, 1, 1]),
+        (no(15, 15), vec![0x0E, 1, 5, 0, 0, 0, 8, 0x10, 0, 0, 0, 0, 0, 0, 0, 1]),
     ];
     for (refusal, data) in fields {
         refused(&open, &packet(&data), data.len() + 12, refusal);
@@ -244,7 +244,7 @@ fn items_end_with_the_refusal() {
     let mut items = connection.items(&input);
     let given: Vec<Item> = items.by_ref().collect();
     assert_eq!(given.iter().take(2).map(bytes).collect::<Vec<_>>(), [samples::LOGIN, samples::CODEC8]);
-    assert_eq!(given[2..], [Item::Refused(Refusal { number: 2, record: None })]);
+    assert_eq!(given[2..], [Item::Refused(Refusal { number: 2, record: None, offset: Some(0) })]);
     assert_eq!((items.next(), items.used()), (None, 17 + 66 + 8));
     stays_closed(&mut connection);
 }

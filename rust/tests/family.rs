@@ -104,8 +104,8 @@ fn accepted(all: &[Given]) {
 }
 
 /// Every call refuses it alike.
-fn refused(all: &[Given], number: usize, record: Option<usize>) {
-    all.iter().for_each(|one| assert_eq!(*one, Err(Refusal { number, record })));
+fn refused(all: &[Given], number: usize, record: Option<usize>, offset: Option<usize>) {
+    all.iter().for_each(|one| assert_eq!(*one, Err(Refusal { number, record, offset })));
 }
 
 #[test]
@@ -113,7 +113,7 @@ fn families_have_their_numbers() {
     for number in 0..=u8::MAX {
         match Family::try_from(number) {
             Ok(family) => assert_eq!((u8::from(family), FAMILIES.contains(&family)), (number, true)),
-            Err(refusal) => assert_eq!(refusal, Refusal { number: 21, record: None }),
+            Err(refusal) => assert_eq!(refusal, Refusal { number: 21, record: None, offset: None }),
         }
     }
     assert_eq!(FAMILIES.map(u8::from), [1, 2]);
@@ -129,13 +129,13 @@ fn data_packets_and_datagrams_keep_to_the_limit() {
         assert_eq!((longest.len(), over.len()), (limit, limit + 1));
         accepted(&of_packet(family, &longest));
         assert_ne!(acknowledgement(family, &longest), [0; 4]);
-        refused(&of_packet(family, &over), 3, None);
+        refused(&of_packet(family, &over), 3, None, Some(4));
         assert_eq!(acknowledgement(family, &over), [0; 4]);
 
         let (longest, over) = (datagram(&data_of(limit - 23)), datagram(&data_of(limit - 22)));
         assert_eq!((longest.len(), over.len()), (limit, limit + 1));
         accepted(&of_datagram(family, &longest));
-        refused(&of_datagram(family, &over), 3, None);
+        refused(&of_datagram(family, &over), 3, None, None);
     }
 }
 
@@ -148,12 +148,12 @@ fn commands_keep_to_the_limit() {
         assert_eq!(write(family, limit, &mut longest), Ok(limit));
         assert_eq!(read_command(family, &longest).map(|command| command.text), Ok(&text[..limit - 20]));
         let mut none = vec![0xEE; limit + 1];
-        assert_eq!(write(family, limit + 1, &mut none), Err(Refusal { number: 14, record: None }));
+        assert_eq!(write(family, limit + 1, &mut none), Err(Refusal { number: 14, record: None, offset: None }));
         assert_eq!(none, vec![0xEE; limit + 1]);
     }
     let mut over = [0; 513];
     assert_eq!(write(Family::Standard, 513, &mut over), Ok(513));
-    assert_eq!(read_command(Family::Fmx640, &over), Err(Refusal { number: 3, record: None }));
+    assert_eq!(read_command(Family::Fmx640, &over), Err(Refusal { number: 3, record: None, offset: Some(4) }));
 }
 
 #[test]
@@ -164,8 +164,8 @@ fn only_records_of_the_640_are_limited() {
         accepted(&of_packet(family, &packet(&at_limit)));
         accepted(&of_datagram(family, &datagram(&at_limit)));
     }
-    refused(&of_packet(Family::Fmx640, &packet(&over)), 12, Some(1));
-    refused(&of_datagram(Family::Fmx640, &datagram(&over)), 12, Some(1));
+    refused(&of_packet(Family::Fmx640, &packet(&over)), 12, Some(1), Some(10 + 100));
+    refused(&of_datagram(Family::Fmx640, &datagram(&over)), 12, Some(1), Some(25 + 100));
     assert_eq!(acknowledgement(Family::Fmx640, &packet(&over)), [0; 4]);
     accepted(&of_packet(Family::Standard, &packet(&over)));
     accepted(&of_datagram(Family::Standard, &datagram(&over)));
@@ -180,7 +180,7 @@ fn only_records_of_the_640_are_limited() {
 
 #[test]
 fn forms_are_those_of_the_named_family() {
-    let refused = Err(Refusal { number: 17, record: None });
+    let refused = Err(Refusal { number: 17, record: None, offset: None });
     let mut out = [0; LARGEST];
     let mut packet_of = |family, counts: &[usize]| packet_of_form(family, &form_of_counts(counts), &mut out);
     assert_eq!(packet_of(Family::Fmx640, &LONGEST_640), Ok(512));
@@ -250,9 +250,9 @@ fn fed(family: Family, input: &[u8]) -> Fed {
 #[test]
 fn connections_keep_to_their_limits() {
     let (long_record, over) = (packet(&data(&[100, 256])), packet(&data_of(501)));
-    let refusal = Refusal { number: 12, record: Some(1) };
+    let refusal = Refusal { number: 12, record: Some(1), offset: Some(10 + 100) };
     assert_eq!(fed(Family::Fmx640, &long_record), Fed { used: long_record.len(), item: Item::Refused(refusal) });
-    let refusal = Refusal { number: 3, record: None };
+    let refusal = Refusal { number: 3, record: None, offset: Some(4) };
     assert_eq!(fed(Family::Fmx640, &over), Fed { used: 8, item: Item::Refused(refusal) });
     for input in [long_record, over] {
         let Item::Data(given) = fed(Family::Standard, &input).item else { panic!() };

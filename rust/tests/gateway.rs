@@ -128,11 +128,11 @@ fn what_is_refused_closes() {
     let kept = "unit: login of 356307042441014\nunit: closed, unknown unit\n";
     assert_eq!(whole(unknown), (vec![0], kept.to_string()));
     let no_login = b"\x00\x0F35630704244101x";
-    let kept = "unit: closed, refusal 15: IMEI length or digit wrong\n";
+    let kept = "unit: closed, refusal 15 at byte 16: IMEI length or digit wrong\n";
     assert_eq!(whole(no_login), (vec![0], kept.to_string()));
     let mut damaged = [LOGIN, CODEC8].concat();
     damaged[17 + 20] ^= 1;
-    let kept = "unit: login of 356307042441013\nunit: closed, refusal 5: CRC field wrong\n";
+    let kept = "unit: login of 356307042441013\nunit: closed, refusal 5 at byte 62: CRC field wrong\n";
     assert_eq!(whole(&damaged), (vec![1], kept.to_string()));
 }
 

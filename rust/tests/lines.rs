@@ -18,7 +18,7 @@ const DATAGRAM: [u8; 58] = [
 ];
 
 fn refused<T>(number: usize) -> Result<T, Refusal> {
-    Err(Refusal { number, record: None })
+    Err(Refusal { number, record: None, offset: None })
 }
 
 /// What a writer writes into a buffer that is just long enough, and not into a shorter one.

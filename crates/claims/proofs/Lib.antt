@@ -15,3 +15,6 @@ pub mod BillingLinesProof
 pub mod NeverLaws
 pub mod FamiliesProof
 pub mod FamilyLimitsProof
+pub mod PlaceLaws
+pub mod PlacesProof
+pub mod FieldPlacesProof

@@ -13,6 +13,8 @@ pub mod Feeds
 pub mod Connections
 pub mod Totals
 pub mod Families
+pub mod Places
+pub mod FieldPlaces
 pub mod FamilyLimits
 pub mod DriverTags
 pub mod Lines

@@ -31,13 +31,13 @@ pub enum Row {
     Unknown,
 }
 
-// A command's codec, type, IMEI (0 in codec 12), and its text's offset from the input's start and length.
+// A command's codec, type, IMEI (0 in codec 12), and its text's offset from the input's start and length. Words first: they stand where a refusal's words do, and bytes there would be read as a word just after they were written, which stalls.
 pub struct CommandFields {
-    pub codec: u8,
-    pub kind: u8,
     pub imei: u64,
     pub offset: usize,
     pub size: usize,
+    pub codec: u8,
+    pub kind: u8,
 }
 
 pub enum CommandAnswer {

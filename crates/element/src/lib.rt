@@ -11,13 +11,13 @@ ghost use Rattle.element.specs.Elements.{fixedSize, locateGroup, nth, fi
 ghost use Rattle.element.specs.Results.{recordResult};
 ghost use Rattle.element.specs.Search.{Readable, HasElements, ReadableElement, ReadableGroup, Finds, valueAt, searched, elementAs};
 
-// A record's fixed fields, and the number of its elements. Whole words first: a refusal stands in their place, and they are copied as words.
+// A record's fixed fields, and the number of its elements. Whole words first: a refusal's three words stand in their place, and they are copied as words. Latitude and longitude, which are the third, are stored as one in this order, as the packet has them byte by byte backwards.
 pub struct RecordFields {
     pub timestamp: u64,
     pub elements: usize,
-    pub priority: u8,
-    pub longitude: i32,
     pub latitude: i32,
+    pub longitude: i32,
+    pub priority: u8,
     pub altitude: i16,
     pub angle: u16,
     pub satellites: u8,

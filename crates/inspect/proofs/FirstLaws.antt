@@ -18,10 +18,10 @@ pub no-datagram : (limits : Limits) (p : List ℕ) {g : Datagram} → readDatagr
 unfolding readDatagram judgeHeader isConnection shows
 no-datagram limits p e =
     let i = onAccepted-accepted (judgeHeader (limits .datagram) p) _ e in
-    let c₀ = check-accepted _ 21 _ (i .1) in
-    let c₁ = check-accepted _ 1 _ (c₀ .1) in
-    let c₂ = check-accepted _ 3 _ (c₁ .1) in
-    let c₃ = check-accepted _ 4 _ (c₂ .1) in
+    let c₀ = check-accepted _ 21 _ _ (i .1) in
+    let c₁ = check-accepted _ 1 _ _ (c₀ .1) in
+    let c₂ = check-accepted _ 3 _ _ (c₁ .1) in
+    let c₃ = check-accepted _ 4 _ _ (c₂ .1) in
     let long : 26 ≤ length p = leb-true _ _ (c₁ .0) in
     let size : length p ≡ numberAt p 0 2 + 2 = eqb-true _ _ (c₃ .0) in
     let other : shows p 0 2 15 ≡ false = simp (le-leb 2 (length p) (omega (arith, long)), ne-eqb (numberAt p 0 2) 15 (λ q. omega (arith, q, long, size))) in

@@ -42,12 +42,13 @@ inspect write MESSAGE IMEI TEXT  the same of codec 14\n\
 inspect help                     this text\n\
 inspect family N ..              any of these by the limits of family N, 1 or 2; of family 2 if left out\n\
 KIND: packet, datagram, login, command, form, connection, line, or auto (found out, also if left out)\n\
-connection: a login and packets one behind another, shown item by item; its bytes count from 0\n\
+connection: a login and packets one behind another, item by item; bytes count from 0, a refusal's from its item's start\n\
 line: billing lines, shown one by one; taken as they are, never as hex text; lines and bytes count from 0\n\
 family 1: units of the 640 family, at most 512 bytes a packet and 255 a record; 2: all others, 1,280 bytes\n\
 FILE: at most 65536 bytes, hex text or as they are; standard input if left out or -\n\
 MESSAGE: 12 or 14 (a command), 12-response, 14-response, 14-mismatch (IMEI doesn't match)\n\
-A refusal is a line 'refused: NUMBER ..' on standard output. The exit status says nothing.\n",
+A refusal is a line 'refused: NUMBER ..' on standard output. At 'byte N' the offending field starts; the next line shows\n\
+this byte in brackets, among those around it. The exit status says nothing.\n",
     );
 }
 

@@ -114,7 +114,7 @@ abbrev sizeOf : Source → Placed → ℕ
 sizeOf x r = length (recordBytes (widthsOf (x .content .codec)) (r .content))
 
 abbrev asPart : Source → Placed → Part
-asPart x r = Part.Of (x .content .codec) (r .start) (r .start + sizeOf x r) (elementCount (r .content .groups))
+asPart x r = Part.Of (x .content .codec) (r .start) (elementCount (r .content .groups)) (r .start + sizeOf x r)
 
 record Lies (longest : ℕ) (p : List ℕ) (source : Answer Source) (number : Source → ℕ) (part : Part) : Type 0 where
   origin : Source
@@ -134,10 +134,10 @@ module _ {longest : ℕ} {p : List ℕ} {source : Answer Source} {number : Sourc
 
 -- what a part that is a record gives, and that of a refused part
 abbrev Standing : List ℕ → Part → Type 0
-Standing p (Part.Of codec start end count) = RecordAt p codec start end count
+Standing p (Part.Of codec start count end) = RecordAt p codec start end count
 Standing p (Part.Refused r) = Unit {0}
 
-lies-in : {longest : ℕ} {p : List ℕ} {source : Answer Source} {number : Source → ℕ} {codec start end count : ℕ} → Lies longest p source number (Part.Of codec start end count)
+lies-in : {longest : ℕ} {p : List ℕ} {source : Answer Source} {number : Source → ℕ} {codec start end count : ℕ} → Lies longest p source number (Part.Of codec start count end)
     → RecordAt p codec start end count
 lies-in {longest} {p} {source} {number} h =
     subst (Standing p) (h .is)
@@ -151,7 +151,7 @@ lies-in {longest} {p} {source} {number} h =
 -- ---- what holds of a part
 
 abbrev Made : {B : Type 0} → List ℕ → (ℕ → Placed → Answer B) → (Answer B → Type 0) → Part → Type 0
-Made p f Holds (Part.Of codec start end count) =
+Made p f Holds (Part.Of codec start count end) =
     (x : AvlRecord) (n : ℕ) → plainRecord (widthsOf codec) (part p start (end - start)) 0 ≡ got x n → Holds (f codec (record { start = start; content = x }))
 Made p f Holds (Part.Refused r) = Unit {0}
 
@@ -163,7 +163,7 @@ module _ {B : Type 0} {p : List ℕ} {q : Part} {f : ℕ → Placed → Answer B
         passed = λ x k. let same : r ≡ x = cc in subst (λ (y : Refusal). Holds (refused y)) same h;
       }
 
-  pub of-record : {codec start end count : ℕ} → q ≡ Part.Of codec start end count
+  pub of-record : {codec start end count : ℕ} → q ≡ Part.Of codec start count end
       → ((x : AvlRecord) (n : ℕ) → plainRecord (widthsOf codec) (part p start (end - start)) 0 ≡ got x n → Holds (f codec (record { start = start; content = x })))
       → OfPart p q f Holds
   of-record e h =
@@ -200,7 +200,7 @@ view-start (ValueAnswer.Refused r) (refused x) e = refl
 
 module _ {longest : ℕ} {p : List ℕ} {source : Answer Source} (stored : (x : Source) → source ≡ accepted x → Stored longest p x) (number : Source → ℕ) where
   lies : {codec start end count : ℕ} → accepted (record { codec = codec; start = start; end = end; elements = count }) ≡ partAt number source
-      → Lies longest p source number (Part.Of codec start end count)
+      → Lies longest p source number (Part.Of codec start count end)
   unfolding partOf onAccepted
   lies {codec} {start} {end} {count} e =
       let i = onAccepted-accepted source _ (sym e) in
@@ -213,7 +213,7 @@ module _ {longest : ℕ} {p : List ℕ} {source : Answer Source} (stored : (x : 
         accepts = i .1;
         placed = j .0;
         found = j .1;
-        is = ap (λ (r : PartResult). Part.Of (r .codec) (r .start) (r .end) (r .elements)) same;
+        is = ap (λ (r : PartResult). Part.Of (r .codec) (r .start) (r .elements) (r .end)) same;
       }
 
   pub part-in : (q : Part) → partAs q ≡ partAt number source → PartIn p q
@@ -230,7 +230,7 @@ module _ {longest : ℕ} {p : List ℕ} {source : Answer Source} (stored : (x : 
   pub part-answer : {B : Type 0} {f : ℕ → Placed → Answer B} {Holds : Answer B → Type 0} (q : Part) → partAs q ≡ partAt number source → OfPart p q f Holds
       → Holds (onAccepted source (λ x. onAccepted (placedRecord x (number x)) (f (x .content .codec))))
   unfolding partAs
-  part-answer {B} {f} {Holds} (Part.Of codec start end count) e k =
+  part-answer {B} {f} {Holds} (Part.Of codec start count end) e k =
       let h = lies e in
       subst Holds (sym (onAccepted-passed source _ (h .accepts) ∙ onAccepted-passed (placedRecord (h .origin) (number (h .origin))) _ (h .found)))
       (k .made _ _ _ _ (sym (h .is)) _ _ (reads h))
@@ -314,7 +314,7 @@ module _ {p : List ℕ} {codec start end count : ℕ} (h : RecordAt p codec star
   searched : Finds (widthsOf codec) (part p start (end - start)) look answer
   searched = rw same at found
 
-  pub value-found : Sixteen look → {q : Part} {r : ValueAnswer} → q ≡ Part.Of codec start end count → r ≡ shifted start answer → ValueIn p q look r
+  pub value-found : Sixteen look → {q : Part} {r : ValueAnswer} → q ≡ Part.Of codec start count end → r ≡ shifted start answer → ValueIn p q look r
   value-found sixteen e is =
       of-record e (λ x n k. ap valueAs (is ∙ ap (shifted start) (searched x n k)) ∙ shifted-found _ (look (elements (widthsOf codec) x)) (sixteen (elements (widthsOf codec) x)))
 
@@ -343,7 +343,7 @@ pub record Walked (source : Answer Source) (base n codec count : ℕ) (span : Sp
   pub spanIs : spanOf (widthsOf (content .codec)) n 0 (content .records) ≡ span
 
 module _ {source : Answer Source} {base n codec count : ℕ} {span : Span} (h : Walked source base n codec count span) where
-  pub walked-part : n < count → partAs (Part.Of codec (base + span .start) (base + span .end) (span .elements)) ≡ partOf source n
+  pub walked-part : n < count → partAs (Part.Of codec (base + span .start) (span .elements) (base + span .end)) ≡ partOf source n
   unfolding partAs
   walked-part k =
       sym (ap (λ (s : Answer Source). partOf s n) (h .accepts)

@@ -52,7 +52,7 @@ unfoldable pub lastPart : Answer Source → Answer PartResult
 lastPart source = onAccepted source (λ x. partOf (accepted x) (length (x .content .records) - 1))
 
 unfoldable pub partAs : Part → Answer PartResult
-partAs (Part.Of codec start end elements) = accepted (record { codec = codec; start = start; end = end; elements = elements })
+partAs (Part.Of codec start elements end) = accepted (record { codec = codec; start = start; end = end; elements = elements })
 partAs (Part.Refused r) = refused r
 
 -- from `start` to `end` the input has a record of this codec, which can be read and has so many elements
@@ -64,11 +64,11 @@ pub record RecordAt (p : List ℕ) (codec start end elements : ℕ) : Type 0 whe
 
 -- the part is a record of the input
 pub record PartIn (p : List ℕ) (q : Part) : Type 0 where
-  pub stands : (codec start end elements : ℕ) → q ≡ Part.Of codec start end elements → RecordAt p codec start end elements
+  pub stands : (codec start end elements : ℕ) → q ≡ Part.Of codec start elements end → RecordAt p codec start end elements
 
 -- what is so of the answer that `f` makes of the record that the part is, or of the part's refusal
 pub record OfPart {B : Type 0} (p : List ℕ) (q : Part) (f : ℕ → Placed → Answer B) (Holds : Answer B → Type 0) : Type 0 where
-  pub made : (codec start end elements : ℕ) → q ≡ Part.Of codec start end elements → (x : AvlRecord) (n : ℕ)
+  pub made : (codec start end elements : ℕ) → q ≡ Part.Of codec start elements end → (x : AvlRecord) (n : ℕ)
       → plainRecord (widthsOf codec) (part p start (end - start)) 0 ≡ got x n → Holds (f codec (record { start = start; content = x }))
   pub passed : (r : Refusal) → q ≡ Part.Refused r → Holds (refused r)
 

@@ -28,13 +28,13 @@ pub enum KnownAnswer {
     Refused(Refusal),
 }
 
-// A record as a part of the input: its codec, its first byte, the one behind its last, the number of its elements.
+// A record as a part of the input: its codec, its first byte, the number of its elements, the byte behind its last. Start and end apart: side by side they are read as one from where each was just written, which stalls.
 pub enum Part {
     Of {
         codec: u8,
         start: usize,
-        end: usize,
         elements: usize,
+        end: usize,
     },
     Refused(Refusal),
 }
@@ -51,8 +51,8 @@ pub fn packet_part(family: usize, p: &[u8], n: usize) -> Part
                 return Part::Of {
                     codec: codec as u8,
                     start: 10 + span.start,
-                    end: 10 + span.end,
                     elements: span.elements,
+                    end: 10 + span.end,
                 };
             }
             Part::Refused(Refusal {
@@ -74,8 +74,8 @@ pub fn datagram_part(family: usize, p: &[u8], n: usize) -> Part
                 return Part::Of {
                     codec: codec as u8,
                     start: 25 + span.start,
-                    end: 25 + span.end,
                     elements: span.elements,
+                    end: 25 + span.end,
                 };
             }
             Part::Refused(Refusal {
@@ -112,8 +112,8 @@ fn record_in(p: &[u8], part: Part) -> RecordAnswer
         Part::Of {
             codec,
             start,
-            end,
             elements,
+            end,
         } => RecordAnswer::Fields(element::fields_of(
             walk::widths_of(codec),
             &p[start..end],
@@ -166,8 +166,8 @@ fn number_in(p: &[u8], part: Part, k: usize) -> ValueAnswer
         Part::Of {
             codec,
             start,
-            end,
             elements: _,
+            end,
         } => moved(
             start,
             element::nth_element(walk::widths_of(codec), &p[start..end], k),
@@ -185,8 +185,8 @@ fn id_in(p: &[u8], part: Part, id: u16) -> ValueAnswer
         Part::Of {
             codec,
             start,
-            end,
             elements: _,
+            end,
         } => moved(
             start,
             element::find_id(walk::widths_of(codec), &p[start..end], id),

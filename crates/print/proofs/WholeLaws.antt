@@ -135,7 +135,7 @@ line-made codec {w} {s} {before} {after} {r} is h x n e =
     let made : WritesLine (widthsOf codec) s before after r = subst (λ (v : Widths). WritesLine v s before after r) is h in
     (made .answer x n e, made .buffer x n e)
 
-part-source : (source : Answer Source) (n : ℕ) {q : Part} → partAs q ≡ partOf source n → (codec start end elements : ℕ) → q ≡ Part.Of codec start end elements → (x : Source) × (source ≡ accepted x)
+part-source : (source : Answer Source) (n : ℕ) {q : Part} → partAs q ≡ partOf source n → (codec start end elements : ℕ) → q ≡ Part.Of codec start elements end → (x : Source) × (source ≡ accepted x)
 unfolding partAs partOf
 part-source source n e codec start end elements is =
     let i = onAccepted-accepted source _ (sym (sym (ap partAs is) ∙ e)) in

@@ -51,7 +51,7 @@ pub record WritesLine (w : Widths) (s before after : List ℕ) (r : Written) : T
 
 -- the input of a record is short
 abbrev pub ShortPart : List ℕ → Part → Type 0
-ShortPart p q = (codec start end elements : ℕ) → q ≡ Part.Of codec start end elements → length p < 2 ^ 32
+ShortPart p q = (codec start end elements : ℕ) → q ≡ Part.Of codec start elements end → length p < 2 ^ 32
 
 -- the line of the record that the part is, or the part's refusal
 abbrev pub LineIn : List ℕ → Part → List ℕ → List ℕ → Written → Type 0

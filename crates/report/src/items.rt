@@ -1,8 +1,8 @@
 // The items of a connection, each behind a line that says where it stands. Bytes are counted from 0.
 ghost use mathlib.Core.Path.{_≡_};
 ghost use Rattle.connection.specs.Feeding.{itemRefusal};
+use crate::Judged;
 use crate::refuse;
-use crate::refuse_data;
 use crate::say_imei;
 use crate::show_command;
 use crate::show_packet;
@@ -59,11 +59,12 @@ fn say_whole(family: usize, p: &[u8]) -> usize {
     show_packet(family, p)
 }
 
+// The refusal of a packet; that of a login, 15, is said alike by both.
 fn refuse_item(s: &[u8], r: Refusal) -> usize
     ensures { λ n. ⌜ n ≡ r .number ⌝ }
 {
     if is_command(s) {
-        return refuse(r);
+        return refuse(Judged::Command, s, r);
     }
-    refuse_data(r)
+    refuse(Judged::Packet, s, r)
 }

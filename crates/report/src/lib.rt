@@ -18,6 +18,7 @@ use packet::PacketAnswer;
 use records::say_records;
 use records::show_line;
 use say::say;
+use say::say_around;
 use say::say_bytes;
 use say::say_hex;
 use say::say_line;
@@ -54,26 +55,54 @@ unknown family\n",
     );
 }
 
-fn refuse(r: Refusal) -> usize
-    ensures { λ n. ⌜ n ≡ r .number ⌝ }
-{
-    say(b"refused: %1: ", &[r.number as u64]);
-    say_meaning(r.number);
-    r.number
+// What was judged. The others are TLV forms, billing lines and a writer's arguments.
+enum Judged {
+    Packet,
+    Datagram,
+    Command,
+    Login,
+    Other,
 }
 
-// The refusal of data: the record's index goes with 8 to 12.
-fn refuse_data(r: Refusal) -> usize
+// Whether a refusal has a place in the input: 2, 3 and 5 to 15, but for 3 of a datagram.
+fn has_place(what: Judged, number: usize) -> bool {
+    match what {
+        Judged::Other => false,
+        Judged::Datagram => 5 <= number && number <= 15,
+        _ => 2 <= number && number <= 15 && number != 4,
+    }
+}
+
+// The record's index goes with 8 to 12 of data.
+fn has_index(what: Judged, number: usize) -> bool {
+    match what {
+        Judged::Packet | Judged::Datagram => 8 <= number && number <= 12,
+        _ => false,
+    }
+}
+
+fn say_where(what: Judged, r: Refusal) {
+    if has_index(what, r.number) {
+        say(b" at record %1, byte %1", &[r.index as u64, r.place as u64]);
+    } else {
+        say(b" at byte %1", &[r.place as u64]);
+    }
+}
+
+// A refusal of `p`, and the bytes around its place if it has one.
+fn refuse(what: Judged, p: &[u8], r: Refusal) -> usize
     ensures { λ n. ⌜ n ≡ r .number ⌝ }
 {
-    if r.number < 8 || 12 < r.number {
-        return refuse(r);
+    let placed = has_place(what, r.number);
+    say(b"refused: %1", &[r.number as u64]);
+    if placed {
+        say_where(what, r);
     }
-    say(
-        b"refused: %1 at record %1: ",
-        &[r.number as u64, r.index as u64],
-    );
+    say(b": ", &[]);
     say_meaning(r.number);
+    if placed {
+        say_around(p, r.place);
+    }
     r.number
 }
 
@@ -107,7 +136,7 @@ pub fn show_packet(family: usize, p: &[u8]) -> usize
     ensures { λ r. ⌜ r ≡ packetRefusal family (now (p .entry)) ⌝ }
 {
     match packet::read_packet(family, p) {
-        PacketAnswer::Refused(r) => refuse_data(r),
+        PacketAnswer::Refused(r) => refuse(Judged::Packet, p, r),
         PacketAnswer::Accepted { codec, count } => {
             let mut answer = [0u8; 4];
             packet::acknowledge_packet(family, p, &mut answer);
@@ -123,7 +152,7 @@ pub fn show_datagram(family: usize, p: &[u8]) -> usize
     ensures { λ r. ⌜ r ≡ datagramRefusal family (now (p .entry)) ⌝ }
 {
     match datagram::read_datagram(family, p) {
-        DatagramAnswer::Refused(r) => refuse_data(r),
+        DatagramAnswer::Refused(r) => refuse(Judged::Datagram, p, r),
         DatagramAnswer::Accepted {
             codec,
             count,
@@ -152,7 +181,7 @@ pub fn show_login(p: &[u8]) -> usize
     ensures { λ r. ⌜ r ≡ loginRefusal (now (p .entry)) ⌝ }
 {
     match login::read_login(p) {
-        LoginAnswer::Refused(r) => refuse(r),
+        LoginAnswer::Refused(r) => refuse(Judged::Login, p, r),
         LoginAnswer::Imei(imei) => {
             say_imei(imei);
             0
@@ -171,7 +200,7 @@ pub fn show_command(family: usize, p: &[u8]) -> usize
     ensures { λ r. ⌜ r ≡ commandRefusal family (now (p .entry)) ⌝ }
 {
     match command::read_command(family, p) {
-        CommandAnswer::Refused(r) => refuse(r),
+        CommandAnswer::Refused(r) => refuse(Judged::Command, p, r),
         CommandAnswer::Accepted(f) => {
             say(b"TCP command packet, %1 bytes", &[p.len() as u64]);
             say_message(f);
@@ -267,10 +296,12 @@ pub fn show_connection(family: usize, p: &[u8]) -> usize
     ensures { λ r. ⌜ r ≡ connectionRefusal family (now (p .entry)) ⌝ }
 {
     if wire::limits_of(family).largest < 1 {
-        return refuse(Refusal {
+        let unknown = Refusal {
             number: 21,
             index: 0,
-        });
+            place: 0,
+        };
+        return refuse(Judged::Other, p, unknown);
     }
     show_feeds(family, p)
 }
@@ -310,7 +341,7 @@ pub fn show_form(family: usize, f: &[u8]) -> usize
 {
     let mut p = [0u8; wire::LARGEST];
     match rebuild::packet_of_form(family, f, &mut p) {
-        Written::Refused(r) => refuse(r),
+        Written::Refused(r) => refuse(Judged::Other, f, r),
         Written::Bytes(n) => {
             if n <= p.len() {
                 say(b"TLV form, %1 bytes, of this packet:\n", &[f.len() as u64]);
@@ -321,12 +352,12 @@ pub fn show_form(family: usize, f: &[u8]) -> usize
     }
 }
 
-// A writer's result.
-fn say_written(answer: Written, out: &[u8]) -> usize
+// What was written of `p`.
+fn say_written(what: Judged, p: &[u8], answer: Written, out: &[u8]) -> usize
     ensures { λ r. ⌜ r ≡ refusalNumber (writtenAs answer) ⌝ }
 {
     match answer {
-        Written::Refused(r) => refuse_data(r),
+        Written::Refused(r) => refuse(what, p, r),
         Written::Bytes(n) => {
             if n <= out.len() {
                 say_hex_line(&out[0..n]);
@@ -337,11 +368,11 @@ fn say_written(answer: Written, out: &[u8]) -> usize
 }
 
 // The same of lines, which are said as they are.
-fn say_written_lines(answer: Written, out: &[u8]) -> usize
+fn say_written_lines(what: Judged, p: &[u8], answer: Written, out: &[u8]) -> usize
     ensures { λ r. ⌜ r ≡ refusalNumber (writtenAs answer) ⌝ }
 {
     match answer {
-        Written::Refused(r) => refuse_data(r),
+        Written::Refused(r) => refuse(what, p, r),
         Written::Bytes(n) => {
             if n <= out.len() {
                 say_bytes(&out[0..n]);
@@ -357,7 +388,7 @@ pub fn say_form_of_packet(family: usize, p: &[u8]) -> usize
 {
     let mut out = [0u8; wire::LARGEST_FORM];
     let answer = form::form_of_packet(family, p, &mut out);
-    say_written(answer, &out)
+    say_written(Judged::Packet, p, answer, &out)
 }
 
 pub fn say_form_of_datagram(family: usize, p: &[u8]) -> usize
@@ -365,7 +396,7 @@ pub fn say_form_of_datagram(family: usize, p: &[u8]) -> usize
 {
     let mut out = [0u8; wire::LARGEST_FORM];
     let answer = form::form_of_datagram(family, p, &mut out);
-    say_written(answer, &out)
+    say_written(Judged::Datagram, p, answer, &out)
 }
 
 // The billing lines of a TCP data packet, and of a datagram: they have at most as many bytes as a TLV form.
@@ -374,7 +405,7 @@ pub fn say_lines_of_packet(family: usize, p: &[u8]) -> usize
 {
     let mut out = [0u8; wire::LARGEST_FORM];
     let answer = print::lines_of_packet(family, p, &mut out);
-    say_written_lines(answer, &out)
+    say_written_lines(Judged::Packet, p, answer, &out)
 }
 
 pub fn say_lines_of_datagram(family: usize, p: &[u8]) -> usize
@@ -382,7 +413,7 @@ pub fn say_lines_of_datagram(family: usize, p: &[u8]) -> usize
 {
     let mut out = [0u8; wire::LARGEST_FORM];
     let answer = print::lines_of_datagram(family, p, &mut out);
-    say_written_lines(answer, &out)
+    say_written_lines(Judged::Datagram, p, answer, &out)
 }
 
 // The TCP data packet of a TLV form.
@@ -391,7 +422,7 @@ pub fn say_packet_of(family: usize, f: &[u8]) -> usize
 {
     let mut out = [0u8; wire::LARGEST];
     let answer = rebuild::packet_of_form(family, f, &mut out);
-    say_written(answer, &out)
+    say_written(Judged::Other, f, answer, &out)
 }
 
 // A command packet.
@@ -400,5 +431,5 @@ pub fn say_command(family: usize, codec: u8, kind: u8, imei: &[u8], text: &[u8])
 {
     let mut out = [0u8; wire::LARGEST];
     let answer = command::write_command(family, codec, kind, imei, text, &mut out);
-    say_written(answer, &out)
+    say_written(Judged::Other, text, answer, &out)
 }

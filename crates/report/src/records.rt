@@ -6,6 +6,7 @@ ghost use Rattle.wire.specs.Buffers.{writing, leaving, writtenAs};
 ghost use Rattle.contents.specs.Words.{titleResult, recordOf, valueOf};
 ghost use Rattle.contents.specs.Rows.{RowsAhead};
 ghost use Rattle.report.specs.Shown.{contentsHere, recordsSaid, lineRefusal};
+use crate::Judged;
 use crate::refuse;
 use crate::say_meaning;
 use element::RecordFields;
@@ -240,7 +241,7 @@ fn say_element(s: &[u8], at: usize, bytes: &mut [u8]) -> usize {
     match scan::element_at(s, at, bytes) {
         LineElementAnswer::Refused(r) => {
             say(b"    not shown  ", &[]);
-            refuse(r);
+            refuse(Judged::Other, s, r);
             s.len()
         }
         LineElementAnswer::Found(e) => {

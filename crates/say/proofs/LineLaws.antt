@@ -5,12 +5,12 @@ use mathlib.Core.Path.{_≡_, refl, sym, ap, _∙_}
 use mathlib.Core.Bool.{Bool, true, false}
 use mathlib.Core.List.{List, [], _∷_}
 use lib.ListN.{length, take, drop, getD, length-drop}
-use lib.Seq.{take-all, drop-drop}
+use lib.Seq.{drop-drop}
 use lib.Dec.{eqb}
 use borrow.Author.Tests.{eq-eqb, ne-eqb}
 use Rattle.wire.specs.Numbers.{pick}
 use Rattle.say.specs.Lines.{lineLength, fromLine, lineOf}
-use Rattle.say.proofs.PageLaws.{next, none-left}
+use Rattle.say.proofs.PageLaws.{rest, next, none-left}
 
 -- ---- the first line
 
@@ -44,10 +44,6 @@ pub record LinesLeft (s : List ℕ) (n at left : ℕ) : Type 0 where
 
 pub lines-first : (s : List ℕ) (n : ℕ) → LinesLeft s n 0 n
 lines-first s n = record { inside = omega arith; same = refl }
-
--- the part from `at` on is the text from there on
-rest : (s : List ℕ) (at : ℕ) → take (length s - at) (drop at s) ≡ drop at s
-rest s at = take-all (length s - at) (drop at s) (simp length-drop (omega arith))
 
 module _ {s : List ℕ} {n at left k : ℕ} (h : LinesLeft s n at left) (e : k ≡ lineLength (take (length s - at) (drop at s))) where
   pub line-inside : at + k ≤ length s

@@ -4,8 +4,8 @@ use native.Mathlib.Numerals.{add-one}
 use native.Mathlib.Omega.{arith, min-cases}
 use mathlib.Core.Path.{_≡_, refl, sym, ap, _∙_}
 use mathlib.Core.List.{List, [], _∷_, _++_, append-assoc, append-nil}
-use lib.ListN.{length, set, drop, getD, replicate, length-append, drop-of-length-le}
-use lib.Seq.{sets, set-out, length-sets, drop-cons}
+use lib.ListN.{length, set, take, drop, getD, replicate, length-append, length-drop, drop-of-length-le}
+use lib.Seq.{sets, set-out, length-sets, take-all, drop-cons}
 use Rattle.wire.proofs.Storing.{sets-append}
 use Rattle.say.specs.Page.{OnPage}
 
@@ -68,6 +68,10 @@ pub left-as : {whole page₀ rest other page : List ℕ} {at to : ℕ} → rest 
 left-as e h = rw e at h
 
 -- ---- a text and a run of one byte
+
+-- the part from `at` on is the text from there on
+pub rest : (s : List ℕ) (at : ℕ) → take (length s - at) (drop at s) ≡ drop at s
+rest s at = take-all (length s - at) (drop at s) (simp length-drop (omega arith))
 
 pub next : (s : List ℕ) (i : ℕ) → i < length s → drop i s ≡ (getD s i 0 ∷ []) ++ drop (i + 1) s
 next s i h = rw (add-one i) (drop-cons s i 0 h)

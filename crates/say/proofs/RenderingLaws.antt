@@ -1,18 +1,19 @@
 -- The digits of a number, and text with numbers by its first character.
-use Prim.Native.Nat.{ℕ, zero, suc, _+_, _-_, _*_, _/_, _%_, _^_, _≤_, _<_}
+use Prim.Native.Nat.{ℕ, zero, suc, _+_, _-_, _*_, _/_, _%_, _^_, _≤_, _<_, min}
 use native.Mathlib.Nat.{add-zero, pow-suc, pow-le-pow-right, div-lt-iff-lt-mul, le-div-iff-mul-le}
-use native.Mathlib.Omega.{arith, by-contra}
-use mathlib.Core.Path.{_≡_, refl, ap, _∙_}
+use native.Mathlib.Omega.{arith, by-contra, min-cases}
+use mathlib.Core.Path.{_≡_, refl, sym, ap, _∙_}
 use mathlib.Core.Bool.{true, false}
 use mathlib.Core.List.{List, [], _∷_, _++_}
-use lib.ListN.{length, getD, drop, replicate}
-use lib.Seq.{getD-drop, drop-drop}
+use lib.ListN.{length, getD, take, drop, replicate}
+use lib.Seq.{getD-drop, drop-drop, take-all}
 use borrow.Author.Tests.{lt-ltb, le-ltb}
 use Rattle.io.specs.Digits.{digits, glyph, Fewest}
+use Rattle.text.specs.Hex.{hexText}
 use Rattle.text.specs.Decimal.{decimalIn, decimal}
-use Rattle.say.specs.Rendering.{padded, shown, isMark, rendered, quotable, closing}
+use Rattle.say.specs.Rendering.{padded, shown, isMark, rendered, quotable, closing, group}
 use Rattle.say.specs.Page.{OnPage}
-use Rattle.say.proofs.PageLaws.{Left, left-first, left-as, left-put, left-done, page-then, next, none-left}
+use Rattle.say.proofs.PageLaws.{Left, left-first, left-as, left-put, left-done, page-then, rest, next, none-left}
 
 -- ---- the fewest digits that hold a number are its decimal digits
 
@@ -118,3 +119,36 @@ closing-next s i h = rw (next s i h) refl
 pub closing-last : (s : List ℕ) (i : ℕ) → length s ≤ i → closing (drop i s) ≡ (34 ∷ []) ++ []
 unfolding closing
 closing-last s i h = rw (none-left s i h) refl
+
+-- ---- hex text, and parts of an input
+
+pub hex-next : (s : List ℕ) (i : ℕ) → i < length s → hexText (drop i s) ≡ hexText (getD s i 0 ∷ []) ++ hexText (drop (i + 1) s)
+unfolding hexText
+hex-next s i h = rw (next s i h) refl
+
+pub hex-last : (s : List ℕ) (i : ℕ) → length s ≤ i → hexText (drop i s) ≡ []
+unfolding hexText
+hex-last s i h = rw (none-left s i h) refl
+
+pub group-none : (s : List ℕ) → length s ≡ 0 → group s ≡ []
+unfolding group
+group-none [] e = refl
+group-none (b ∷ s) e = absurd (omega (arith, e))
+
+pub group-some : (s : List ℕ) → (length s ≡ 0 → ⊥) → group s ≡ (32 ∷ []) ++ hexText s
+unfolding group
+group-some [] e = absurd (e refl)
+group-some (b ∷ s) e = refl
+
+pub part-first : (s : List ℕ) (n : ℕ) {end : ℕ} → end ≡ min n (length s) → take (end - 0) (drop 0 s) ≡ take n s
+part-first s n {end} e =
+    min-cases n (length s) _
+    (λ h is. let same : end - 0 ≡ n = omega (arith, e, is) in rw same refl)
+    (λ h is. take-all (end - 0) s (omega (arith, e, is)) ∙ sym (take-all n s h))
+
+pub part-behind : (s : List ℕ) (n : ℕ) {start : ℕ} → start ≡ min n (length s) → take (length s - start) (drop start s) ≡ drop n s
+part-behind s n {start} e =
+    rest s start
+    ∙ min-cases n (length s) _
+    (λ h is. ap (λ (i : ℕ). drop i s) (e ∙ is))
+    (λ h is. none-left s start (omega (arith, e, is)) ∙ sym (none-left s n h))

@@ -1,8 +1,8 @@
--- The text that the program says: with numbers in it, and between quotes.
+-- The text that the program says: with numbers in it, between quotes, and of the bytes around a place.
 use Prim.Native.Nat.{ℕ, _+_, _-_, _%_}
 use mathlib.Core.Bool.{Bool, true, false}
 use mathlib.Core.List.{List, [], _∷_, _++_}
-use lib.ListN.{length, getD, drop, replicate}
+use lib.ListN.{length, getD, take, drop, replicate}
 use lib.Dec.{eqb, ltb}
 use Rattle.wire.specs.Numbers.{pick}
 use Rattle.text.specs.Hex.{among, hexText}
@@ -51,3 +51,22 @@ closing (b ∷ s) = quotable b ++ closing s
 
 unfoldable pub quoted : List ℕ → List ℕ
 quoted s = 34 ∷ closing s
+
+-- ---- the bytes around a place of an input
+
+-- a space and hex text; nothing for no bytes
+unfoldable pub group : List ℕ → List ℕ
+group [] = []
+group (b ∷ s) = 32 ∷ hexText (b ∷ s)
+
+-- "  from byte %1:", the offset of the first byte that is shown
+unfoldable pub fromByte : ℕ → List ℕ
+fromByte n = rendered (32 ∷ 32 ∷ 102 ∷ 114 ∷ 111 ∷ 109 ∷ 32 ∷ 98 ∷ 121 ∷ 116 ∷ 101 ∷ 32 ∷ 37 ∷ 49 ∷ 58 ∷ []) (n ∷ [])
+
+-- the input from the place on: its byte in brackets, which are empty at the input's end, and up to 16 behind it
+unfoldable pub onward : List ℕ → List ℕ
+onward s = (32 ∷ 91 ∷ []) ++ hexText (take 1 s) ++ (93 ∷ []) ++ group (take 16 (drop 1 s)) ++ (10 ∷ [])
+
+-- up to 16 bytes before the place, and the input from there on
+unfoldable pub around : List ℕ → ℕ → List ℕ
+around p place = fromByte (place - 16) ++ group (drop (place - 16) (take place p)) ++ onward (drop place p)

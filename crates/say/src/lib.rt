@@ -4,10 +4,11 @@
 ghost use mathlib.Core.Path.{_≡_};
 ghost use mathlib.Core.List.{[], _∷_};
 ghost use Prim.Native.Nat.{_-_, _*_, min};
-ghost use lib.ListN.{length, getD, replicate};
+ghost use lib.ListN.{length, take, drop, getD, replicate};
 ghost use Rattle.say.specs.Page.{OnPage};
-ghost use Rattle.say.specs.Rendering.{padded, widthOf, shown, isMark, rendered, isPlain, quotable, quoted};
+ghost use Rattle.say.specs.Rendering.{padded, widthOf, shown, isMark, rendered, isPlain, quotable, quoted, group, onward, around};
 ghost use Rattle.say.specs.Lines.{lineLength, lineOf};
+ghost use Rattle.text.specs.Hex.{hexText};
 ghost use Rattle.wire.specs.Limits.{largestOfAll};
 use libc::STDOUT_FILENO;
 
@@ -128,6 +129,15 @@ pub fn render(page: &mut [u8], s: &[u8], numbers: &[u64]) -> usize
     to
 }
 
+// The two digits of a byte.
+fn put_digits(page: &mut [u8], at: usize, b: u8) -> usize
+    ensures { λ r. ⌜ OnPage (hexText (b ∷ [])) (now (page .entry)) at (now (page .exit)) r ⌝ }
+{
+    let mut digits = [0u8; 2];
+    text::encode(&[b], &mut digits);
+    put_text(page, at, &digits)
+}
+
 fn is_plain(b: u8) -> bool
     ensures { λ r. ⌜ r ≡ isPlain b ⌝ }
 {
@@ -147,10 +157,8 @@ fn put_quotable(page: &mut [u8], at: usize, b: u8) -> usize
     if is_plain(b) {
         return put(page, at, b);
     }
-    let mut digits = [0u8; 2];
-    text::encode(&[b], &mut digits);
     let to = put_text(page, at, b"\\x");
-    put_text(page, to, &digits)
+    put_digits(page, to, b)
 }
 
 // Text between quotes.
@@ -164,6 +172,68 @@ pub fn quote(page: &mut [u8], s: &[u8]) -> usize
         i += 1;
     }
     put(page, to, b'"')
+}
+
+// ---- the bytes around a place
+
+// Bytes as hex text.
+fn put_hex(page: &mut [u8], at: usize, s: &[u8]) -> usize
+    ensures { λ r. ⌜ OnPage (hexText (now (s .entry))) (now (page .entry)) at (now (page .exit)) r ⌝ }
+{
+    let mut to = at;
+    let mut i: usize = 0;
+    while i < s.len() {
+        to = put_digits(page, to, s[i]);
+        i += 1;
+    }
+    to
+}
+
+// The same with a space in front; nothing for no bytes.
+fn put_group(page: &mut [u8], at: usize, s: &[u8]) -> usize
+    ensures { λ r. ⌜ OnPage (group (now (s .entry))) (now (page .entry)) at (now (page .exit)) r ⌝ }
+{
+    if s.len() == 0 {
+        return at;
+    }
+    let to = put(page, at, b' ');
+    put_hex(page, to, s)
+}
+
+// The first `n` bytes, or all; and the bytes behind them.
+fn first(s: &[u8], n: usize) -> &[u8]
+    ensures { λ r. ⌜ now r ≡ take n (now (s .entry)) ⌝ }
+{
+    let end = least(n, s.len());
+    &s[0..end]
+}
+
+fn behind(s: &[u8], n: usize) -> &[u8]
+    ensures { λ r. ⌜ now r ≡ drop n (now (s .entry)) ⌝ }
+{
+    let start = least(n, s.len());
+    &s[start..]
+}
+
+// An input from a place on: its byte in brackets, which are empty at the input's end, and up to 16 behind it.
+fn put_onward(page: &mut [u8], at: usize, s: &[u8]) -> usize
+    ensures { λ r. ⌜ OnPage (onward (now (s .entry))) (now (page .entry)) at (now (page .exit)) r ⌝ }
+{
+    let mut to = put_text(page, at, b" [");
+    to = put_hex(page, to, first(s, 1));
+    to = put_text(page, to, b"]");
+    to = put_group(page, to, first(behind(s, 1), 16));
+    put(page, to, b'\n')
+}
+
+// The offset of the first byte shown, up to 16 bytes before a place, and the input from there on.
+pub fn around(page: &mut [u8], p: &[u8], place: usize) -> usize
+    ensures { λ r. ⌜ OnPage (around (now (p .entry)) place) (now (page .entry)) 0 (now (page .exit)) r ⌝ }
+{
+    let from = less(place, 16);
+    let mut to = render(page, b"  from byte %1:", &[from as u64]);
+    to = put_group(page, to, behind(first(p, place), from));
+    put_onward(page, to, behind(p, place))
 }
 
 // ---- lines
@@ -232,6 +302,15 @@ pub fn say_quoted(s: &[u8]) -> usize
 {
     let mut page = [0u8; 16386];
     let n = quote(&mut page, s);
+    write(&page, n)
+}
+
+// The bytes around a place.
+pub fn say_around(p: &[u8], place: usize) -> usize
+    ensures { λ r. ⌜ r ≡ min (length (around (now (p .entry)) place)) 4096 ⌝ }
+{
+    let mut page = io::buffer();
+    let n = around(&mut page, p, place);
     write(&page, n)
 }
 

@@ -257,17 +257,17 @@ fn variable_at(w: Widths, s: &[u8], at: usize) -> Walk
     ensures { λ r. ⌜ r ≡ walked (element w 9 (now (s .entry)) at) ⌝ }
 {
     let id = w.id;
-    let a1 = at + id;
-    if s.len() < a1 {
+    let size_at = at + id;
+    if s.len() < size_at {
         return missing(at);
     }
-    let a2 = a1 + 2;
-    if s.len() < a2 {
-        return missing(a1);
+    let value_at = size_at + 2;
+    if s.len() < value_at {
+        return missing(size_at);
     }
-    let end = a2 + (wire::be16(s, a1) as usize);
+    let end = value_at + (wire::be16(s, size_at) as usize);
     if s.len() < end {
-        return missing(a2);
+        return missing(value_at);
     }
     Walk::On(end)
 }

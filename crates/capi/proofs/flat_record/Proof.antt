@@ -17,7 +17,7 @@ returns : tie.Need-returns
 unfolding flatRecord recordAs
 returns c = let f = c .before .before .a .given .0 .0 in
     let lon = toZ-ofZ w32 (f .longitude) (record { sfits = c .struct-told .given .1 .1 .1 .0 .1 }) in
-    let lat = toZ-ofZ w32 (f .latitude) (record { sfits = c .struct-told .given .1 .1 .1 .1 .0 .1 }) in
+    let lat = toZ-ofZ w32 (f .latitude) (record { sfits = c .struct-told .given .1 .1 .0 .1 }) in
     let alt = toZ-ofZ w16 (f .altitude) (record { sfits = c .struct-told .given .1 .1 .1 .1 .1 .0 .1 }) in
     (λ i. record {
       number = 0;

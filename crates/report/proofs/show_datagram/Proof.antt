@@ -11,8 +11,8 @@ read-datagram-requires c κs = search needs
 enum-known-r : tie.Need-enum-known-r
 enum-known-r c = search needs
 
-refuse-data-requires : tie.Need-refuse-data-requires
-refuse-data-requires c κs = search needs
+refuse-requires : tie.Need-refuse-requires
+refuse-requires c κs = search needs
 
 enum-known-codec : tie.Need-enum-known-codec
 enum-known-codec c = search needs
@@ -46,7 +46,7 @@ say-records-requires c κs = search needs
 
 returns : tie.Need-returns
 unfolding datagramRefusal refusalNumber datagramAs
-returns c = simp (← c .before .before .before .before .read-datagram .ensures, c .before .before .r .given .1) (c .refuse-data .ensures)
+returns c = simp (← c .before .before .before .before .read-datagram .ensures, c .before .before .r .given .1) (c .refuse .ensures)
 
 returns-2 : tie.Need-returns-2
 unfolding datagramRefusal refusalNumber datagramAs
@@ -58,7 +58,7 @@ show-datagram-spec =
     (tie.spec
     read-datagram-requires
     enum-known-r
-    refuse-data-requires
+    refuse-requires
     enum-known-codec
     slice-aggregate-acknowledge-datagram
     acknowledge-datagram-requires

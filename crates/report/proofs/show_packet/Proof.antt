@@ -11,8 +11,8 @@ read-packet-requires c κs = search needs
 enum-known-r : tie.Need-enum-known-r
 enum-known-r c = search needs
 
-refuse-data-requires : tie.Need-refuse-data-requires
-refuse-data-requires c κs = search needs
+refuse-requires : tie.Need-refuse-requires
+refuse-requires c κs = search needs
 
 enum-known-codec : tie.Need-enum-known-codec
 enum-known-codec c = search needs
@@ -43,7 +43,7 @@ say-records-requires c κs = search needs
 
 returns : tie.Need-returns
 unfolding packetRefusal refusalNumber packetAs
-returns c = simp (← c .before .before .before .before .read-packet .ensures, c .before .before .r .given .1) (c .refuse-data .ensures)
+returns c = simp (← c .before .before .before .before .read-packet .ensures, c .before .before .r .given .1) (c .refuse .ensures)
 
 returns-2 : tie.Need-returns-2
 unfolding packetRefusal refusalNumber packetAs
@@ -55,7 +55,7 @@ show-packet-spec =
     (tie.spec
     read-packet-requires
     enum-known-r
-    refuse-data-requires
+    refuse-requires
     enum-known-codec
     slice-aggregate-acknowledge-packet
     acknowledge-packet-requires

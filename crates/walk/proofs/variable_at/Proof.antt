@@ -8,8 +8,8 @@ use Rattle.walk.proofs.variable_at.Tie as tie
 use Rattle.walk.proofs.WalkLaws.{variable-size, element-there, element-cut}
 use Rattle.walk.proofs.variable_at.Statement.{statement}
 
-add-a1 : tie.Need-add-a1
-add-a1 c = search needs
+add-size-at : tie.Need-add-size-at
+add-size-at c = search needs
 
 missing-requires : tie.Need-missing-requires
 missing-requires c κs = search needs
@@ -20,8 +20,8 @@ returns c =
     let args = c .before .before .before .args in
     c .missing .ensures ∙ sym (walked-bad _ (number-missing _ (args .s .now) (args .at) (args .w .id) (c .before .if1 .taken)))
 
-add-a2 : tie.Need-add-a2
-add-a2 c = search needs
+add-value-at : tie.Need-add-value-at
+add-value-at c = search needs
 
 missing-requires-2 : tie.Need-missing-requires-2
 missing-requires-2 c κs = search needs
@@ -69,10 +69,10 @@ pub variable-at-spec : {M : Type 1} → statement M
 variable-at-spec =
     tie.close
     (tie.spec
-    add-a1
+    add-size-at
     missing-requires
     returns
-    add-a2
+    add-value-at
     missing-requires-2
     returns-2
     be16-requires
