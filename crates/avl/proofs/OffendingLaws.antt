@@ -1,21 +1,19 @@
 -- The walk is decided by the bytes up to the end of the offending field, and lies within them.
 use Prim.Native.Nat.{ℕ, zero, suc, _+_, _-_, _≤_, _<_}
 use native.Mathlib.Omega.{arith}
-use mathlib.Core.Path.{_≡_, refl, sym, ap, _∙_}
+use mathlib.Core.Path.{_≡_, refl, ap, _∙_}
 use mathlib.Core.Bool.{Bool, true, false}
 use mathlib.Core.List.{List, [], _∷_}
 use lib.ListN.{length}
 use lib.Dec.{eqb, leb}
-use borrow.Author.Tests.{leb-false}
-use Rattle.wire.specs.declared.Refusal.{Refusal}
 use Rattle.wire.specs.Numbers.{numberAt, pick}
-use Rattle.wire.specs.Reading.{Read, got, bad, Reader, _>>_, pure, here, require, number, bytes, upTo, repeat}
+use Rattle.wire.specs.Reading.{Read, got, bad, Reader, _>>_, pure, number, bytes, upTo}
 use Rattle.wire.proofs.Exactness.{then-got}
 use Rattle.wire.proofs.Walking.{short}
-use Rattle.wire.proofs.Locality.{Agree, Stops, Reads, Local, local-got, local-bad, local-then, local-pure, local-here, local-require, local-number, local-bytes, local-upTo, local-repeat}
+use Rattle.wire.proofs.Locality.{Local, local-got, local-bad, local-then, local-pure, local-here, local-require, local-number, local-bytes, local-upTo, local-repeat}
 use Rattle.avl.specs.declared.Widths.{Widths}
 use Rattle.avl.specs.Codecs.{kinds}
-use Rattle.avl.specs.Records.{Element, Fixed, AvlRecord, elementCount}
+use Rattle.avl.specs.Records.{Element, Fixed, elementCount}
 use Rattle.avl.specs.RecordReader.{valueSize, element, group, groups, fixedFields, avlRecord, plainRecord, tagged, inRecord, avlRecords, atEnd, allRecords}
 use Rattle.avl.specs.Offending.{sizeFrom, recordSize, offending}
 

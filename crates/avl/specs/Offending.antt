@@ -6,7 +6,6 @@ use Rattle.wire.specs.declared.Refusal.{Refusal}
 use Rattle.wire.specs.Numbers.{pick}
 use Rattle.wire.specs.Reading.{Read, got, bad}
 use Rattle.avl.specs.declared.Widths.{Widths}
-use Rattle.avl.specs.Records.{AvlRecord}
 use Rattle.avl.specs.RecordReader.{plainRecord}
 
 -- of what was read from `at` on

@@ -1,5 +1,5 @@
 -- What holds of an input's refusal holds of every input that agrees with it up to the offending field's end: part by part.
-use Prim.Native.Nat.{ℕ, _+_, _-_, _≤_, _<_, min}
+use Prim.Native.Nat.{ℕ, _+_, _-_, _≤_, min}
 use native.Mathlib.Omega.{arith}
 use mathlib.Core.Path.{_≡_, refl, sym, ap, ap₂, subst, _∙_}
 use mathlib.Core.Logic.{_⊎_, inl, inr, ⊎-elim}
@@ -22,7 +22,7 @@ use Rattle.frame.specs.Frame.{fieldLength, fieldOf, unframe}
 use Rattle.avl.specs.Codecs.{widthsOf, isDataCodec}
 use Rattle.avl.specs.Records.{AvlRecord}
 use Rattle.avl.specs.RecordReader.{allRecords}
-use Rattle.avl.specs.DataField.{AvlData, readData}
+use Rattle.avl.specs.DataField.{readData}
 use Rattle.avl.specs.Offending.{offending}
 use Rattle.avl.proofs.OffendingLaws.{all-local}
 use Rattle.walk.proofs.WalkLaws.{narrow}

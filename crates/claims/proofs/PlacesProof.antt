@@ -13,7 +13,7 @@ use Rattle.wire.specs.declared.Refusal.{Refusal}
 use Rattle.wire.specs.Limits.{isKnown}
 use Rattle.wire.specs.Numbers.{Bytes, numberAt}
 use Rattle.wire.specs.Reading.{Read, got, bad, Reader, _>>=_, pure, repeat}
-use Rattle.wire.specs.Answers.{Answer, accepted, refused, refusalAt, movedBy, from, told, onAccepted}
+use Rattle.wire.specs.Answers.{Answer, accepted, refused, refusalAt, movedBy, told}
 use Rattle.wire.specs.Imei.{textDigit, readImei}
 use Rattle.wire.proofs.Accepting.{by-length, check-passed, check-failed, onAccepted-passed, onAccepted-refused, from-passed, from-refused, told-got, told-whole, pick-true, pick-false}
 use Rattle.wire.proofs.Exactness.{then-got, here-got, require-got}
@@ -23,12 +23,11 @@ use Rattle.wire.proofs.ImeiWord.{digit-byte, other-byte}
 use Rattle.wire.proofs.Locality.{Agree, agree-less, agree-number, Local, local-then, local-pure, local-field}
 use Rattle.wire.proofs.ImeiLocality.{imei-local}
 use Rattle.wire.proofs.ImeiText.{imei-exact, length-imeiText}
-use Rattle.frame.specs.Frame.{unframe}
 use Rattle.avl.specs.DataField.{AvlData, readData}
 use Rattle.packet.specs.DataPackets.{readPacket}
 use Rattle.command.specs.Commands.{readField, readCommand}
 use Rattle.datagram.specs.declared.Header.{Header}
-use Rattle.datagram.specs.Datagrams.{Datagram, readHeader, judgeHeader, readDatagram}
+use Rattle.datagram.specs.Datagrams.{readHeader, judgeHeader, readDatagram}
 use Rattle.login.specs.Login.{readLogin}
 use Rattle.line.proofs.Cases.{by-test}
 use Rattle.claims.specs.Places.{dataWidth, textWidth, imeiWidth, headerWidth, datagramWidth, Points, SecondCount, PlacesKept}

@@ -1,5 +1,4 @@
 -- Where a refusal points (request 6): each field of the walk where its bytes are missing, and the places that are easily taken for another. A datagram's data field starts at 23, its first record at 25.
-use Prim.Native.Nat.{ℕ}
 use mathlib.Core.List.{List, [], _∷_, _++_}
 use lib.ListN.{take, set}
 use Rattle.datagram.specs.declared.DatagramAnswer.{DatagramAnswer}

@@ -1,22 +1,20 @@
 -- The walk between the quantities is decided by the bytes up to the end of the offending field, and lies within them.
-use Prim.Native.Nat.{ℕ, _+_, _-_, _≤_}
+use Prim.Native.Nat.{ℕ, _-_, _≤_}
 use native.Mathlib.Omega.{arith}
-use mathlib.Core.Path.{_≡_, refl, ap, _∙_}
+use mathlib.Core.Path.{_≡_, refl}
 use mathlib.Core.List.{List}
 use lib.ListN.{length}
 use lib.Dec.{eqb}
 use borrow.Author.Tests.{ne-eqb}
-use Rattle.wire.specs.Numbers.{pick}
 use Rattle.wire.specs.Answers.{refusalAt}
-use Rattle.wire.specs.Reading.{number, bytes}
+use Rattle.wire.specs.Reading.{bytes}
 use Rattle.wire.specs.Imei.{readPacked}
 use Rattle.wire.proofs.Accepting.{pick-false}
 use Rattle.wire.proofs.Walking.{short}
 use Rattle.wire.proofs.Locality.{Local, local-then, local-pure, local-here, local-require, local-field, local-bytes}
 use Rattle.wire.proofs.ImeiLocality.{packed-local}
 use Rattle.command.specs.declared.Layout.{Layout}
-use Rattle.command.specs.Layouts.{types, member}
-use Rattle.command.specs.Commands.{Command, commandBody}
+use Rattle.command.specs.Commands.{commandBody}
 use Rattle.command.specs.Offending.{offendingText}
 
 module _ (s : List ℕ) where

@@ -5,7 +5,7 @@ use Prim.Native.Nat.{ℕ}
 use Rattle.command.specs.Commands.{commandField, commandBody, readField, readCommand, answerCommand, textView}
 use Rattle.wire.specs.Limits.{limitsOf}
 use Rattle.wire.specs.Answers.{accepted, refused, checkAt, from, unplaced, refusalAt}
-use Rattle.wire.specs.Answers.{onAccepted, told, check}
+use Rattle.wire.specs.Answers.{onAccepted, told}
 use Rattle.wire.specs.Envelope.{enclosed, codecOf, firstCount, lastCount, inner}
 use Rattle.wire.specs.Imei.{imeiText, textDigit, readImei, packed, pairUpTo, readPacked}
 use Rattle.wire.specs.Numbers.{numberAt, digits, valueFrom, littleAt, le, signed}

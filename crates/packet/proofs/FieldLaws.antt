@@ -11,7 +11,7 @@ use Rattle.wire.proofs.Accepting.{onAccepted-accepted, from-accepted}
 use Rattle.frame.specs.Frame.{unframe, framing}
 use Rattle.frame.proofs.FrameLaws.{frame-exact}
 use Rattle.frame.proofs.FramingLaws.{framing-field}
-use Rattle.avl.specs.DataField.{AvlData, readData}
+use Rattle.avl.specs.DataField.{AvlData}
 use Rattle.avl.proofs.FieldLaws.{FieldOf}
 use Rattle.packet.specs.DataPackets.{readPacket}
 

@@ -7,7 +7,7 @@ use Rattle.wire.specs.declared.Limits.{Limits}
 use Rattle.wire.specs.Numbers.{Bytes}
 use Rattle.wire.specs.Answers.{accepted}
 use Rattle.wire.proofs.Accepting.{onAccepted-accepted, onAccepted-passed, from-accepted, from-passed}
-use Rattle.avl.specs.DataField.{AvlData, dataBytes, readData}
+use Rattle.avl.specs.DataField.{AvlData, dataBytes}
 use Rattle.avl.proofs.DataLaws.{data-exact, data-complete}
 use Rattle.frame.specs.Frame.{framed, unframe}
 use Rattle.frame.proofs.FrameLaws.{frame-exact, frame-complete}

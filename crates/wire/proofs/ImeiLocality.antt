@@ -1,11 +1,11 @@
 -- An IMEI is decided by the bytes up to its length, if that is wrong, else up to its first wrong digit.
-use Prim.Native.Nat.{ℕ, zero, suc, _+_, _≤_, _<_}
+use Prim.Native.Nat.{ℕ, zero, suc, _+_, _≤_}
 use native.Mathlib.Omega.{arith}
-use mathlib.Core.Path.{_≡_, sym, subst}
-use mathlib.Core.List.{List, _∷_}
+use mathlib.Core.Path.{_≡_}
+use mathlib.Core.List.{List}
 use lib.ListN.{length}
 use Rattle.wire.specs.declared.Refusal.{Refusal}
-use Rattle.wire.specs.Reading.{Reader, pure, number, repeat}
+use Rattle.wire.specs.Reading.{repeat}
 use Rattle.wire.specs.Answers.{refusalAt}
 use Rattle.wire.specs.Imei.{textDigit, readImei, pairUpTo, readPacked}
 use Rattle.wire.proofs.Walking.{short}

@@ -8,9 +8,9 @@ use mathlib.Core.List.{List, [], _∷_}
 use lib.ListN.{length, take, drop, getD}
 use lib.Seq.{take-take, take-nil, getD-take}
 use lib.Dec.{leb}
-use borrow.Author.Tests.{leb-true, leb-false}
+use borrow.Author.Tests.{leb-false}
 use Rattle.wire.specs.declared.Refusal.{Refusal}
-use Rattle.wire.specs.Numbers.{numberAt, pick}
+use Rattle.wire.specs.Numbers.{numberAt}
 use Rattle.wire.specs.Reading.{Read, got, bad, Reader, andThen, _>>=_, _>>_, pure, here, require, number, bytes, upTo, repeat}
 use Rattle.wire.specs.Answers.{refusalAt}
 use Rattle.wire.proofs.Accepting.{by-length}

@@ -21,22 +21,22 @@ refusalAt number place = record { number = number; index = 0; place = place }
 abbrev pub refusal : ℕ → Refusal
 refusal number = refusalAt number 0
 
--- ---- places count from the input's start; what is refused of a part of it, which starts at `base`, is moved by that
+-- ---- places: an answer's count from the start of what was judged; one to a part of the input, which starts at `base`, is moved by that
 
 abbrev pub movedBy : ℕ → Refusal → Refusal
 movedBy base r = record { number = r .number; index = r .index; place = base + r .place }
 
--- what is read of such a part
+-- an answer to such a part
 unfoldable pub from : {A : Type 0} → ℕ → Answer A → Answer A
 from base (accepted a) = accepted a
 from base (refused r) = refused (movedBy base r)
 
--- a walk's answer
+-- what a walk over such a part answers
 unfoldable pub told : {A : Type 0} → ℕ → Read A → Answer A
 told base (got a next) = accepted a
 told base (bad x) = refused (movedBy base x)
 
--- what is no input, as a writer's own arguments, has no places
+-- a writer's own arguments and billing lines have no places
 unfoldable pub unplaced : {A : Type 0} → Answer A → Answer A
 unplaced (accepted a) = accepted a
 unplaced (refused r) = refused (refusal (r .number))
