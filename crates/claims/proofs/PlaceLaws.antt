@@ -1,20 +1,20 @@
 -- What holds of an input's refusal holds of every input that agrees with it up to the offending field's end: part by part.
-use Prim.Native.Nat.{ℕ, _+_, _-_, _≤_, min}
+use Prim.Native.Nat.{ℕ, _+_, _-_, _≤_, _<_, min}
 use native.Mathlib.Omega.{arith}
 use mathlib.Core.Path.{_≡_, refl, sym, ap, ap₂, subst, _∙_}
-use mathlib.Core.Logic.{_⊎_, inl, inr, ⊎-elim}
+use mathlib.Core.Logic.{inl, inr, ⊎-elim}
 use mathlib.Core.Bool.{Bool, true, false}
 use mathlib.Core.List.{List, [], _∷_}
 use lib.ListN.{length, take, drop, length-take, length-drop}
 use lib.Seq.{take-all, take-take, length-take-le}
 use lib.Dec.{eqb, leb}
-use borrow.Author.Tests.{leb-true, eqb-true}
+use borrow.Author.Tests.{leb-true, eqb-true, eqb-false}
 use Rattle.wire.specs.declared.Refusal.{Refusal}
 use Rattle.wire.specs.Limits.{isKnown}
 use Rattle.wire.specs.Numbers.{numberAt, pick}
 use Rattle.wire.specs.Reading.{Read, got, bad}
 use Rattle.wire.specs.Envelope.{codecOf, firstCount, lastCount, inner}
-use Rattle.wire.specs.Answers.{Answer, accepted, refused, refusal, refusalAt, movedBy, from, told, check, checkAt, onAccepted}
+use Rattle.wire.specs.Answers.{Answer, accepted, refused, refusal, refusalAt, movedBy, from, check, checkAt, onAccepted}
 use Rattle.wire.proofs.Accepting.{by-length, check-passed, check-failed, onAccepted-passed, onAccepted-refused, from-passed, from-refused, told-got, told-bad}
 use Rattle.wire.proofs.Locality.{Agree, agree-less, agree-byte, agree-number, agree-part}
 use Rattle.checksum.specs.Crc.{crc}
@@ -25,12 +25,13 @@ use Rattle.avl.specs.RecordReader.{allRecords}
 use Rattle.avl.specs.DataField.{readData}
 use Rattle.avl.specs.Offending.{offending}
 use Rattle.avl.proofs.OffendingLaws.{all-local}
-use Rattle.walk.proofs.WalkLaws.{narrow}
+use Rattle.walk.proofs.WalkLaws.{narrow, recordsOf, data-unknown, data-none, data-uneven, data-bad, data-got}
 use Rattle.command.specs.declared.Layout.{Layout}
 use Rattle.command.specs.Layouts.{layouts, findLayout, layoutOf}
 use Rattle.command.specs.Commands.{Command, commandBody, readField}
 use Rattle.command.specs.Offending.{offendingText}
 use Rattle.command.proofs.OffendingLaws.{body-local}
+use Rattle.command.proofs.FieldLaws.{codec-unknown, first-wrong, last-wrong, field-walk}
 use Rattle.line.proofs.Cases.{by-test}
 use Rattle.claims.specs.Places.{back, dataWidth, textWidth, frameWidth, framedWidth, Points, SecondCount, CrcOrCount}
 
@@ -71,35 +72,6 @@ module _ {A : Type 0} (judge : List ℕ → Answer A) (Before : Refusal → Type
 
 -- ---- a data field
 
-module _ (longest : ℕ) (d : List ℕ) where
-  abbrev records : Read (List AvlRecord)
-  records = allRecords longest (widthsOf (codecOf d)) (firstCount d) (inner d) 0
-
-  field-6 : isDataCodec (codecOf d) ≡ false → readData longest d ≡ refused (refusalAt 6 0)
-  unfolding readData
-  field-6 e = check-failed _ 6 _ _ e
-
-  module _ (known : isDataCodec (codecOf d) ≡ true) where
-    field-7 : leb 1 (firstCount d) ≡ false → readData longest d ≡ refused (refusalAt 7 1)
-    unfolding readData
-    field-7 e = check-passed _ 6 _ _ known ∙ check-failed _ 7 _ _ e
-
-    module _ (some : leb 1 (firstCount d) ≡ true) where
-      field-7-last : eqb (firstCount d) (lastCount d) ≡ false → readData longest d ≡ refused (refusalAt 7 (length d - 1))
-      unfolding readData
-      field-7-last e = check-passed _ 6 _ _ known ∙ check-passed _ 7 _ _ some ∙ check-failed _ 7 _ _ e
-
-      field-walk : eqb (firstCount d) (lastCount d) ≡ true → {x : Refusal} → records ≡ bad x → readData longest d ≡ refused (movedBy 2 x)
-      unfolding readData
-      field-walk e b = check-passed _ 6 _ _ known ∙ check-passed _ 7 _ _ some ∙ check-passed _ 7 _ _ e ∙ onAccepted-refused _ _ (told-bad 2 _ b)
-
-      field-read : eqb (firstCount d) (lastCount d) ≡ true → {rs : List AvlRecord} {n : ℕ} → records ≡ got rs n → {r : Refusal} → readData longest d ≡ refused r → ⊥
-      unfolding readData told onAccepted
-      field-read e {rs} {n} b {r} f =
-          let good : readData longest d ≡ accepted (record { codec = codecOf d; records = rs }) =
-          check-passed _ 6 _ _ known ∙ check-passed _ 7 _ _ some ∙ check-passed _ 7 _ _ e ∙ ap (λ x. onAccepted (told 2 x) (λ l. accepted (record { codec = codecOf d; records = l }))) b in
-          let z : _≡_ {A = ℕ} 0 1 = cc in omega (arith, z)
-
 pub same-codec : {n : ℕ} {s t : List ℕ} → Agree n s t → 1 ≤ n → codecOf t ≡ codecOf s
 unfolding codecOf
 same-codec k h = agree-byte k 0 h
@@ -138,11 +110,11 @@ pub data-points : (longest : ℕ) (d : List ℕ) (r : Refusal) → 3 ≤ length 
 unfolding dataWidth
 data-points longest d r long e =
     by-test (isDataCodec (codecOf d))
-    (λ known. by-test (leb 1 (firstCount d))
-    (λ some. by-test (eqb (firstCount d) (lastCount d)) (λ even. walk known some even (records longest d) refl)
-    (λ uneven. to (field-7-last longest d known some uneven) (count-width d (length d - 1)) (last known some uneven)))
-    (λ none. to (field-7 longest d known none) (count-width d 1) (first known none)))
-    (λ unknown. to (field-6 longest d unknown) (codec-width d 0) (codec unknown))
+    (λ known. by-length 1 (firstCount d)
+    (λ some. by-test (eqb (firstCount d) (lastCount d)) (λ even. walk known some (eqb-true _ _ even) (recordsOf longest d) refl)
+    (λ uneven. let ne = eqb-false _ _ uneven in to (data-uneven longest d known some ne) (count-width d (length d - 1)) (last known some ne)))
+    (λ none. to (data-none longest d known none) (count-width d 1) (first known none)))
+    (λ unknown. to (data-unknown longest d unknown) (codec-width d 0) (codec unknown))
   where
     to : {x : Refusal} {w : ℕ} → readData longest d ≡ refused x → dataWidth d x ≡ w → Points (readData longest) SecondCount d x w → Points (readData longest) SecondCount d r (dataWidth d r)
     to f wide h = pointed (readData longest) SecondCount d (dataWidth d) f e wide h
@@ -152,35 +124,35 @@ data-points longest d r long e =
         record {
           byte = λ h. omega (arith, long);
           inside = omega (arith, long);
-          alike = λ q l f. let k : Agree 1 d q = agreed l f in inl (field-6 longest q (ap isDataCodec (same-codec k (omega arith)) ∙ unknown));
+          alike = λ q l f. let k : Agree 1 d q = agreed l f in inl (data-unknown longest q (ap isDataCodec (same-codec k (omega arith)) ∙ unknown));
         }
 
-    first : isDataCodec (codecOf d) ≡ true → leb 1 (firstCount d) ≡ false → Points (readData longest) SecondCount d (refusalAt 7 1) 1
+    first : isDataCodec (codecOf d) ≡ true → firstCount d < 1 → Points (readData longest) SecondCount d (refusalAt 7 1) 1
     first known none =
         record {
           byte = λ h. omega (arith, long);
           inside = omega (arith, long);
           alike = λ q l f. let k : Agree 2 d q = agreed l f in
-              inl (field-7 longest q (ap isDataCodec (same-codec k (omega arith)) ∙ known) (ap (leb 1) (same-first k (omega arith)) ∙ none));
+              inl (data-none longest q (ap isDataCodec (same-codec k (omega arith)) ∙ known) (omega (arith, same-first k (omega arith), none)));
         }
 
-    last : isDataCodec (codecOf d) ≡ true → leb 1 (firstCount d) ≡ true → eqb (firstCount d) (lastCount d) ≡ false
-        → Points (readData longest) SecondCount d (refusalAt 7 (length d - 1)) 1
-    last known some uneven =
+    last : isDataCodec (codecOf d) ≡ true → 1 ≤ firstCount d → (firstCount d ≡ lastCount d → ⊥) → Points (readData longest) SecondCount d (refusalAt 7 (length d - 1)) 1
+    last known some ne =
         record {
           byte = λ h. omega (arith, long);
           inside = omega (arith, long);
-          alike = λ q l f. let k : Agree (length d - 1 + 1) d q = agreed l f in inl (ap (readData longest) (agree-all k (omega (arith, long))) ∙ field-7-last longest d known some uneven);
+          alike = λ q l f. let k : Agree (length d - 1 + 1) d q = agreed l f in
+              inl (ap (readData longest) (agree-all k (omega (arith, long))) ∙ data-uneven longest d known some ne);
         }
 
-    walk : isDataCodec (codecOf d) ≡ true → leb 1 (firstCount d) ≡ true → eqb (firstCount d) (lastCount d) ≡ true → (x : Read (List AvlRecord)) → records longest d ≡ x
+    walk : isDataCodec (codecOf d) ≡ true → 1 ≤ firstCount d → firstCount d ≡ lastCount d → (x : Read (List AvlRecord)) → recordsOf longest d ≡ x
         → Points (readData longest) SecondCount d r (dataWidth d r)
-    walk known some even (got rs n) b = absurd (field-read longest d known some even b e)
+    walk known some even (got rs n) b = absurd (let good = data-got longest d known some even b in let z : _≡_ {A = ℕ} 0 1 = cc (sym good ∙ e) in omega (arith, z))
     walk known some even (bad x) b =
         let w = widthsOf (codecOf d) in
         let k = all-local w (inner d) (narrow (codecOf d) .generation) longest (firstCount d) 0 (omega arith) .stops x b in
         let wide : offending w (inner d) (back 2 (movedBy 2 x)) ≡ offending w (inner d) x = ap (offending w (inner d)) (moved-back 2 x) in
-        to (field-walk longest d known some even b) refl
+        to (data-bad longest d known some even b) refl
         (record {
           byte = λ h. omega (arith, k .inside, inner-long d long, long);
           inside = omega (arith, wide, k .inside, inner-long d long, long);
@@ -188,13 +160,13 @@ data-points longest d r long e =
               let g : Agree (2 + x .place + offending w (inner d) (back 2 (movedBy 2 x))) d q = agreed l f in
               let more : 2 ≤ 2 + x .place + offending w (inner d) (back 2 (movedBy 2 x)) = omega arith in
               let known-q = ap isDataCodec (same-codec g (omega arith)) ∙ known in
-              let some-q = ap (leb 1) (same-first g more) ∙ some in
+              let some-q : 1 ≤ firstCount q = omega (arith, same-first g more, some) in
               let inside = agree-less (agree-inner g more) (omega (arith, wide)) in
-              let again : records longest q ≡ bad x =
+              let again : recordsOf longest q ≡ bad x =
               ap₂ (λ (c n : ℕ). allRecords longest (widthsOf c) n (inner q) 0) (same-codec g (omega arith)) (same-first g more) ∙ k .alike (inner q) inside in
               by-test (eqb (firstCount q) (lastCount q))
-              (λ even-q. inl (field-walk longest q known-q some-q even-q again))
-              (λ uneven-q. inr (_, field-7-last longest q known-q some-q uneven-q, refl));
+              (λ even-q. inl (data-bad longest q known-q some-q (eqb-true _ _ even-q) again))
+              (λ uneven-q. inr (_, data-uneven longest q known-q some-q (eqb-false _ _ uneven-q), refl));
         })
 
 -- ---- a command's field
@@ -208,31 +180,12 @@ no-row codec (l ∷ ls) {y} e = go (eqb codec (l .codec)) e (λ f. no-row codec 
     go true f k = absurd (let z : _≡_ {A = ℕ} 0 1 = cc in omega arith)
     go false f k = k f
 
-module _ (d : List ℕ) where
-  abbrev body : Layout → Read Command
-  body l = commandBody l (length (inner d)) (inner d) 0
+text-6 : (d : List ℕ) {y : Refusal} → layoutOf (codecOf d) ≡ refused y → readField d ≡ refused (refusalAt 6 0)
+unfolding layoutOf
+text-6 d e = codec-unknown d (e ∙ ap refused (no-row (codecOf d) layouts e))
 
-  text-6 : {y : Refusal} → layoutOf (codecOf d) ≡ refused y → readField d ≡ refused (refusalAt 6 0)
-  unfolding readField layoutOf
-  text-6 e = onAccepted-refused (layoutOf (codecOf d)) _ e ∙ ap refused (no-row (codecOf d) layouts e)
-
-  module _ {l : Layout} (row : layoutOf (codecOf d) ≡ accepted l) where
-    text-7 : eqb (firstCount d) 1 ≡ false → readField d ≡ refused (refusalAt 7 1)
-    unfolding readField
-    text-7 e = onAccepted-passed _ _ row ∙ check-failed _ 7 _ _ e
-
-    module _ (first : eqb (firstCount d) 1 ≡ true) where
-      text-7-last : eqb (lastCount d) 1 ≡ false → readField d ≡ refused (refusalAt 7 (length d - 1))
-      unfolding readField
-      text-7-last e = onAccepted-passed _ _ row ∙ check-passed _ 7 _ _ first ∙ check-failed _ 7 _ _ e
-
-      module _ (last : eqb (lastCount d) 1 ≡ true) where
-        text-told : readField d ≡ told 2 (body l)
-        unfolding readField
-        text-told = onAccepted-passed _ _ row ∙ check-passed _ 7 _ _ first ∙ check-passed _ 7 _ _ last
-
-        text-walk : {x : Refusal} → body l ≡ bad x → readField d ≡ refused (movedBy 2 x)
-        text-walk b = text-told ∙ told-bad 2 _ b
+abbrev body : List ℕ → Layout → Read Command
+body d l = commandBody l (length (inner d)) (inner d) 0
 
 quantity-width : (d : List ℕ) (place : ℕ) → textWidth d (refusalAt 7 place) ≡ 1
 unfolding textWidth offendingText
@@ -249,13 +202,13 @@ text-points d r long e = row (layoutOf (codecOf d)) refl
     to : {x : Refusal} {w : ℕ} → readField d ≡ refused x → textWidth d x ≡ w → Points readField SecondCount d x w → Points readField SecondCount d r (textWidth d r)
     to f wide h = pointed readField SecondCount d (textWidth d) f e wide h
 
-    walk : (l : Layout) → layoutOf (codecOf d) ≡ accepted l → eqb (firstCount d) 1 ≡ true → eqb (lastCount d) 1 ≡ true → (x : Read Command) → body d l ≡ x
+    walk : (l : Layout) → layoutOf (codecOf d) ≡ accepted l → firstCount d ≡ 1 → lastCount d ≡ 1 → (x : Read Command) → body d l ≡ x
         → Points readField SecondCount d r (textWidth d r)
-    walk l known one last (got c n) b = absurd (let good = text-told d known one last ∙ told-got 2 _ b in let z : _≡_ {A = ℕ} 0 1 = cc in omega (arith, z))
+    walk l known one last (got c n) b = absurd (let good = field-walk d known one last ∙ told-got 2 _ b in let z : _≡_ {A = ℕ} 0 1 = cc (sym good ∙ e) in omega (arith, z))
     walk l known one last (bad x) b =
         let k = body-local (inner d) l (length (inner d)) .stops x b in
         let wide : offendingText (inner d) (back 2 (movedBy 2 x)) ≡ offendingText (inner d) x = ap (offendingText (inner d)) (moved-back 2 x) in
-        to (text-walk d known one last b) refl
+        to (field-walk d known one last ∙ told-bad 2 _ b) refl
         (record {
           byte = λ h. omega (arith, k .inside, inner-long d long, long);
           inside = omega (arith, wide, k .inside, inner-long d long, long);
@@ -263,13 +216,13 @@ text-points d r long e = row (layoutOf (codecOf d)) refl
               let g : Agree (2 + x .place + offendingText (inner d) (back 2 (movedBy 2 x))) d q = agreed l′ f in
               let more : 2 ≤ 2 + x .place + offendingText (inner d) (back 2 (movedBy 2 x)) = omega arith in
               let known-q = ap layoutOf (same-codec g (omega arith)) ∙ known in
-              let one-q = ap (λ (n : ℕ). eqb n 1) (same-first g more) ∙ one in
+              let one-q = same-first g more ∙ one in
               let inside = agree-inner g more in
               let again : body q l ≡ bad x =
               ap (λ (n : ℕ). commandBody l n (inner q) 0) (inside .long) ∙ k .alike (inner q) (agree-less inside (omega (arith, wide))) in
               by-test (eqb (lastCount q) 1)
-              (λ last-q. inl (text-walk q known-q one-q last-q again))
-              (λ other. inr (_, text-7-last q known-q one-q other, refl));
+              (λ last-q. inl (field-walk q known-q one-q (eqb-true _ _ last-q) ∙ told-bad 2 _ again))
+              (λ other. inr (_, last-wrong q known-q one-q (eqb-false _ _ other), refl));
         })
 
     row : (x : Answer Layout) → layoutOf (codecOf d) ≡ x → Points readField SecondCount d r (textWidth d r)
@@ -282,19 +235,19 @@ text-points d r long e = row (layoutOf (codecOf d)) refl
         })
     row (accepted l) known =
         by-test (eqb (firstCount d) 1)
-        (λ one. by-test (eqb (lastCount d) 1) (λ last. walk l known one last (body d l) refl)
-        (λ other. to (text-7-last d known one other) (quantity-width d (length d - 1))
+        (λ one. by-test (eqb (lastCount d) 1) (λ last. walk l known (eqb-true _ _ one) (eqb-true _ _ last) (body d l) refl)
+        (λ other. let wrong = last-wrong d known (eqb-true _ _ one) (eqb-false _ _ other) in to wrong (quantity-width d (length d - 1))
         (record {
           byte = λ h. omega (arith, long);
           inside = omega (arith, long);
-          alike = λ q l′ f. let k : Agree (length d - 1 + 1) d q = agreed l′ f in inl (ap readField (agree-all k (omega (arith, long))) ∙ text-7-last d known one other);
+          alike = λ q l′ f. let k : Agree (length d - 1 + 1) d q = agreed l′ f in inl (ap readField (agree-all k (omega (arith, long))) ∙ wrong);
         })))
-        (λ other. to (text-7 d known other) (quantity-width d 1)
+        (λ other. to (first-wrong d known (eqb-false _ _ other)) (quantity-width d 1)
         (record {
           byte = λ h. omega (arith, long);
           inside = omega (arith, long);
           alike = λ q l′ f. let k : Agree 2 d q = agreed l′ f in
-              inl (text-7 q (ap layoutOf (same-codec k (omega arith)) ∙ known) (ap (λ (n : ℕ). eqb n 1) (same-first k (omega arith)) ∙ other));
+              inl (first-wrong q (ap layoutOf (same-codec k (omega arith)) ∙ known) (λ f₁. eqb-false _ _ other (sym (same-first k (omega arith)) ∙ f₁)));
         }))
 
 -- ---- the frame, test by test

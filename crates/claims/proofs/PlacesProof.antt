@@ -1,16 +1,15 @@
 -- Every refusal points at its field: of packets, commands, datagrams and logins.
 use Prim.Native.Nat.{ℕ, zero, suc, _+_, _-_, _%_, _≤_, _<_}
 use native.Mathlib.Omega.{arith}
-use mathlib.Core.Path.{_≡_, refl, sym, ap, ap₂, subst, _∙_}
+use mathlib.Core.Path.{_≡_, refl, sym, ap, subst, _∙_}
 use mathlib.Core.Logic.{inl, inr, ⊎-elim}
-use mathlib.Core.Bool.{Bool, true, false}
+use mathlib.Core.Bool.{true, false}
 use mathlib.Core.List.{List}
 use lib.ListN.{length, drop, length-drop, getD}
 use lib.Dec.{eqb, leb}
-use borrow.Author.Tests.{leb-true, eq-eqb, ne-eqb}
+use borrow.Author.Tests.{leb-true, eq-eqb, ne-eqb, eqb-true, eqb-false}
 use Rattle.wire.specs.declared.Limits.{Limits}
 use Rattle.wire.specs.declared.Refusal.{Refusal}
-use Rattle.wire.specs.Limits.{isKnown}
 use Rattle.wire.specs.Numbers.{Bytes, numberAt}
 use Rattle.wire.specs.Reading.{Read, got, bad, Reader, _>>=_, pure, repeat}
 use Rattle.wire.specs.Answers.{Answer, accepted, refused, refusalAt, movedBy, told}
@@ -20,14 +19,15 @@ use Rattle.wire.proofs.Exactness.{then-got, here-got, require-got}
 use Rattle.wire.proofs.Walking.{short, number-there, then-bad, require-bad}
 use Rattle.wire.proofs.Widths.{bytes-getD}
 use Rattle.wire.proofs.ImeiWord.{digit-byte, other-byte}
-use Rattle.wire.proofs.Locality.{Agree, agree-less, agree-number, Local, local-then, local-pure, local-field}
+use Rattle.wire.proofs.Locality.{Agree, agree-less, agree-number, Local}
 use Rattle.wire.proofs.ImeiLocality.{imei-local}
 use Rattle.wire.proofs.ImeiText.{imei-exact, length-imeiText}
 use Rattle.avl.specs.DataField.{AvlData, readData}
 use Rattle.packet.specs.DataPackets.{readPacket}
 use Rattle.command.specs.Commands.{readField, readCommand}
 use Rattle.datagram.specs.declared.Header.{Header}
-use Rattle.datagram.specs.Datagrams.{readHeader, judgeHeader, readDatagram}
+use Rattle.datagram.specs.Datagrams.{judgeHeader, readDatagram}
+use Rattle.datagram.proofs.WalkLaws.{header-unknown, header-short, header-large, header-length, header-imei, header-is}
 use Rattle.login.specs.Login.{readLogin}
 use Rattle.line.proofs.Cases.{by-test}
 use Rattle.claims.specs.Places.{dataWidth, textWidth, imeiWidth, headerWidth, datagramWidth, Points, SecondCount, PlacesKept}
@@ -139,66 +139,9 @@ header-digit : (n : ℕ) → 8 ≤ n → headerWidth (refusalAt 15 n) ≡ 1
 unfolding headerWidth
 header-digit n h = digit 6 n h
 
-header-local : (p : List ℕ) → 26 ≤ length p → Local inHeader readHeader p 2
-unfolding readHeader headerWidth
-header-local p h =
-    local-field p header-missing 2 (omega (arith, h)) 2 _ (λ h₁.
-    local-field p header-missing 4 h₁ 1 _ (λ h₂.
-    local-field p header-missing 5 h₂ 1 _ (λ h₃.
-    local-then readImei _ p 6 (imei-local p header-missing 8 header-digit 6 h₃ refl (imei-length 6)) (λ imei n e o h₄.
-    local-pure p n h₄ _))))
-
--- what is wrong in it is the IMEI
-header-imei : (p : List ℕ) {x : Refusal} → 26 ≤ length p → readHeader p 2 ≡ bad x → readImei p 6 ≡ bad x
-unfolding readHeader pure
-header-imei p {x} long e = go (readImei p 6) refl
-  where
-    go : (r : Read ℕ) → readImei p 6 ≡ r → readImei p 6 ≡ bad x
-    go (got imei next) f =
-        absurd (let is = number-there _ p 2 2 (omega (arith, long)) ∙ number-there _ p 4 1 (omega (arith, long)) ∙ number-there _ p 5 1 (omega (arith, long)) ∙ then-got readImei _ p 6 f in
-        let z : _≡_ {A = ℕ} 0 1 = cc (sym e ∙ is) in omega (arith, z))
-    go (bad y) f =
-        let is = number-there _ p 2 2 (omega (arith, long)) ∙ number-there _ p 4 1 (omega (arith, long)) ∙ number-there _ p 5 1 (omega (arith, long)) ∙ then-bad readImei _ p 6 f in
-        let same : y ≡ x = cc (sym is ∙ e) in f ∙ ap bad same
-
--- it ends at 23
-header-ends : (p : List ℕ) {h : Header} {n : ℕ} → Bytes p → 26 ≤ length p → readHeader p 2 ≡ got h n → n ≡ 23
-unfolding readHeader pure
-header-ends p {h} {n} b long e = go (readImei p 6) refl
-  where
-    go : (r : Read ℕ) → readImei p 6 ≡ r → n ≡ 23
-    go (bad x) f =
-        absurd (let is = number-there _ p 2 2 (omega (arith, long)) ∙ number-there _ p 4 1 (omega (arith, long)) ∙ number-there _ p 5 1 (omega (arith, long)) ∙ then-bad readImei _ p 6 f in
-        let z : _≡_ {A = ℕ} 0 1 = cc (sym e ∙ is) in omega (arith, z))
-    go (got imei next) f =
-        let is = number-there _ p 2 2 (omega (arith, long)) ∙ number-there _ p 4 1 (omega (arith, long)) ∙ number-there _ p 5 1 (omega (arith, long)) ∙ then-got readImei _ p 6 f in
-        let same : n ≡ next = cc (sym e ∙ is) in
-        let k = imei-exact .sound p 6 b (omega (arith, long)) .if-got imei next f in
-        omega (arith, same, k .0 .size, length-imeiText imei)
-
-module _ (largest : ℕ) (p : List ℕ) where
-  header-21 : isKnown largest ≡ false → judgeHeader largest p ≡ refused (refusalAt 21 0)
-  unfolding judgeHeader
-  header-21 e = check-failed _ 21 _ _ e
-
-  module _ (known : isKnown largest ≡ true) where
-    header-1 : leb 26 (length p) ≡ false → judgeHeader largest p ≡ refused (refusalAt 1 0)
-    unfolding judgeHeader
-    header-1 e = check-passed _ 21 _ _ known ∙ check-failed _ 1 _ _ e
-
-    module _ (long : leb 26 (length p) ≡ true) where
-      header-3 : leb (length p) largest ≡ false → judgeHeader largest p ≡ refused (refusalAt 3 0)
-      unfolding judgeHeader
-      header-3 e = check-passed _ 21 _ _ known ∙ check-passed _ 1 _ _ long ∙ check-failed _ 3 _ _ e
-
-      module _ (most : leb (length p) largest ≡ true) where
-        header-4 : eqb (length p) (numberAt p 0 2 + 2) ≡ false → judgeHeader largest p ≡ refused (refusalAt 4 0)
-        unfolding judgeHeader
-        header-4 e = check-passed _ 21 _ _ known ∙ check-passed _ 1 _ _ long ∙ check-passed _ 3 _ _ most ∙ check-failed _ 4 _ _ e
-
-        header-told : eqb (length p) (numberAt p 0 2 + 2) ≡ true → judgeHeader largest p ≡ told 0 (readHeader p 2)
-        unfolding judgeHeader
-        header-told e = check-passed _ 21 _ _ known ∙ check-passed _ 1 _ _ long ∙ check-passed _ 3 _ _ most ∙ check-passed _ 4 _ _ e
+header-local : (p : List ℕ) → 26 ≤ length p → Local inHeader readImei p 6
+unfolding headerWidth
+header-local p h = imei-local p header-missing 8 header-digit 6 (omega (arith, h)) refl (imei-length 6)
 
 -- ---- a datagram
 
@@ -229,61 +172,61 @@ module _ (limits : Limits) (p : List ℕ) (r : Refusal) (b : Bytes p) (e : readD
   unfolding readDatagram
   in-data q u g = onAccepted-passed _ _ u ∙ onAccepted-refused _ _ (from-refused 23 _ g)
 
-  module _ (known : isKnown largest ≡ true) (long : leb 26 (length p) ≡ true) (most : leb (length p) largest ≡ true) where
-    longer : 26 ≤ length p
-    longer = leb-true 26 (length p) long
-
+  module _ (known : 1 ≤ largest) (long : 26 ≤ length p) (most : length p ≤ largest) where
     module _ (q : List ℕ) (l : length q ≡ length p) where
-      long-q : leb 26 (length q) ≡ true
-      long-q = ap (leb 26) l ∙ long
+      long-q : 26 ≤ length q
+      long-q = omega (arith, l, long)
 
-      most-q : leb (length q) largest ≡ true
-      most-q = ap (λ (n : ℕ). leb n largest) l ∙ most
+      most-q : length q ≤ largest
+      most-q = omega (arith, l, most)
 
-      same-size : {n : ℕ} {t : Bool} → Agree n p q → 2 ≤ n → eqb (length p) (numberAt p 0 2 + 2) ≡ t → eqb (length q) (numberAt q 0 2 + 2) ≡ t
-      same-size k h t = ap₂ (λ (m n : ℕ). eqb m (n + 2)) l (agree-number k 0 2 h) ∙ t
+      same-size : {n : ℕ} → Agree n p q → 2 ≤ n → numberAt q 0 2 + 2 ≡ numberAt p 0 2 + 2
+      same-size k h = ap (λ (n : ℕ). n + 2) (agree-number k 0 2 h)
 
-    other-length : eqb (length p) (numberAt p 0 2 + 2) ≡ false → Goal
+    other-length : (length p ≡ numberAt p 0 2 + 2 → ⊥) → Goal
     unfolding headerWidth
-    other-length t =
-        by-header (header-4 largest p known long most t) refl
+    other-length ne =
+        by-header (header-length largest p known long most ne) refl
         (record {
           byte = λ h. omega (arith, h);
-          inside = omega (arith, longer);
-          alike = λ q l f. let k : Agree 2 p q = agreed l f in inl (refused-too q (header-4 largest q known (long-q q l) (most-q q l) (same-size q l k (omega arith) t)));
+          inside = omega (arith, long);
+          alike = λ q l f. let k : Agree 2 p q = agreed l f in
+              inl (refused-too q (header-length largest q known (long-q q l) (most-q q l) (λ g. ne (sym l ∙ g ∙ same-size q l k (omega arith)))));
         })
 
-    module _ (whole : eqb (length p) (numberAt p 0 2 + 2) ≡ true) where
-      in-header : {x : Refusal} → readHeader p 2 ≡ bad x → Goal
+    module _ (whole : length p ≡ numberAt p 0 2 + 2) where
+      whole-q : {n : ℕ} (q : List ℕ) → length q ≡ length p → Agree n p q → 2 ≤ n → length q ≡ numberAt q 0 2 + 2
+      whole-q q l k h = l ∙ whole ∙ sym (same-size q l k h)
+
+      in-header : {x : Refusal} → readImei p 6 ≡ bad x → Goal
       in-header {x} f =
-          let k = header-local p longer .stops x f in
-          by-header (header-told largest p known long most whole ∙ told-whole _ f) refl
+          let k = header-local p long .stops x f in
+          by-header (header-imei largest p known long most whole f) refl
           (record {
-            byte = λ h. omega (arith, imei-early p 6 b (omega (arith, longer)) x (header-imei p longer f), longer);
+            byte = λ h. omega (arith, imei-early p 6 b (omega (arith, long)) x f, long);
             inside = k .inside;
             alike = λ q l g. let a : Agree (x .place + headerWidth x) p q = agreed l g in
-                inl (refused-too q (header-told largest q known (long-q q l) (most-q q l) (same-size q l a (omega (arith, k .behind)) whole) ∙ told-whole _ (k .alike q a)));
+                inl (refused-too q (header-imei largest q known (long-q q l) (most-q q l) (whole-q q l a (omega (arith, k .behind))) (k .alike q a)));
           })
 
-      in-field : {h : Header} {n : ℕ} → readHeader p 2 ≡ got h n → (x : Answer AvlData) → readData (limits .longest) (drop 23 p) ≡ x → Goal
+      in-field : {imei n : ℕ} → readImei p 6 ≡ got imei n → (x : Answer AvlData) → readData (limits .longest) (drop 23 p) ≡ x → Goal
       unfolding readDatagram
-      in-field {h} {n} f (accepted a) g =
-          let good = onAccepted-passed (judgeHeader largest p) _ (header-told largest p known long most whole ∙ told-got 0 _ f) ∙ onAccepted-passed _ _ (from-passed 23 _ g) in
+      in-field {imei} {n} f (accepted a) g =
+          let good = onAccepted-passed (judgeHeader largest p) _ (header-is largest p known long most whole f) ∙ onAccepted-passed _ _ (from-passed 23 _ g) in
           absurd (let z : _≡_ {A = ℕ} 0 1 = cc (sym e ∙ good) in omega (arith, z))
-      in-field {h} {n} f (refused x) g =
+      in-field {imei} {n} f (refused x) g =
           let d = drop 23 p in
-          let read = header-told largest p known long most whole ∙ told-got 0 _ f in
-          let k = data-points (limits .longest) d x (omega (arith, length-drop 23 p, longer)) g in
-          let ends = header-ends p b longer f in
-          pointed (readDatagram limits) SecondCount p (datagramWidth p (judgeHeader largest p)) (in-data p read g) e (width-there h read x)
+          let read = header-is largest p known long most whole f in
+          let k = data-points (limits .longest) d x (omega (arith, length-drop 23 p, long)) g in
+          let ends = imei-exact .sound p 6 b (omega (arith, long)) .if-got imei n f in
+          pointed (readDatagram limits) SecondCount p (datagramWidth p (judgeHeader largest p)) (in-data p read g) e (by-accepted p read x)
           (record {
-            byte = λ h. omega (arith, k .byte (omega (arith, length-drop 23 p, longer)), length-drop 23 p, longer);
-            inside = omega (arith, k .inside, length-drop 23 p, longer);
+            byte = λ h. omega (arith, k .byte (omega (arith, length-drop 23 p, long)), length-drop 23 p, long);
+            inside = omega (arith, k .inside, length-drop 23 p, long);
             alike = λ q l i.
                 let a : Agree (23 + x .place + dataWidth d x) p q = agreed l i in
-                let up : n ≤ 23 + x .place + dataWidth d x = omega (arith, ends) in
-                let head = header-local p longer .reads h n f .alike q (agree-less a up) in
-                let read-q = header-told largest q known (long-q q l) (most-q q l) (same-size q l a (omega arith) whole) ∙ told-got 0 _ head in
+                let up : n ≤ 23 + x .place + dataWidth d x = omega (arith, ends .0 .size, length-imeiText imei) in
+                let read-q = header-is largest q known (long-q q l) (most-q q l) (whole-q q l a (omega arith)) (header-local p long .reads imei n f .alike q (agree-less a up)) in
                 let far : x .place + dataWidth d x ≤ 23 + x .place + dataWidth d x - 23 = omega arith in
                 let start : 23 ≤ 23 + x .place + dataWidth d x = omega arith in
                 let inside = agree-less (agree-drop a 23 start) far in
@@ -292,27 +235,26 @@ module _ (limits : Limits) (p : List ℕ) (r : Refusal) (b : Bytes p) (e : readD
                 (λ other. inr (movedBy 23 (other .0), in-data q read-q (other .1), other .2))
                 (k .alike (drop 23 q) (inside .long) (inside .front));
           })
-        where
-          width-there : (h : Header) → judgeHeader largest p ≡ accepted h → (x : Refusal) → datagramWidth p (judgeHeader largest p) (movedBy 23 x) ≡ dataWidth (drop 23 p) x
-          width-there h u x = by-accepted p u x
 
-      in-datagram : (h : Read Header) → readHeader p 2 ≡ h → Goal
-      in-datagram (got h n) f = in-field f (readData (limits .longest) (drop 23 p)) refl
+      in-datagram : (h : Read ℕ) → readImei p 6 ≡ h → Goal
+      in-datagram (got imei n) f = in-field f (readData (limits .longest) (drop 23 p)) refl
       in-datagram (bad x) f = in-header f
 
   pub datagram-points : Goal
   unfolding headerWidth imeiWidth
   datagram-points =
-      by-test (isKnown largest)
-      (λ known. by-test (leb 26 (length p))
-      (λ long. by-test (leb (length p) largest)
+      by-length 1 largest
+      (λ known. by-length 26 (length p)
+      (λ long. by-length (length p) largest
       (λ most. by-test (eqb (length p) (numberAt p 0 2 + 2))
-      (λ whole. in-datagram known long most whole (readHeader p 2) refl)
-      (other-length known long most))
-      (λ over. by-header (header-3 largest p known long over) refl
-      (record { byte = λ h. omega (arith, h); inside = omega arith; alike = λ q l f. inl (refused-too q (header-3 largest q known (ap (leb 26) l ∙ long) (ap (λ (n : ℕ). leb n largest) l ∙ over))) })))
-      (λ few. by-header (header-1 largest p known few) refl (record { byte = λ h. omega (arith, h); inside = omega arith; alike = λ q l f. inl (refused-too q (header-1 largest q known (ap (leb 26) l ∙ few))) })))
-      (λ unknown. by-header (header-21 largest p unknown) refl (record { byte = λ h. omega (arith, h); inside = omega arith; alike = λ q l f. inl (refused-too q (header-21 largest q unknown)) }))
+      (λ whole. in-datagram known long most (eqb-true _ _ whole) (readImei p 6) refl)
+      (λ other. other-length known long most (eqb-false _ _ other)))
+      (λ over. by-header (header-large largest p known long over) refl
+      (record { byte = λ h. omega (arith, h); inside = omega arith; alike = λ q l f. inl (refused-too q (header-large largest q known (omega (arith, l, long)) (omega (arith, l, over)))) })))
+      (λ few. by-header (header-short largest p known few) refl
+      (record { byte = λ h. omega (arith, h); inside = omega arith; alike = λ q l f. inl (refused-too q (header-short largest q known (omega (arith, l, few)))) })))
+      (λ unknown. by-header (header-unknown largest p unknown) refl
+      (record { byte = λ h. omega (arith, h); inside = omega arith; alike = λ q l f. inl (refused-too q (header-unknown largest q unknown)) }))
 
 pub places-kept : PlacesKept
 unfolding readPacket readCommand

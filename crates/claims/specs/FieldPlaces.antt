@@ -6,7 +6,7 @@ use Rattle.login.specs.declared.LoginAnswer.{LoginAnswer}
 use Rattle.command.specs.declared.CommandAnswer.{CommandAnswer}
 use Rattle.claims.specs.Rows.{Row, EachAsSaid, _at_byte_}
 use Rattle.claims.specs.Calls.{read-datagram, read-login, read-command}
-use Rattle.claims.specs.Packets.{field, tcp, udp, login, plain, one16, varied, two, twoUdp, getverField}
+use Rattle.claims.specs.Packets.{field, tcp, udp, login, plain, one16, full16, varied, two, twoUdp, getverField}
 
 -- a record cut short: the field of which bytes are missing
 unfoldable pub missingFields : List Row
@@ -44,6 +44,20 @@ missingFields =
     ∷ read-datagram "codec 16: total" 2 (udp 0x00 0x33 (field 0x10 1 (take 27 one16))) (DatagramAnswer.Refused (8 at 0 byte 52))
     ∷ read-datagram "codec 16: an ID" 2 (udp 0x00 0x36 (field 0x10 1 (take 30 one16))) (DatagramAnswer.Refused (8 at 0 byte 54))
     ∷ read-datagram "codec 16: a value" 2 (udp 0x00 0x37 (field 0x10 1 (take 31 one16))) (DatagramAnswer.Refused (8 at 0 byte 56))
+    ∷ read-datagram "codec 8E: count of two-byte values" 2 (udp 0x00 0x3A (field 0x8E 1 (take 34 varied))) (DatagramAnswer.Refused (8 at 0 byte 58))
+    ∷ read-datagram "codec 8E: count of four-byte values" 2 (udp 0x00 0x3C (field 0x8E 1 (take 36 varied))) (DatagramAnswer.Refused (8 at 0 byte 60))
+    ∷ read-datagram "codec 8E: count of eight-byte values" 2 (udp 0x00 0x3E (field 0x8E 1 (take 38 varied))) (DatagramAnswer.Refused (8 at 0 byte 62))
+    ∷ read-datagram "codec 16: count of one-byte values" 2 (udp 0x00 0x34 (field 0x10 1 (take 28 full16))) (DatagramAnswer.Refused (8 at 0 byte 53))
+    ∷ read-datagram "codec 16: count of two-byte values" 2 (udp 0x00 0x3B (field 0x10 1 (take 35 full16))) (DatagramAnswer.Refused (8 at 0 byte 60))
+    ∷ read-datagram "codec 16: a two-byte value's ID" 2 (udp 0x00 0x3D (field 0x10 1 (take 37 full16))) (DatagramAnswer.Refused (8 at 0 byte 61))
+    ∷ read-datagram "codec 16: a two-byte value, no byte" 2 (udp 0x00 0x3E (field 0x10 1 (take 38 full16))) (DatagramAnswer.Refused (8 at 0 byte 63))
+    ∷ read-datagram "codec 16: a two-byte value, one byte short" 2 (udp 0x00 0x3F (field 0x10 1 (take 39 full16))) (DatagramAnswer.Refused (8 at 0 byte 63))
+    ∷ read-datagram "codec 16: count of four-byte values" 2 (udp 0x00 0x40 (field 0x10 1 (take 40 full16))) (DatagramAnswer.Refused (8 at 0 byte 65))
+    ∷ read-datagram "codec 16: a four-byte value's ID" 2 (udp 0x00 0x42 (field 0x10 1 (take 42 full16))) (DatagramAnswer.Refused (8 at 0 byte 66))
+    ∷ read-datagram "codec 16: a four-byte value" 2 (udp 0x00 0x45 (field 0x10 1 (take 45 full16))) (DatagramAnswer.Refused (8 at 0 byte 68))
+    ∷ read-datagram "codec 16: count of eight-byte values" 2 (udp 0x00 0x47 (field 0x10 1 (take 47 full16))) (DatagramAnswer.Refused (8 at 0 byte 72))
+    ∷ read-datagram "codec 16: an eight-byte value's ID" 2 (udp 0x00 0x49 (field 0x10 1 (take 49 full16))) (DatagramAnswer.Refused (8 at 0 byte 73))
+    ∷ read-datagram "codec 16: an eight-byte value, one byte short" 2 (udp 0x00 0x51 (field 0x10 1 (take 57 full16))) (DatagramAnswer.Refused (8 at 0 byte 75))
     ∷ []
 
 -- two faults of the same number, of which the first counts; the first of left-over bytes; the end of the space

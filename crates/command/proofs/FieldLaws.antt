@@ -33,22 +33,22 @@ body-stopped (got c n) e = absurd (let z : _≡_ {A = ℕ} 0 1 = cc in omega ari
 body-stopped (bad y) e = ap bad (cc)
 
 module _ (d : List ℕ) where
-  pub codec-unknown : layoutOf (codecOf d) ≡ refused (refusal 6) → from 8 (readField d) ≡ refused (refusalAt 6 8)
-  unfolding readField onAccepted from
+  pub codec-unknown : layoutOf (codecOf d) ≡ refused (refusal 6) → readField d ≡ refused (refusalAt 6 0)
+  unfolding readField onAccepted
   codec-unknown e = simp e
 
   module _ {l : Layout} (row : layoutOf (codecOf d) ≡ accepted l) where
-    pub first-wrong : (firstCount d ≡ 1 → ⊥) → from 8 (readField d) ≡ refused (refusalAt 7 9)
-    unfolding readField onAccepted checkAt from
+    pub first-wrong : (firstCount d ≡ 1 → ⊥) → readField d ≡ refused (refusalAt 7 1)
+    unfolding readField onAccepted checkAt
     first-wrong e = simp (row, ne-eqb _ _ e)
 
     module _ (first : firstCount d ≡ 1) where
-      pub last-wrong : (lastCount d ≡ 1 → ⊥) → from 8 (readField d) ≡ refused (refusalAt 7 (8 + (length d - 1)))
-      unfolding readField onAccepted checkAt from
+      pub last-wrong : (lastCount d ≡ 1 → ⊥) → readField d ≡ refused (refusalAt 7 (length d - 1))
+      unfolding readField onAccepted checkAt
       last-wrong e = simp (row, eq-eqb _ _ first, ne-eqb _ _ e)
 
       module _ (last : lastCount d ≡ 1) where
-        field-walk : readField d ≡ told 2 (commandBody l (length (inner d)) (inner d) 0)
+        pub field-walk : readField d ≡ told 2 (commandBody l (length (inner d)) (inner d) 0)
         unfolding readField onAccepted checkAt
         field-walk = simp (row, eq-eqb _ _ first, eq-eqb _ _ last)
 

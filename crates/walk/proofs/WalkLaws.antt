@@ -16,7 +16,7 @@ use Rattle.wire.specs.declared.Walk.the-variants.{On, Stopped}
 use Rattle.wire.specs.Numbers.{Bytes, numberAt, pick}
 use Rattle.wire.specs.Reading.{Read, got, bad, walked, Reader, andThen, _>>=_, _>>_, pure, require, number, bytes, upTo, repeat}
 use Rattle.wire.specs.Envelope.{codecOf, firstCount, lastCount, inner}
-use Rattle.wire.specs.Answers.{Answer, accepted, from, told, onAccepted}
+use Rattle.wire.specs.Answers.{Answer, accepted, refused, refusalAt, movedBy, from, told, onAccepted}
 use Rattle.wire.proofs.Widths.{number-lt, byte-pos}
 use Rattle.wire.proofs.Enclosed.{bytes-inner}
 use Rattle.wire.proofs.Accepting.{by-length, pick-true, pick-false, pick-either, check-passed, check-failed}
@@ -28,7 +28,6 @@ use Rattle.walk.specs.declared.Counted.the-variants.{Of}
 use Rattle.walk.specs.declared.Span.{Span}
 use Rattle.walk.specs.declared.Records.{Records}
 use Rattle.walk.specs.declared.Records.the-variants.{All, Broken}
-use Rattle.walk.specs.declared.DataWalk.{DataWalk}
 use Rattle.walk.specs.declared.DataWalk.the-variants.{Taken, Refused}
 use Rattle.avl.specs.Codecs.{codec8, codec8E, codec16, widthsOf, isDataCodec, kinds, allKinds}
 use Rattle.avl.specs.Records.{Element, Fixed, AvlRecord, elementCount, recordBytes}
@@ -519,25 +518,25 @@ recordsOf longest d = allRecords longest (widthsOf (codecOf d)) (firstCount d) (
 abbrev withRecords : ℕ → Read (List AvlRecord) → Answer AvlData
 withRecords codec r = onAccepted (told 2 r) (λ rs. accepted (record { codec = codec; records = rs }))
 
-module _ (longest base want : ℕ) (d : List ℕ) where
-  -- what the walk answers of what is read
-  abbrev toldAs : Answer AvlData → DataWalk
-  toldAs r = dataWalk want (from base r)
+-- what is refused of a field that starts at `base`
+pub walk-refused : (base want : ℕ) (r : Answer AvlData) {x : Refusal} → r ≡ refused x → dataWalk want (from base r) ≡ Refused (movedBy base x)
+unfolding from dataWalk
+walk-refused base want r e = ap (λ a. dataWalk want (from base a)) e
 
-  pub data-unknown : isDataCodec (codecOf d) ≡ false → toldAs (readData longest d) ≡ Refused (record { number = 6; index = 0; place = base })
-  unfolding readData from dataWalk
-  data-unknown e = ap toldAs (check-failed _ 6 _ _ e) ∙ ap (λ (n : ℕ). Refused (record { number = 6; index = 0; place = n })) (add-zero base)
+module _ (longest : ℕ) (d : List ℕ) where
+  pub data-unknown : isDataCodec (codecOf d) ≡ false → readData longest d ≡ refused (refusalAt 6 0)
+  unfolding readData
+  data-unknown e = check-failed _ 6 _ _ e
 
   module _ (known : isDataCodec (codecOf d) ≡ true) where
-    pub data-none : firstCount d < 1 → toldAs (readData longest d) ≡ Refused (record { number = 7; index = 0; place = base + 1 })
-    unfolding readData from dataWalk
-    data-none h = ap toldAs (check-passed _ 6 _ _ known ∙ check-failed _ 7 _ _ (lt-leb 1 (firstCount d) h))
+    pub data-none : firstCount d < 1 → readData longest d ≡ refused (refusalAt 7 1)
+    unfolding readData
+    data-none h = check-passed _ 6 _ _ known ∙ check-failed _ 7 _ _ (lt-leb 1 (firstCount d) h)
 
     module _ (some : 1 ≤ firstCount d) where
-      pub data-uneven : (firstCount d ≡ lastCount d → ⊥) → toldAs (readData longest d) ≡ Refused (record { number = 7; index = 0; place = base + (length d - 1) })
-      unfolding readData from dataWalk
-      data-uneven ne =
-          ap toldAs (check-passed _ 6 _ _ known ∙ check-passed _ 7 _ _ (le-leb 1 (firstCount d) some) ∙ check-failed _ 7 _ _ (ne-eqb (firstCount d) (lastCount d) ne))
+      pub data-uneven : (firstCount d ≡ lastCount d → ⊥) → readData longest d ≡ refused (refusalAt 7 (length d - 1))
+      unfolding readData
+      data-uneven ne = check-passed _ 6 _ _ known ∙ check-passed _ 7 _ _ (le-leb 1 (firstCount d) some) ∙ check-failed _ 7 _ _ (ne-eqb (firstCount d) (lastCount d) ne)
 
       module _ (even : firstCount d ≡ lastCount d) where
         data-walk : readData longest d ≡ withRecords (codecOf d) (recordsOf longest d)
@@ -545,18 +544,24 @@ module _ (longest base want : ℕ) (d : List ℕ) where
         data-walk =
             check-passed _ 6 _ _ known ∙ check-passed _ 7 _ _ (le-leb 1 (firstCount d) some) ∙ check-passed _ 7 _ _ (eq-eqb (firstCount d) (lastCount d) even)
 
-        pub data-broken : {x : Refusal} → spanned (widthsOf (codecOf d)) want (recordsOf longest d) ≡ Broken x
-            → toldAs (readData longest d) ≡ Refused (record { number = x .number; index = x .index; place = base + (2 + x .place) })
-        unfolding told onAccepted from dataWalk
-        data-broken e = ap toldAs (data-walk ∙ ap (withRecords (codecOf d)) (spanned-broken _ want _ e))
+        pub data-bad : {x : Refusal} → recordsOf longest d ≡ bad x → readData longest d ≡ refused (movedBy 2 x)
+        unfolding told onAccepted
+        data-bad e = data-walk ∙ ap (withRecords (codecOf d)) e
 
-        pub data-taken : {span : Span} → Bytes d → spanned (widthsOf (codecOf d)) want (recordsOf longest d) ≡ All span
-            → toldAs (readData longest d) ≡ Taken (codecOf d) (firstCount d) span
-        unfolding told onAccepted from dataWalk
-        data-taken b e =
+        pub data-got : {rs : List AvlRecord} {n : ℕ} → recordsOf longest d ≡ got rs n → readData longest d ≡ accepted (record { codec = codecOf d; records = rs })
+        unfolding told onAccepted
+        data-got e = data-walk ∙ ap (withRecords (codecOf d)) e
+
+        pub data-broken : (want : ℕ) {x : Refusal} → spanned (widthsOf (codecOf d)) want (recordsOf longest d) ≡ Broken x → readData longest d ≡ refused (movedBy 2 x)
+        data-broken want e = data-bad (spanned-broken _ want _ e)
+
+        pub data-taken : (base want : ℕ) {span : Span} → Bytes d → spanned (widthsOf (codecOf d)) want (recordsOf longest d) ≡ All span
+            → dataWalk want (from base (readData longest d)) ≡ Taken (codecOf d) (firstCount d) span
+        unfolding from dataWalk
+        data-taken base want b e =
             let rs = spanned-all _ want _ e in
             let size = all-sound longest (widthsOf (codecOf d)) (firstCount d) (inner d) (bytes-inner d b) .if-got _ _ (rs .2) .1 in
-            ap toldAs (data-walk ∙ ap (withRecords (codecOf d)) (rs .2)) ∙ ap₂ (Taken (codecOf d)) size (rs .3)
+            ap (λ r. dataWalk want (from base r)) (data-got (rs .2)) ∙ ap₂ (Taken (codecOf d)) size (rs .3)
 
 -- a fault lies in the space between the counts
 pub broken-inside : (longest want : ℕ) (d : List ℕ) {x : Refusal} → 3 ≤ length d → spanned (widthsOf (codecOf d)) want (recordsOf longest d) ≡ Broken x

@@ -8,6 +8,7 @@ use borrow.Author.Needs.{needs}
 use Rattle.wire.specs.Envelope.{codecOf, firstCount, lastCount, inner}
 use Rattle.wire.specs.Answers.{accepted, onAccepted}
 use Rattle.wire.proofs.Widths.{getD-bytes}
+use Rattle.wire.proofs.Accepting.{from-refused}
 use Rattle.command.specs.declared.Layout.{Layout}
 use Rattle.command.specs.Walks.{bodyAs}
 use Rattle.command.specs.Commands.{answered, commandBody, commandAs}
@@ -53,7 +54,7 @@ refused-requires-2 c κs = search needs
 
 returns : tie.Need-returns
 unfolding commandAs answered onAccepted firstCount
-returns c = simp (c .refused2 .ensures, first-wrong (c .before .before .before .before .before .before .before .before .before .args .d .now) (found (c .before .before .before)) (c .before .if1 .taken))
+returns c = simp (c .refused2 .ensures, from-refused 8 _ (first-wrong (c .before .before .before .before .before .before .before .before .before .args .d .now) (found (c .before .before .before)) (c .before .if1 .taken)))
 
 sub-last : tie.Need-sub-last
 sub-last c = search needs
@@ -69,7 +70,7 @@ refused-requires-3 c κs = search needs
 
 returns-2 : tie.Need-returns-2
 unfolding commandAs answered onAccepted firstCount lastCount
-returns-2 c = simp (c .refused3 .ensures, last-wrong (c .before .before .before .before .before .before .before .before .before .before .before .args .d .now) (found (c .before .before .before .before .before)) (c .before .before .before .if1 .left) (c .before .if2 .taken))
+returns-2 c = simp (c .refused3 .ensures, from-refused 8 _ (last-wrong (c .before .before .before .before .before .before .before .before .before .before .before .args .d .now) (found (c .before .before .before .before .before)) (c .before .before .before .if1 .left) (c .before .if2 .taken)))
 
 sub-read-body : tie.Need-sub-read-body
 sub-read-body c = search needs
@@ -101,7 +102,7 @@ add-t27 c = omega (arith, stopped-inside _ (c .before .before .before .before .b
 
 returns-3 : tie.Need-returns-3
 unfolding commandAs answered onAccepted codecOf rowAs
-returns-3 c = simp (c .refused .ensures, codec-unknown (c .before .before .before .before .before .before .args .d .now) (sym (c .before .before .before .layout-of .ensures) ∙ ap rowAs (c .before .enum-told .given .1)))
+returns-3 c = simp (c .refused .ensures, from-refused 8 _ (codec-unknown (c .before .before .before .before .before .before .args .d .now) (sym (c .before .before .before .layout-of .ensures) ∙ ap rowAs (c .before .enum-told .given .1))))
 
 returns-4 : tie.Need-returns-4
 unfolding commandAs codecOf firstCount lastCount

@@ -1,5 +1,8 @@
 use Prim.Native.Nat.{ℕ, _-_}
+use native.Mathlib.Nat.{add-zero}
 use native.Mathlib.Omega.{arith}
+use Rattle.wire.specs.Answers.{refusalAt}
+use Rattle.walk.specs.declared.DataWalk.{DataWalk}
 use mathlib.Core.List.{List}
 use mathlib.Core.Path.{_≡_, sym, ap, ap₂, subst, _∙_}
 use lib.ListN.{length, take, drop}
@@ -17,7 +20,7 @@ use Rattle.walk.proofs.read_data.Lts as lts
 use Rattle.walk.proofs.all_records.Reads as all-records-reads
 use Rattle.walk.proofs.is_data_codec.Reads as is-data-codec-reads
 use Rattle.walk.proofs.widths_of.Reads as widths-of-reads
-use Rattle.walk.proofs.WalkLaws.{narrow, recordsOf, data-unknown, data-none, data-uneven, data-broken, data-taken, broken-inside}
+use Rattle.walk.proofs.WalkLaws.{narrow, recordsOf, data-unknown, data-none, data-uneven, data-broken, data-taken, broken-inside, walk-refused}
 use Rattle.walk.proofs.read_data.Statement.{statement}
 
 -- what the walk over the space between the counts answers
@@ -50,7 +53,8 @@ returns : tie.Need-returns
 unfolding codecOf
 returns c =
     let args = c .before .before .before .before .before .args in
-    sym (data-unknown (args .longest) (args .base) (args .want) (args .d .now) (sym (c .before .is-data-codec .ensures) ∙ not-true _ (c .if1 .taken)))
+    sym (walk-refused (args .base) (args .want) _ (data-unknown (args .longest) (args .d .now) (sym (c .before .is-data-codec .ensures) ∙ not-true _ (c .if1 .taken)))
+    ∙ ap (λ (n : ℕ). DataWalk.Refused (refusalAt 6 n)) (add-zero (args .base)))
 
 add-t17 : tie.Need-add-t17
 add-t17 c = search needs
@@ -59,7 +63,7 @@ returns-2 : tie.Need-returns-2
 unfolding codecOf firstCount
 returns-2 c =
     let args = c .before .before .before .before .before .before .args in
-    sym (data-none (args .longest) (args .base) (args .want) (args .d .now) (sym (c .before .before .is-data-codec .ensures) ∙ not-false _ (c .before .if1 .left)) (c .if2 .taken))
+    sym (walk-refused (args .base) (args .want) _ (data-none (args .longest) (args .d .now) (sym (c .before .before .is-data-codec .ensures) ∙ not-false _ (c .before .if1 .left)) (c .if2 .taken)))
 
 shared-slice-read-if3 : tie.Need-shared-slice-read-if3
 shared-slice-read-if3 c = search needs
@@ -71,7 +75,7 @@ returns-3 : tie.Need-returns-3
 unfolding codecOf firstCount lastCount
 returns-3 c =
     let args = c .before .before .before .before .before .before .before .before .args in
-    sym (data-uneven (args .longest) (args .base) (args .want) (args .d .now) (sym (c .before .before .before .before .is-data-codec .ensures) ∙ not-false _ (c .before .before .before .if1 .left)) (c .before .before .if2 .left) (c .if3 .taken))
+    sym (walk-refused (args .base) (args .want) _ (data-uneven (args .longest) (args .d .now) (sym (c .before .before .before .before .is-data-codec .ensures) ∙ not-false _ (c .before .before .before .if1 .left)) (c .before .before .if2 .left) (c .if3 .taken)))
 
 widths-of-requires : tie.Need-widths-of-requires
 widths-of-requires c κs = search needs
@@ -115,15 +119,15 @@ unfolding codecOf firstCount lastCount
 returns-4 c =
     let args = c .before .before .before .before .before .before .before .before .before .before .before .before .before .before .args in
     let d = args .d .now in
-    sym (data-taken (args .longest) (args .base) (args .want) d (sym (c .before .before .before .before .before .before .before .before .before .before .is-data-codec .ensures) ∙ not-false _ (c .before .before .before .before .before .before .before .before .before .if1 .left)) (c .before .before .before .before .before .before .before .before .if2 .left) (c .before .before .before .before .before .before .if3 .left)
-    (getD-bytes d (λ k. c .before .before .before .before .before .before .before .before .before .before .before .before .before .shared-slice-known .given k .fits)) (sym (walk (c .before .before .before)) ∙ c .before .span .given .1))
+    sym (data-taken (args .longest) d (sym (c .before .before .before .before .before .before .before .before .before .before .is-data-codec .ensures) ∙ not-false _ (c .before .before .before .before .before .before .before .before .before .if1 .left)) (c .before .before .before .before .before .before .before .before .if2 .left) (c .before .before .before .before .before .before .if3 .left)
+    (args .base) (args .want) (getD-bytes d (λ k. c .before .before .before .before .before .before .before .before .before .before .before .before .before .shared-slice-known .given k .fits)) (sym (walk (c .before .before .before)) ∙ c .before .span .given .1))
 
 returns-5 : tie.Need-returns-5
 unfolding codecOf firstCount lastCount
 returns-5 c =
     let args = c .before .before .before .before .before .before .before .before .before .before .before .before .before .before .before .args in
-    sym (data-broken (args .longest) (args .base) (args .want) (args .d .now) (sym (c .before .before .before .before .before .before .before .before .before .before .before .is-data-codec .ensures) ∙ not-false _ (c .before .before .before .before .before .before .before .before .before .before .if1 .left)) (c .before .before .before .before .before .before .before .before .before .if2 .left) (c .before .before .before .before .before .before .before .if3 .left)
-    (sym (walk (c .before .before .before .before)) ∙ c .before .before .x .given .1))
+    sym (walk-refused (args .base) (args .want) _ (data-broken (args .longest) (args .d .now) (sym (c .before .before .before .before .before .before .before .before .before .before .before .is-data-codec .ensures) ∙ not-false _ (c .before .before .before .before .before .before .before .before .before .before .if1 .left)) (c .before .before .before .before .before .before .before .before .before .if2 .left) (c .before .before .before .before .before .before .before .if3 .left)
+    (args .want) (sym (walk (c .before .before .before .before)) ∙ c .before .before .x .given .1)))
 
 pub read-data-spec : {M : Type 1} → statement M
 read-data-spec =
