@@ -1,6 +1,6 @@
 -- What was read tells of the bytes: of an element, of a group, of a record.
-use Prim.Native.Nat.{ℕ, suc, _+_, _^_, _≤_, _<_}
-use native.Mathlib.Nat.{pow-le-pow-right, add-zero, le-trans}
+use Prim.Native.Nat.{ℕ, suc, _+_, _≤_, _<_}
+use native.Mathlib.Nat.{add-zero}
 use native.Mathlib.Omega.{arith}
 use mathlib.Core.Path.{_≡_, refl, sym, ap, _∙_}
 use mathlib.Core.Bool.{Bool, true, false}
@@ -10,10 +10,9 @@ use lib.Seq.{length-take-le}
 use lib.Dec.{eqb}
 use lib.IntN.{ℤ}
 use borrow.Author.Tests.{eq-eqb, ne-eqb}
-use Rattle.wire.specs.Numbers.{Bytes, numberAt, signed, pick}
+use Rattle.wire.specs.Numbers.{numberAt, signed, pick}
 use Rattle.wire.specs.Reading.{Read, got, Reader, pure, number, repeat}
 use Rattle.wire.proofs.Accepting.{pick-true, pick-false}
-use Rattle.wire.proofs.Widths.{number-lt, byte-pos}
 use Rattle.wire.proofs.Exactness.{Meets, meets-pure}
 use Rattle.avl.specs.declared.Widths.{Widths}
 use Rattle.avl.specs.Codecs.{kinds}
@@ -31,9 +30,6 @@ use Rattle.element.specs.Search.{valueAt}
 
 pub got-same : {A : Type 0} {r : Read A} {a b : A} {m n : ℕ} → r ≡ got a m → r ≡ got b n → (a ≡ b) × (m ≡ n)
 got-same e f = (cc, cc)
-
-pub number-below : (s : List ℕ) (at w most : ℕ) → Bytes s → w ≤ most → numberAt s at w < 256 ^ most
-number-below s at w most b h = le-trans (number-lt s at w b) (pow-le-pow-right byte-pos h)
 
 -- ---- an element
 

@@ -1,6 +1,6 @@
 -- The laws of numbers as bytes, each once for every width.
 use Prim.Native.Nat.{ℕ, zero, suc, _+_, _-_, _*_, _/_, _%_, _^_, _≤_, _<_}
-use native.Mathlib.Nat.{add-zero, zero-add, add-suc, div-add-mod', mod-lt, mod-eq-of-lt, div-lt-iff-lt-mul, pow-zero, pow-suc, mul-one, mul-assoc, mul-comm, mul-le-mul-right, suc-add, le-refl, le-trans}
+use native.Mathlib.Nat.{add-zero, zero-add, add-suc, div-add-mod', mod-lt, mod-eq-of-lt, div-lt-iff-lt-mul, pow-zero, pow-suc, pow-le-pow-right, mul-one, mul-assoc, mul-comm, mul-le-mul-right, suc-add, le-refl, le-trans}
 use native.Mathlib.Numerals.{add-one}
 use native.Mathlib.Omega.{arith}
 use mathlib.Core.Path.{_≡_, refl, sym, ap, ap₂, _∙_, subst}
@@ -116,6 +116,9 @@ unfolding numberAt
 number-lt s at zero h = lit< tt
 number-lt s at (suc w) h =
     subst (λ (n : ℕ). numberAt s at w * 256 + getD s (at + w) 0 < n) (sym (pow-suc 256 w)) (digits-lt (number-lt s at w h) (bytes-getD s (at + w) h))
+
+pub number-below : (s : List ℕ) (at w most : ℕ) → Bytes s → w ≤ most → numberAt s at w < 256 ^ most
+number-below s at w most b h = le-trans (number-lt s at w b) (pow-le-pow-right byte-pos h)
 
 -- what was written is read
 pub number-be : (w n : ℕ) (s : List ℕ) (at : ℕ) (rest : List ℕ) → n < 256 ^ w → drop at s ≡ be w n ++ rest → numberAt s at w ≡ n

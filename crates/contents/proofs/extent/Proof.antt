@@ -1,6 +1,5 @@
 use Rattle.contents.specs.Words.{quad}
-use Rattle.element.proofs.ReadLaws.{number-below}
-use Rattle.wire.proofs.Widths.{getD-bytes}
+use Rattle.wire.proofs.Widths.{getD-bytes, number-below}
 use mathlib.Core.Path.{ap, _∙_}
 use native.Mathlib.Omega.{arith}
 use Prim.Native.Nat.{ℕ, _+_}

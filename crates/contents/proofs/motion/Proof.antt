@@ -1,6 +1,5 @@
-use Rattle.element.proofs.ReadLaws.{number-below}
 use Rattle.wire.proofs.Shifts.{number-add}
-use Rattle.wire.proofs.Widths.{getD-bytes}
+use Rattle.wire.proofs.Widths.{getD-bytes, number-below}
 use Rattle.wire.specs.Numbers.{numberAt}
 use mathlib.Core.Path.{_≡_, ap}
 use lib.Dec.{lit≤}

@@ -1,7 +1,7 @@
 use native.Mathlib.Omega.{arith}
 use borrow.Author.Needs.{needs}
-use Rattle.wire.proofs.Widths.{getD-bytes}
-use Rattle.element.proofs.ReadLaws.{number-below, ElementRead, element-read, id-within, size-within, variable-value, fixed-value}
+use Rattle.wire.proofs.Widths.{getD-bytes, number-below}
+use Rattle.element.proofs.ReadLaws.{ElementRead, element-read, id-within, size-within, variable-value, fixed-value}
 use Rattle.element.proofs.element_value.Tie as tie
 use Rattle.element.proofs.element_value.Reads as reads
 use Rattle.element.proofs.element_value.Lts as lts

@@ -6,8 +6,8 @@ use mir.Syntax.{w16, w32}
 use borrow.Author.Needs.{needs}
 use Rattle.wire.specs.Numbers.{signed, Bytes}
 use Rattle.wire.proofs.Shifts.{number-one}
-use Rattle.wire.proofs.Widths.{getD-bytes}
-use Rattle.element.proofs.ReadLaws.{RecordRead, fields-within, record-fields, number-below, record-read}
+use Rattle.wire.proofs.Widths.{getD-bytes, number-below}
+use Rattle.element.proofs.ReadLaws.{RecordRead, fields-within, record-fields, record-read}
 use Rattle.element.proofs.fields_of.Statement.{statement}
 use Rattle.element.proofs.fields_of.Tie as tie
 use Rattle.element.proofs.fields_of.Reads as reads
