@@ -1,5 +1,5 @@
 -- Naming `computing` on an `unfolding` line opens all that the tables compute with.
-use Rattle.wire.specs.Answers.{onAccepted, from, told, unplaced, checkAt}
+use Rattle.wire.specs.Answers.{isAccepted, onAccepted, from, told, unplaced, checkAt}
 use Rattle.wire.specs.Limits.{limitsOf}
 use Rattle.wire.specs.Envelope.{enclosed, codecOf, firstCount, lastCount, inner}
 use Rattle.wire.specs.Imei.{textDigit, readImei, packed, pairUpTo, readPacked}
@@ -14,7 +14,7 @@ use Rattle.avl.specs.Records.{elementCount, lengthBytes, elementBytes, groupByt
 use Rattle.packet.specs.DataPackets.{packetBytes, readPacket, answerPacket, acknowledged, tcpAcknowledgement, packetAs}
 use Rattle.command.specs.Commands.{commandField, commandBody, readField, readCommand, answerCommand, textView, textOffset, commandAs, answered}
 use Rattle.command.specs.Layouts.{types, layouts, findLayout, layoutOf}
-use Rattle.login.specs.Login.{readLogin, isAccepted, loginAnswer, loginAs}
+use Rattle.login.specs.Login.{readLogin, loginAnswer, loginAs}
 use Rattle.datagram.specs.Datagrams.{readHeader, readDatagram, answerDatagram, acknowledgementBytes, udpAcknowledgement, datagramAs, judgeHeader}
 use Rattle.store.specs.Entries.{entryBytes, entriesFrom, entriesOf}
 use Rattle.tlv.specs.Form.{fixedEntry, elementEntry, groupEntries, groupsEntries, recordsEntries, formEntries, form}

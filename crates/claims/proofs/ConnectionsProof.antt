@@ -14,7 +14,7 @@ use Rattle.wire.specs.Limits.{largestOfAll, limitsOf, isKnown}
 use Rattle.wire.proofs.LimitLaws.{limits-most}
 use Rattle.wire.specs.Numbers.{Bytes, digits, be, pick}
 use Rattle.wire.specs.Sequences.{joined, All}
-use Rattle.wire.specs.Answers.{Answer, accepted, refused, refusal, checkAt, told, onAccepted}
+use Rattle.wire.specs.Answers.{Answer, accepted, refused, refusal, checkAt, told, isAccepted, onAccepted}
 use Rattle.wire.specs.Numbers.{numberAt}
 use Rattle.wire.specs.Reading.{_>>=_, _>>_, here, number, span, andThen, require}
 use Rattle.wire.specs.Imei.{asciiDigit, imeiText, readImei}
@@ -27,7 +27,7 @@ use Rattle.packet.proofs.PacketLaws.{packet-exact}
 use Rattle.command.specs.Layouts.{layoutOf}
 use Rattle.command.specs.Commands.{Command, readCommand}
 use Rattle.command.proofs.PacketLaws.{command-exact}
-use Rattle.login.specs.Login.{readLogin, isAccepted}
+use Rattle.login.specs.Login.{readLogin}
 use Rattle.login.proofs.LoginLaws.{login-exact}
 use Rattle.stream.specs.Stream.{Phase, forLogin, forPacket, Item, login, packet, refusing, Verdict, more, settled, State, waiting, closed, needed, itemOf, judgedPacket, judged, verdict, verdictBy, next, Taken, afterByte, taken, Streamed, cons, byVerdict, stream}
 use Rattle.stream.proofs.StreamLaws.{more-needed, still-more, feed-judged, taken-more}

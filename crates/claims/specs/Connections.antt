@@ -10,11 +10,10 @@ use Rattle.wire.specs.declared.Limits.{Limits}
 use Rattle.wire.specs.Limits.{largestOfAll, limitsOf, isKnown}
 use Rattle.wire.specs.Numbers.{Bytes, pick}
 use Rattle.wire.specs.Sequences.{joined, All}
-use Rattle.wire.specs.Answers.{refusal}
+use Rattle.wire.specs.Answers.{refusal, isAccepted}
 use Rattle.wire.specs.Imei.{imeiText}
 use Rattle.avl.specs.DataField.{AvlData}
 use Rattle.packet.specs.DataPackets.{DataPacket}
-use Rattle.login.specs.Login.{isAccepted}
 use Rattle.stream.specs.Stream.{forLogin, forPacket, Item, login, packet, refusing, more, settled, waiting, stream}
 use Rattle.connection.specs.State.{Gathered, kept, fresh, isZero, opened, wanted}
 use Rattle.connection.specs.Feeding.{fed}

@@ -2,12 +2,13 @@
 use Prim.Native.Nat.{ℕ}
 use mathlib.Core.Bool.{Bool, true, false}
 use mathlib.Core.List.{List, [], _∷_}
+use lib.ListN.{getD}
 use lib.Dec.{eqb}
 use Rattle.command.specs.declared.Layout.{Layout}
 use Rattle.command.specs.declared.Row.{Row}
 use Rattle.command.specs.declared.Row.the-variants.{Of, Unknown}
 use Rattle.wire.specs.Numbers.{pick}
-use Rattle.wire.specs.Answers.{Answer, accepted, refused, refusal}
+use Rattle.wire.specs.Answers.{Answer, accepted, refused, refusal, isAccepted}
 
 -- the message types of a row: 05 command, 06 response and, where it has it, 11 (the IMEI does not match)
 unfoldable pub types : Layout → List ℕ
@@ -23,6 +24,10 @@ findLayout codec (l ∷ ls) = pick (eqb codec (l .codec)) (accepted l) (findLayo
 
 unfoldable pub layoutOf : ℕ → Answer Layout
 layoutOf codec = findLayout codec layouts
+
+-- a packet of one of these codecs: its codec stands at 8
+abbrev pub isCommand : List ℕ → Bool
+isCommand p = isAccepted (layoutOf (getD p 8 0))
 
 abbrev pub member : ℕ → List ℕ → Bool
 member x [] = false

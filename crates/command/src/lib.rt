@@ -12,7 +12,7 @@ ghost use Rattle.wire.specs.Answers.{accepted, from};
 ghost use Rattle.wire.specs.Buffers.{writing, leaving, writtenAs};
 ghost use Rattle.wire.specs.Imei.{packed};
 ghost use Rattle.frame.specs.Frame.{framed};
-ghost use Rattle.command.specs.Layouts.{layoutOf, rowAs, types, member};
+ghost use Rattle.command.specs.Layouts.{layoutOf, rowAs, isCommand, types, member};
 ghost use Rattle.command.specs.Commands.{bodyBytes, commandField, mismatch, commandBody, readField, readCommand, answerCommand, textView, textOffset, commandAs, answered};
 ghost use Rattle.command.specs.Writing.{givenImei, bytesWithin, commandBytes};
 ghost use Rattle.wire.specs.Limits.{limitsOf};
@@ -64,6 +64,19 @@ pub fn layout_of(codec: u8) -> Row
         });
     }
     Row::Unknown
+}
+
+// A packet of one of these codecs.
+pub fn is_command(p: &[u8]) -> bool
+    ensures { λ r. ⌜ r ≡ isCommand (now (p .entry)) ⌝ }
+{
+    if p.len() <= 8 {
+        return false;
+    }
+    match layout_of(p[8]) {
+        Row::Of(_) => true,
+        Row::Unknown => false,
+    }
 }
 
 // The message types of a row: 05, 06 and, where it has it, 11.

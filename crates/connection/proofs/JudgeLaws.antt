@@ -9,7 +9,7 @@ use borrow.Author.Tests.{eq-eqb, ne-eqb}
 use Rattle.wire.specs.declared.Limits.{Limits}
 use Rattle.wire.specs.declared.Refusal.{Refusal}
 use Rattle.wire.specs.Numbers.{Bytes, pick}
-use Rattle.wire.specs.Answers.{Answer, accepted, refused, onAccepted}
+use Rattle.wire.specs.Answers.{Answer, accepted, refused, isAccepted, onAccepted}
 use Rattle.wire.specs.Buffers.{writing, leaving}
 use Rattle.wire.proofs.Accepting.{onAccepted-accepted, onAccepted-passed, onAccepted-refused}
 use Rattle.wire.proofs.BufferLaws.{writing-done, leaving-done, written-fits}
@@ -19,7 +19,7 @@ use Rattle.command.specs.declared.CommandFields.{CommandFields}
 use Rattle.command.specs.Layouts.{layoutOf}
 use Rattle.command.specs.Commands.{readCommand, answerCommand, answered}
 use Rattle.command.proofs.TextLaws.{command-refused}
-use Rattle.login.specs.Login.{isAccepted, readLogin}
+use Rattle.login.specs.Login.{readLogin}
 use Rattle.stream.specs.Stream.{login, packet, refusing, itemOf, judgedPacket, judged}
 use Rattle.stream.proofs.ItemLaws.{by-command, by-data}
 use Rattle.connection.specs.State.{phaseOf}

@@ -5,6 +5,7 @@ use mathlib.Core.List.{List}
 use lib.ListN.{length}
 use lib.Dec.{eqb, leb}
 use Rattle.wire.specs.Numbers.{numberAt, pick}
+use Rattle.command.specs.Layouts.{isCommand}
 use Rattle.inspect.specs.declared.Task.{Task}
 use Rattle.inspect.specs.declared.Task.the-variants.{Packet, Datagram, Login, Command, Form, Connection}
 
@@ -19,10 +20,6 @@ isTcp p = shows p 0 4 0
 -- 17 bytes, an IMEI's length first
 unfoldable pub isLogin : List ℕ → Bool
 isLogin p = pick (eqb (length p) 17) (shows p 0 2 15) false
-
--- codec 12 or 14, where a TCP packet has its codec
-unfoldable pub isCommand : List ℕ → Bool
-isCommand p = pick (shows p 8 1 0x0C) true (shows p 8 1 0x0E)
 
 -- 01 00 64 00, unless an IMEI's length stands at 6, as in a datagram of 258 bytes with packet ID 6400
 unfoldable pub isForm : List ℕ → Bool

@@ -1,7 +1,7 @@
 // The words and the input: a word among those known, a file read to its end, and the kind of what it holds.
 ghost use mathlib.Core.Path.{_≡_};
 ghost use Prim.Native.Nat.{_≤_};
-ghost use Rattle.inspect.specs.FirstBytes.{shows, isTcp, isLogin, isCommand, isForm, isConnection, kindOf};
+ghost use Rattle.inspect.specs.FirstBytes.{shows, isTcp, isLogin, isForm, isConnection, kindOf};
 ghost use Rattle.inspect.specs.Words.{wordsOf, placeOf, PlaceOfSome};
 ghost use Rattle.inspect.specs.Reading.{ReadInto};
 use crate::Task;
@@ -125,15 +125,6 @@ fn is_login(p: &[u8]) -> bool
     false
 }
 
-fn is_command(p: &[u8]) -> bool
-    ensures { λ r. ⌜ r ≡ isCommand (now (p .entry)) ⌝ }
-{
-    if shows(p, 8, 1, 0x0C) {
-        return true;
-    }
-    shows(p, 8, 1, 0x0E)
-}
-
 fn is_form(p: &[u8]) -> bool
     ensures { λ r. ⌜ r ≡ isForm (now (p .entry)) ⌝ }
 {
@@ -165,7 +156,7 @@ pub fn found(p: &[u8]) -> Task
         return Task::Login;
     }
     if is_tcp(p) {
-        if is_command(p) {
+        if command::is_command(p) {
             return Task::Command;
         }
         return Task::Packet;

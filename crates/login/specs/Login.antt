@@ -1,14 +1,14 @@
 -- The TCP login, 17 bytes, and its answer, one byte.
 use Prim.Native.Nat.{ℕ, _^_, _<_}
 use mathlib.Core.Path.{_≡_}
-use mathlib.Core.Bool.{Bool, true, false}
+use mathlib.Core.Bool.{Bool}
 use mathlib.Core.List.{List, [], _∷_}
 use lib.ListN.{length}
 use lib.Dec.{leb}
 use Rattle.login.specs.declared.LoginAnswer.{LoginAnswer}
 use Rattle.login.specs.declared.LoginAnswer.the-variants.{Imei, Refused}
 use Rattle.wire.specs.Numbers.{pick}
-use Rattle.wire.specs.Answers.{Answer, accepted, refused, check, told}
+use Rattle.wire.specs.Answers.{Answer, accepted, refused, check, told, isAccepted}
 use Rattle.wire.specs.Imei.{imeiText, readImei}
 
 -- ---- the rules
@@ -23,10 +23,6 @@ unfoldable pub readLogin : List ℕ → Answer ℕ
 readLogin p = check (leb 17 (length p)) 1 (check (leb (length p) 17) 4 (told 0 (readImei p 0)))
 
 -- ---- the answer
-
-unfoldable pub isAccepted : {A : Type 0} → Answer A → Bool
-isAccepted (accepted a) = true
-isAccepted (refused r) = false
 
 -- 01 for a well-formed login of a unit that the caller knows, else 00
 unfoldable pub loginAnswer : Bool → List ℕ → List ℕ

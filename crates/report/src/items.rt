@@ -6,7 +6,6 @@ use crate::refuse;
 use crate::say_imei;
 use crate::show_command;
 use crate::show_packet;
-use command::Row;
 use connection::Item;
 use say::say;
 use wire::Refusal;
@@ -42,18 +41,8 @@ fn say_place(at: usize, size: usize) {
 }
 
 // By its codec, a packet goes by the command rules or by the data rules.
-fn is_command(p: &[u8]) -> bool {
-    if p.len() <= 8 {
-        return false;
-    }
-    match command::layout_of(p[8]) {
-        Row::Of(_) => true,
-        Row::Unknown => false,
-    }
-}
-
 fn say_whole(family: usize, p: &[u8]) -> usize {
-    if is_command(p) {
+    if command::is_command(p) {
         return show_command(family, p);
     }
     show_packet(family, p)
@@ -63,7 +52,7 @@ fn say_whole(family: usize, p: &[u8]) -> usize {
 fn refuse_item(s: &[u8], r: Refusal) -> usize
     ensures { λ n. ⌜ n ≡ r .number ⌝ }
 {
-    if is_command(s) {
+    if command::is_command(s) {
         return refuse(Judged::Command, s, r);
     }
     refuse(Judged::Packet, s, r)

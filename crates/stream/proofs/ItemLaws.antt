@@ -11,7 +11,7 @@ use borrow.Author.Tests.{le-leb, eq-eqb, eqb-true}
 use Rattle.wire.specs.declared.Limits.{Limits}
 use Rattle.wire.specs.Numbers.{digits, pick}
 use Rattle.wire.specs.Envelope.{enclosed, codecOf}
-use Rattle.wire.specs.Answers.{accepted, onAccepted}
+use Rattle.wire.specs.Answers.{accepted, isAccepted, onAccepted}
 use Rattle.wire.proofs.Accepting.{pick-true, pick-false, check-passed, onAccepted-accepted, onAccepted-passed, from-accepted}
 use Rattle.wire.proofs.Placed.{between-bytes, between-whole}
 use Rattle.frame.specs.Frame.{framed, FrameRules, fieldLength, fieldOf, header, unframe}
@@ -23,7 +23,6 @@ use Rattle.packet.proofs.PacketLaws.{packet-complete}
 use Rattle.command.specs.Layouts.{layouts, findLayout, layoutOf}
 use Rattle.command.specs.Commands.{Command, commandField, CommandPacket, readField, readCommand}
 use Rattle.command.proofs.PacketLaws.{command-complete}
-use Rattle.login.specs.Login.{isAccepted}
 use Rattle.stream.specs.Stream.{forPacket, Item, packet, settled, waiting, needed, itemOf, judgedPacket, judged, next, taken}
 use Rattle.stream.proofs.StreamLaws.{needed-long, feed-judged}
 

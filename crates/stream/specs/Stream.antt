@@ -1,7 +1,7 @@
 -- The bytes of a connection, one by one: a login, then data or command packets.
 use Prim.Native.Nat.{ℕ, suc, _+_}
 use mathlib.Core.List.{List, [], _∷_, _++_}
-use lib.ListN.{length, getD}
+use lib.ListN.{length}
 use lib.Dec.{leb}
 use Rattle.wire.specs.declared.Limits.{Limits}
 use Rattle.wire.specs.declared.Refusal.{Refusal}
@@ -9,9 +9,9 @@ use Rattle.wire.specs.Numbers.{pick}
 use Rattle.wire.specs.Answers.{Answer, accepted, refused, onAccepted}
 use Rattle.frame.specs.Frame.{header}
 use Rattle.packet.specs.DataPackets.{readPacket}
-use Rattle.command.specs.Layouts.{layoutOf}
+use Rattle.command.specs.Layouts.{isCommand}
 use Rattle.command.specs.Commands.{readCommand}
-use Rattle.login.specs.Login.{readLogin, isAccepted}
+use Rattle.login.specs.Login.{readLogin}
 
 -- what is expected: the login, or a packet
 pub data Phase : Type 0 where
@@ -49,7 +49,7 @@ itemOf f (refused r) = refusing r
 unfoldable pub judgedPacket : Limits → List ℕ → Answer (List ℕ)
 judgedPacket limits p =
     pick
-    (isAccepted (layoutOf (getD p 8 0)))
+    (isCommand p)
     (onAccepted (readCommand limits p) (λ c. accepted p))
     (onAccepted (readPacket limits p) (λ a. accepted p))
 

@@ -1,6 +1,6 @@
 -- An answer: its result, or the refusal.
 use Prim.Native.Nat.{ℕ, _+_}
-use mathlib.Core.Bool.{Bool}
+use mathlib.Core.Bool.{Bool, true, false}
 use Rattle.wire.specs.declared.Refusal.{Refusal}
 use Rattle.wire.specs.Numbers.{pick}
 use Rattle.wire.specs.Reading.{Read, got, bad}
@@ -12,6 +12,10 @@ pub data Answer (A : Type 0) : Type 0 where
 unfoldable pub onAccepted : {A B : Type 0} → Answer A → (A → Answer B) → Answer B
 onAccepted (accepted a) f = f a
 onAccepted (refused r) f = refused r
+
+unfoldable pub isAccepted : {A : Type 0} → Answer A → Bool
+isAccepted (accepted a) = true
+isAccepted (refused r) = false
 
 -- the refusal with this number, which no record has, of the field at this place
 abbrev pub refusalAt : ℕ → ℕ → Refusal

@@ -1,12 +1,11 @@
 use Rattle.connection.proofs.JudgeLaws.{command-taken, command-not, data-taken, data-not}
-use Rattle.login.specs.Login.{isAccepted}
 use Rattle.command.specs.Commands.{commandAs}
 use Rattle.command.specs.Layouts.{rowAs}
 use Rattle.walk.proofs.TakenLaws.{taken, not-taken}
 use Rattle.packet.specs.DataPackets.{readPacket}
 use Rattle.wire.proofs.Widths.{getD-bytes}
 use Rattle.wire.specs.Buffers.{writing, leaving, writtenAs}
-use Rattle.wire.specs.Answers.{onAccepted}
+use Rattle.wire.specs.Answers.{isAccepted, onAccepted}
 use mathlib.Core.Path.{sym, ap, _∙_}
 use borrow.Author.Needs.{needs}
 use Rattle.connection.proofs.take_packet.Statement.{statement}

@@ -1,6 +1,7 @@
 -- 01 for a login that is read, of a known unit.
 use borrow.Author.Needs.{needs}
-use Rattle.login.specs.Login.{isAccepted, loginAnswer, loginAs}
+use Rattle.wire.specs.Answers.{isAccepted}
+use Rattle.login.specs.Login.{loginAnswer, loginAs}
 use Rattle.login.proofs.answer_byte.Statement.{statement}
 use Rattle.login.proofs.answer_byte.Tie as tie
 
