@@ -3,3 +3,4 @@ pub mod HexAgain
 pub mod CalendarLaws
 pub mod SignedLaws
 pub mod DecimalLaws
+pub mod NumberLaws

@@ -1,10 +1,11 @@
-// Hex text to bytes and back, and the calendar date of a day.
+// Hex text to bytes and back, a decimal number, and the calendar date of a day.
 ghost use mathlib.Core.Path.{_≡_};
 ghost use Prim.Native.Nat.{_*_, _<_};
 ghost use lib.ListN.{length};
 ghost use lib.Seq.{sets};
 ghost use Rattle.text.specs.Hex.{among, markOf, kindOf, hexBytes, glyphOf, hexText, printable};
 ghost use lib.IntN.{natAbs};
+ghost use Rattle.text.specs.Decimal.{numberRead};
 ghost use Rattle.text.specs.Calendar.{leapDay, yearDays, monthDays, InYear, DateOf};
 
 // ---- hex text: digits in either case, white space anywhere
@@ -137,6 +138,42 @@ pub fn is_printable_text(s: &[u8]) -> bool
 }
 
 // ---- numbers
+
+// A number or a count, unless the word is none.
+pub enum Read {
+    Of(usize),
+    Wrong,
+}
+
+// A decimal number that is not above `limit`.
+pub fn number_of(w: &[u8], limit: usize) -> Read
+    ensures { λ r. ⌜ r ≡ numberRead limit (now (w .entry)) ⌝ }
+{
+    if w.len() == 0 {
+        return Read::Wrong;
+    }
+    let mut n: usize = 0;
+    let mut i: usize = 0;
+    while i < w.len() {
+        let c = w[i];
+        i += 1;
+        if c < 48 {
+            return Read::Wrong;
+        }
+        if 57 < c {
+            return Read::Wrong;
+        }
+        let d = (c - 48) as usize;
+        if limit / 10 < n {
+            return Read::Wrong;
+        }
+        if limit - n * 10 < d {
+            return Read::Wrong;
+        }
+        n = n * 10 + d;
+    }
+    Read::Of(n)
+}
 
 // How far a number is from 0.
 pub fn distance(x: i32) -> u64

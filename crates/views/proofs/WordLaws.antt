@@ -1,6 +1,5 @@
--- What a loop over a line or a word has left to read.
-use Prim.Native.Nat.{ℕ, zero, suc, _+_, _-_, _*_, _≤_, _<_}
-use native.Mathlib.Nat.{zero-add, add-zero}
+-- What a loop over a line has left to read.
+use Prim.Native.Nat.{ℕ, zero, suc, _+_, _-_, _≤_, _<_}
 use native.Mathlib.Numerals.{add-one}
 use native.Mathlib.Omega.{arith}
 use mathlib.Core.Path.{_≡_, refl, sym, ap, _∙_}
@@ -8,11 +7,10 @@ use mathlib.Core.Bool.{Bool, true, false}
 use mathlib.Core.List.{List, [], _∷_}
 use lib.ListN.{length, take, drop, getD, drop-of-length-le}
 use lib.Seq.{drop-cons}
-use lib.Dec.{eqb, leb}
-use borrow.Author.Tests.{le-leb, lt-leb, eq-eqb, ne-eqb}
+use lib.Dec.{eqb}
+use borrow.Author.Tests.{eq-eqb, ne-eqb}
 use Rattle.wire.specs.Numbers.{pick}
-use Rattle.views.specs.declared.words.Read.{Read}
-use Rattle.views.specs.Words.{spaces, firstWord, behindWord, wordAt, numberFrom, numberRead}
+use Rattle.views.specs.Words.{spaces, firstWord, behindWord, wordAt}
 
 module _ (s : List ℕ) (i : ℕ) (inside : i < length s) where
   next : drop i s ≡ getD s i 0 ∷ drop (i + 1) s
@@ -46,42 +44,9 @@ module _ (s : List ℕ) (i : ℕ) (inside : i < length s) where
   unfolding behindWord
   behind-on e = rw next (simp (ne-eqb _ _ e))
 
-  -- ---- a number's digits
-
-  pub number-low : (limit n : ℕ) → getD s i 0 < 48 → numberFrom limit n (drop i s) ≡ Read.Wrong
-  unfolding numberFrom
-  number-low limit n e = rw next (simp (lt-leb _ _ e))
-
-  pub number-high : (limit n : ℕ) → 57 < getD s i 0 → numberFrom limit n (drop i s) ≡ Read.Wrong
-  unfolding numberFrom
-  number-high limit n e = rw next (let low : 48 ≤ getD s i 0 = omega arith in simp (le-leb _ _ low, lt-leb _ _ e))
-
-  pub number-over : (limit n : ℕ) → 48 ≤ getD s i 0 → getD s i 0 ≤ 57 → limit < n * 10 + (getD s i 0 - 48) → numberFrom limit n (drop i s) ≡ Read.Wrong
-  unfolding numberFrom
-  number-over limit n low high e = rw next (simp (le-leb _ _ low, le-leb _ _ high, lt-leb _ _ e))
-
-  pub number-on : (limit n : ℕ) → 48 ≤ getD s i 0 → getD s i 0 ≤ 57 → n * 10 + (getD s i 0 - 48) ≤ limit
-      → numberFrom limit n (drop i s) ≡ numberFrom limit (n * 10 + (getD s i 0 - 48)) (drop (i + 1) s)
-  unfolding numberFrom
-  number-on limit n low high e = rw next (simp (le-leb _ _ low, le-leb _ _ high, le-leb _ _ e))
-
 pub spaces-done : (s : List ℕ) (i : ℕ) → length s ≤ i → spaces (drop i s) ≡ 0
 unfolding spaces
 spaces-done s i h = rw (drop-of-length-le s {i = i} h) refl
-
-pub number-first : (limit : ℕ) (w : List ℕ) → (length w ≡ 0 → ⊥) → numberFrom limit 0 w ≡ numberRead limit w
-unfolding numberRead
-number-first limit [] h = absurd (h refl)
-number-first limit (c ∷ w) h = refl
-
-pub number-none : (limit : ℕ) (w : List ℕ) → length w ≡ 0 → numberRead limit w ≡ Read.Wrong
-unfolding numberRead
-number-none limit [] h = refl
-number-none limit (c ∷ w) h = absurd (omega arith)
-
-pub number-done : (limit n : ℕ) (w : List ℕ) (i : ℕ) → length w ≤ i → numberFrom limit n (drop i w) ≡ Read.Of n
-unfolding numberFrom
-number-done limit n w i h = rw (drop-of-length-le w {i = i} h) refl
 
 -- ---- the word that starts at `start`, read up to `i`, with so many words to come before the one that is wanted
 

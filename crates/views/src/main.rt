@@ -8,7 +8,7 @@ mod words;
 use libc::STDERR_FILENO;
 use libc::STDIN_FILENO;
 use libc::STDOUT_FILENO;
-use words::Read;
+use text::Read;
 ghost use mathlib.Core.Path.{_≡_};
 ghost use Rattle.views.specs.Asked.{viewAsked};
 
@@ -146,7 +146,7 @@ fn older_bytes(call: Call, line: &[u8], buf: &mut [u8]) -> Read {
 fn record_number(call: Call, line: &[u8]) -> Read {
     match call {
         Call::LastKnownView | Call::CommandText => Read::Of(0),
-        _ => words::number_of(words::word(line, 3), usize::MAX),
+        _ => text::number_of(words::word(line, 3), usize::MAX),
     }
 }
 
@@ -155,9 +155,9 @@ fn last_number(call: Call, line: &[u8]) -> Read {
     match call {
         Call::CommandText => Read::Of(0),
         Call::PacketView | Call::DatagramView => {
-            words::number_of(words::word(line, 4), usize::MAX)
+            text::number_of(words::word(line, 4), usize::MAX)
         }
-        _ => words::number_of(words::word(line, 4), 65535),
+        _ => text::number_of(words::word(line, 4), 65535),
     }
 }
 
@@ -198,7 +198,7 @@ fn answer_line(line: &[u8], place: u64) {
     if words::count(line) != words {
         return wrong(place, b": not the words of this call\n");
     }
-    let Read::Of(family) = words::number_of(words::word(line, 1), usize::MAX) else {
+    let Read::Of(family) = text::number_of(words::word(line, 1), usize::MAX) else {
         return wrong(place, b": not the number of a family\n");
     };
     let Read::Of(n) = record_number(call, line) else {

@@ -1,17 +1,12 @@
-// The words of a line, each one space behind the one before: numbers, and bytes as hex digits.
+// The words of a line, each one space behind the one before, and bytes as hex digits.
 use text::Kind;
+use text::Read;
 ghost use mathlib.Core.Path.{_≡_};
 ghost use Prim.Native.Nat.{_+_};
 ghost use lib.ListN.{length};
 ghost use lib.Seq.{sets};
 ghost use Rattle.text.specs.Hex.{hexBytes};
-ghost use Rattle.views.specs.Words.{spaces, wordAt, numberRead, Counted};
-
-// A number or a count, unless the word is none.
-pub enum Read {
-    Of(usize),
-    Wrong,
-}
+ghost use Rattle.views.specs.Words.{spaces, wordAt, Counted};
 
 pub fn count(line: &[u8]) -> usize
     ensures { λ r. ⌜ r ≡ spaces (now (line .entry)) + 1 ⌝ }
@@ -50,36 +45,6 @@ pub fn word(line: &[u8], k: usize) -> &[u8]
         return &line[start..i];
     }
     &line[0..0]
-}
-
-// A decimal number that is not above `limit`.
-pub fn number_of(w: &[u8], limit: usize) -> Read
-    ensures { λ r. ⌜ r ≡ numberRead limit (now (w .entry)) ⌝ }
-{
-    if w.len() == 0 {
-        return Read::Wrong;
-    }
-    let mut n: usize = 0;
-    let mut i: usize = 0;
-    while i < w.len() {
-        let c = w[i];
-        i += 1;
-        if c < 48 {
-            return Read::Wrong;
-        }
-        if 57 < c {
-            return Read::Wrong;
-        }
-        let d = (c - 48) as usize;
-        if limit / 10 < n {
-            return Read::Wrong;
-        }
-        if limit - n * 10 < d {
-            return Read::Wrong;
-        }
-        n = n * 10 + d;
-    }
-    Read::Of(n)
 }
 
 // Pairs of hex digits and nothing else, or '-'.

@@ -1,13 +1,13 @@
 -- Invariant: what is left, behind the digits read, gives the number of the whole.
-use Rattle.views.proofs.WordLaws.{number-first, number-none, number-low, number-high, number-over, number-on, number-done}
-use Rattle.views.specs.Words.{numberFrom, numberRead}
+use Rattle.text.proofs.NumberLaws.{number-first, number-none, number-low, number-high, number-over, number-on, number-done}
+use Rattle.text.specs.Decimal.{numberFrom, numberRead}
 use lib.ListN.{length, drop}
 use mathlib.Core.Path.{_≡_, sym, _∙_}
 use native.Mathlib.Omega.{arith}
 use Prim.Native.Nat.{_-_, _≤_}
 use borrow.Author.Needs.{needs}
-use Rattle.views.proofs.words.number_of.Statement.{statement}
-use Rattle.views.proofs.words.number_of.Tie as tie
+use Rattle.text.proofs.number_of.Statement.{statement}
+use Rattle.text.proofs.number_of.Tie as tie
 
 abbrev Inv-loop : tie.InvT-loop
 Inv-loop w limit n₀ i₀ n i = (i ≤ length w) × (numberFrom limit n (drop i w) ≡ numberRead limit w)
