@@ -254,7 +254,7 @@ fn check_command(c: &mut Check, random: &mut Random, codec: u8, size: usize) {
         match random.below(4) {
             0 => input::damage(random, &mut d),
             1 => d[at] = random.next() as u8,
-            2 => d[at] = [1, 5, 6, 0x0C, 0x0E, 0x11][random.below(6)],
+            2 => d[at] = [1, 5, 6, 0x0C, 0x0D, 0x0E, 0x11][random.below(7)],
             _ => d[at] = d[at].wrapping_add(1),
         }
         check_tcp(c, random, &input::tcp(&d));
@@ -262,7 +262,7 @@ fn check_command(c: &mut Check, random: &mut Random, codec: u8, size: usize) {
 }
 
 fn check_write(c: &mut Check, random: &mut Random) {
-    let codec = [0x0C, 0x0E, 0x0E, 0x0C, 0x0D][random.below(5)];
+    let codec = [0x0C, 0x0D, 0x0E, 0x0C, 0x0D, 0x0E, 0x0F][random.below(7)];
     let kind = [5, 6, 0x11, 5, 6, 0x11, 4][random.below(7)];
     let size = if codec == 0x0E { 15 } else { 0 };
     let size = [size, size, size, 0, 14, 15, 16][random.below(7)];
@@ -279,9 +279,10 @@ fn check_write(c: &mut Check, random: &mut Random) {
         _ => random.below(1300),
     };
     let text = random.bytes(size);
-    let need = written!(c, write_command(family, codec, kind, &imei, &text), 1400, hand);
+    let time = random.next() as u32;
+    let need = written!(c, write_command(family, codec, kind, &imei, time, &text), 1400, hand);
     if need > 0 {
-        written!(c, write_command(family, codec, kind, &imei, &text), random.range(need - 1, need + 1), hand);
+        written!(c, write_command(family, codec, kind, &imei, time, &text), random.range(need - 1, need + 1), hand);
     }
 }
 
@@ -323,10 +324,10 @@ fn check_feeds(c: &mut Check, random: &mut Random, family: u8, mut stream: &[u8]
 fn check_connection(c: &mut Check, random: &mut Random, damaged: usize) {
     let mut stream = input::login(random);
     for _ in 0..random.below(6) {
-        let (kind, most) = (random.below(5), [60, 600, 1268][random.below(3)]);
+        let (kind, most) = (random.below(6), [60, 600, 1268][random.below(3)]);
         let mut data = match kind {
             0..3 => input::data(random, CODECS[kind].0, 50, most, 160).bytes,
-            _ => input::command(random, [0x0C, 0x0E][kind - 3], most - 20),
+            _ => input::command(random, [0x0C, 0x0D, 0x0E][kind - 3], most - 20),
         };
         if damaged == 1 && random.below(4) == 0 {
             input::damage_data(random, &mut data);
@@ -403,7 +404,7 @@ pub fn check(random: &mut Random) -> Check {
             }
         }
     }
-    for codec in [0x0C, 0x0E] {
+    for codec in [0x0C, 0x0D, 0x0E] {
         for round in 0..300 {
             let size = if round % 3 == 0 { random.below(1232) } else { random.below(12) };
             check_command(&mut c, random, codec, size);

@@ -256,15 +256,16 @@ fn two_digits(i: &[u8]) -> Read<'_, u64> {
 #[inline(never)]
 pub fn read_command(family: usize, p: &[u8]) -> Answer<Command> {
     let (_, data) = frame(limits_of(family)?, p)?;
-    let (rest, codec) = ruled(6, be_u8, |&c| c == 0x0C || c == 0x0E)(data)?;
+    let (rest, codec) = ruled(6, be_u8, |&c| (0x0C..=0x0E).contains(&c))(data)?;
     let (rest, _) = refused(7, tag([1]))(rest)?;
     let (last, body) = take::<_, _, Refusal>(rest.len() - 1)(rest)?;
     refused(7, tag([1]))(last)?;
     let (rest, kind) = ruled(13, be_u8, |&k| k == 5 || k == 6 || k == 0x11 && codec == 0x0E)(body)?;
     let left = rest.len().wrapping_sub(4);
     let (text, _) = ruled(14, be_u32, |&n| n as usize == left)(rest)?;
-    if codec == 0x0C {
-        return Ok(Command { codec, kind, imei: 0, offset: p.offset(text), size: text.len() });
+    if codec != 0x0E {
+        let (text, time) = if codec == 0x0C { (text, 0) } else { refused(14, be_u32)(text)? };
+        return Ok(Command { codec, kind, time, imei: 0, offset: p.offset(text), size: text.len() });
     }
     let (text, packed) = refused(14, take(8usize))(text)?;
     refused(15, verify(be_u8, |&d| d <= 9))(packed)?;
@@ -272,7 +273,7 @@ pub fn read_command(family: usize, p: &[u8]) -> Answer<Command> {
     if kind == 0x11 && !text.is_empty() {
         return Err(no(14));
     }
-    Ok(Command { codec, kind, imei, offset: p.offset(text), size: text.len() })
+    Ok(Command { codec, kind, time: 0, imei, offset: p.offset(text), size: text.len() })
 }
 
 // ---- looking up

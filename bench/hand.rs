@@ -54,6 +54,7 @@ pub struct Datagram {
 pub struct Command {
     pub codec: u8,
     pub kind: u8,
+    pub time: u32,
     pub imei: u64,
     pub offset: usize,
     pub size: usize,
@@ -392,6 +393,10 @@ pub fn acknowledge_datagram(family: usize, p: &[u8], out: &mut [u8]) -> Answer<u
 
 // ---- commands
 
+fn is_command(codec: u8) -> bool {
+    matches!(codec, 0x0C..=0x0E)
+}
+
 /// The number of sixteen digits, two a byte, the first of them 0.
 fn imei_of_packed(digits: &[u8; 8]) -> Option<u64> {
     if digits[0] > 9 {
@@ -428,7 +433,7 @@ pub fn read_command(family: usize, p: &[u8]) -> Answer<Command> {
 fn command_within(limits: Limits, p: &[u8]) -> Answer<Command> {
     let data = frame(limits, p)?;
     let codec = data[0];
-    if codec != 0x0C && codec != 0x0E {
+    if !is_command(codec) {
         return Err(no(6));
     }
     if data[1] != 1 || data[data.len() - 1] != 1 {
@@ -448,7 +453,14 @@ fn command_within(limits: Limits, p: &[u8]) -> Answer<Command> {
         return Err(no(14));
     }
     if codec == 0x0C {
-        return Ok(Command { codec, kind, imei: 0, offset: 15, size: rest.len() });
+        return Ok(Command { codec, kind, time: 0, imei: 0, offset: 15, size: rest.len() });
+    }
+    if codec == 0x0D {
+        let Some((time, text)) = rest.split_first_chunk::<4>() else {
+            return Err(no(14));
+        };
+        let time = u32::from_be_bytes(*time);
+        return Ok(Command { codec, kind, time, imei: 0, offset: 19, size: text.len() });
     }
     let Some((digits, text)) = rest.split_first_chunk::<8>() else {
         return Err(no(14));
@@ -459,7 +471,7 @@ fn command_within(limits: Limits, p: &[u8]) -> Answer<Command> {
     if kind == 0x11 && !text.is_empty() {
         return Err(no(14));
     }
-    Ok(Command { codec, kind, imei, offset: 23, size: text.len() })
+    Ok(Command { codec, kind, time: 0, imei, offset: 23, size: text.len() })
 }
 
 #[inline(never)]
@@ -468,11 +480,12 @@ pub fn write_command(
     codec: u8,
     kind: u8,
     imei: &[u8],
+    time: u32,
     text: &[u8],
     out: &mut [u8],
 ) -> Answer<usize> {
     let limits = limits_of(family)?;
-    if codec != 0x0C && codec != 0x0E {
+    if !is_command(codec) {
         return Err(no(6));
     }
     if !(kind == 5 || kind == 6 || kind == 0x11 && codec == 0x0E) {
@@ -482,11 +495,16 @@ pub fn write_command(
     let Some(packed) = packed else {
         return Err(no(15));
     };
-    let imei_bytes = if codec == 0x0E { &packed[..] } else { &[] };
-    if text.len() > limits.packet - 20 - imei_bytes.len() || kind == 0x11 && !text.is_empty() {
+    let time = time.to_be_bytes();
+    let heading = match codec {
+        0x0C => &[][..],
+        0x0D => &time,
+        _ => &packed,
+    };
+    if text.len() > limits.packet - 20 - heading.len() || kind == 0x11 && !text.is_empty() {
         return Err(no(14));
     }
-    let size = imei_bytes.len() + text.len();
+    let size = heading.len() + text.len();
     let Some(out) = out.get_mut(..size + 20) else {
         return Err(no(18));
     };
@@ -495,8 +513,8 @@ pub fn write_command(
     out[8..11].copy_from_slice(&[codec, 1, kind]);
     out[11..15].copy_from_slice(&(size as u32).to_be_bytes());
     let (data, field) = out[8..].split_at_mut(size + 8);
-    data[7..7 + imei_bytes.len()].copy_from_slice(imei_bytes);
-    data[7 + imei_bytes.len()..7 + size].copy_from_slice(text);
+    data[7..7 + heading.len()].copy_from_slice(heading);
+    data[7 + heading.len()..7 + size].copy_from_slice(text);
     data[7 + size] = 1;
     field.copy_from_slice(&u32::from(crc(data)).to_be_bytes());
     Ok(size + 20)
@@ -579,7 +597,7 @@ impl Connection {
 
 /// Judges a packet that is whole, and copies it.
 fn received(limits: Limits, p: &[u8], out: &mut [u8]) -> Answer<Item> {
-    if matches!(p[8], 0x0C | 0x0E) {
+    if is_command(p[8]) {
         command_within(limits, p)?;
     } else {
         packet_within(limits, p)?;

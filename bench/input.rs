@@ -202,15 +202,19 @@ pub fn damage_line(random: &mut Random, s: &mut Vec<u8>) {
 
 /// The data field of a command.
 pub fn command(random: &mut Random, codec: u8, text: usize) -> Vec<u8> {
-    let imei = if codec == 0x0E { 8 } else { 0 };
+    let (imei, time) = match codec {
+        0x0D => (0, 4),
+        0x0E => (8, 0),
+        _ => (0, 0),
+    };
     let kind = if imei == 8 && text == 0 { 0x11 } else { 5 + random.below(2) as u8 };
     let mut d = vec![codec, 1, kind];
-    d.extend((imei as u32 + text as u32).to_be_bytes());
+    d.extend((imei as u32 + time as u32 + text as u32).to_be_bytes());
     for i in 0..imei {
         let (high, low) = (random.below(10) as u8, random.below(10) as u8);
         d.push(if i == 0 { low } else { high << 4 | low });
     }
-    d.extend(random.bytes(text));
+    d.extend(random.bytes(time + text));
     d.push(1);
     d
 }
@@ -250,7 +254,7 @@ pub fn damage_data(random: &mut Random, d: &mut Vec<u8>) {
         0 => damage(random, d),
         _ if end <= 40 => d.truncate(end),
         // another codec over the same bytes
-        1 => d[0] = [0x08, 0x8E, 0x10, 0x0C, 0x0E, 0x07][random.below(6)],
+        1 => d[0] = [0x08, 0x8E, 0x10, 0x0C, 0x0D, 0x0E, 0x07][random.below(7)],
         2 => {
             let n = d[1].wrapping_add(random.below(3) as u8).wrapping_sub(1);
             d[1] = n;

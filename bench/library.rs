@@ -35,7 +35,7 @@ answer!(Packet { codec: u8, count: u8 });
 answer!(Datagram { codec: u8, count: u8, packet_id: u16, unused: u8, avl_packet_id: u8, imei: u64 });
 answer!(Login { imei: u64 });
 answer!(Sum { sum: u64 });
-answer!(Command { codec: u8, kind: u8, imei: u64, offset: usize, size: usize });
+answer!(Command { codec: u8, kind: u8, time: u32, imei: u64, offset: usize, size: usize });
 answer!(Record {
     timestamp: u64,
     priority: u8,
@@ -104,8 +104,8 @@ calls! {
     answer_login = brundilope_answer_login(p: bytes, known: bool, out: buffer) -> Written;
     acknowledge_packet = brundilope_acknowledge_packet(family: usize, p: bytes, out: buffer) -> Written;
     acknowledge_datagram = brundilope_acknowledge_datagram(family: usize, p: bytes, out: buffer) -> Written;
-    write_command = brundilope_write_command(family: usize, codec: u8, kind: u8, imei: bytes, text: bytes, out: buffer)
-        -> Written;
+    write_command = brundilope_write_command(
+        family: usize, codec: u8, kind: u8, imei: bytes, time: u32, text: bytes, out: buffer) -> Written;
     record_in_packet = brundilope_record_in_packet(family: usize, p: bytes, record: usize) -> Record;
     record_in_datagram = brundilope_record_in_datagram(family: usize, p: bytes, record: usize) -> Record;
     value_in_packet = brundilope_value_in_packet(family: usize, p: bytes, record: usize, element: usize) -> Value;
@@ -283,7 +283,7 @@ shape!(hand::Datagram, a => Datagram {
 shape!(u64, imei => Login { imei: imei });
 shape!(u64, sum => Sum { sum: sum });
 shape!(hand::Command, a => Command {
-    codec: a.codec, kind: a.kind, imei: a.imei, offset: a.offset, size: a.size
+    codec: a.codec, kind: a.kind, time: a.time, imei: a.imei, offset: a.offset, size: a.size
 });
 shape!(hand::Record, a => Record {
     timestamp: a.timestamp, priority: a.priority, longitude: a.longitude, latitude: a.latitude, altitude: a.altitude,

@@ -236,21 +236,22 @@ impl Table {
         self.form_rows(name, &tcp);
     }
 
-    /// The lines of commands with texts of this size; 12 and 14 in turn.
+    /// The lines of commands with texts of this size; 12, 13 and 14 in turn.
     fn command_rows(&mut self, size: usize) {
         let random = &mut self.random;
-        let codec = |i: usize| [0x0C, 0x0E][i % 2];
+        let codec = |i: usize| [0x0C, 0x0D, 0x0E][i % 3];
         let packets: Vec<_> = (0..POOL).map(|i| input::tcp(&input::command(random, codec(i), size))).collect();
         let texts: Vec<_> = (0..POOL).map(|_| random.bytes(size)).collect();
-        let imeis: Vec<_> = (0..POOL).map(|i| random.digits(i % 2 * 15)).collect();
-        self.row("read_command", "12, 14", &packets, &crc_sides!(read_command(|i| FAMILY, &packets[i][..])));
+        let imeis: Vec<_> = (0..POOL).map(|i| random.digits(i % 3 / 2 * 15)).collect();
+        self.row("read_command", "12, 13, 14", &packets, &crc_sides!(read_command(|i| FAMILY, &packets[i][..])));
         let (out, imei, text) = (&self.out, |i: usize| &imeis[i][..], |i: usize| &texts[i][..]);
-        let hand = side!(hand::write_command(|i| FAMILY, codec(i), 5, imei(i), text(i), &mut out.borrow_mut()[..]));
+        let hand = side!(hand::write_command(|i| FAMILY, codec(i), 5, imei(i), 7, text(i), &mut out.borrow_mut()[..]));
         let library =
-            side!(library::write_command(|i| FAMILY, codec(i), 5, imei(i), text(i), &mut out.borrow_mut()[..]));
-        let sliced = side!(sliced::write_command(|i| FAMILY, codec(i), 5, imei(i), text(i), &mut out.borrow_mut()[..]));
-        let floor = floor!(write_command(|i| FAMILY, codec(i), 5, imei(i), text(i), &mut out.borrow_mut()[..]));
-        self.row("write_command", "12, 14", &packets, &[Some(hand), Some(library), None, Some(sliced), floor]);
+            side!(library::write_command(|i| FAMILY, codec(i), 5, imei(i), 7, text(i), &mut out.borrow_mut()[..]));
+        let sliced =
+            side!(sliced::write_command(|i| FAMILY, codec(i), 5, imei(i), 7, text(i), &mut out.borrow_mut()[..]));
+        let floor = floor!(write_command(|i| FAMILY, codec(i), 5, imei(i), 7, text(i), &mut out.borrow_mut()[..]));
+        self.row("write_command", "12, 13, 14", &packets, &[Some(hand), Some(library), None, Some(sliced), floor]);
     }
 
     fn login_row(&mut self) {

@@ -5,7 +5,8 @@ input together every place of it; each time with an offset that tells something:
 where the place has the same offset in every input, with that one; else with two
 at least, since one alone could come from a fixed number. Only answers that show
 an offset count for this. A field of several bytes has to be missing as a whole
-and in part, so that its start is told from the end of the bytes.
+and in part, so that its start is told from the end of the bytes. A call on
+commands has to reach all this with each codec of them by itself.
 """
 
 from collections import Counter, defaultdict
@@ -14,6 +15,7 @@ import reference
 
 NUMBERS = range(1, 22)
 CODECS = {0x08: "8", 0x8E: "8E", 0x10: "16"}
+COMMANDS = {codec: f"codec {codec}" for codec in reference.COMMANDS}
 KNOWN = tuple(reference.FAMILIES)
 UNKNOWN = "unknown"             # stands for every family that is not known
 
@@ -56,24 +58,47 @@ def degrees_places(field):
 # Why a field is no element of a billing line.
 ELEMENT_PLACES = ["element: no =", *number_places("ID"), *number_places("value"),
                   "tag: end", "tag: byte", "tag: escape", "tag: escape not due"]
-QUANTITIES = ["first", "both", "second"]
-SIZES = ["size", "under 8", "text with 11"]
 LOGIN_IMEI = ["length", "length and digit", "digit", "digits"]
 PACKED_IMEI = [place + others for place in ("first digit", "digit") for others in ("", ", others behind")]
+
+# Commands of each codec: what is refused of them behind their header, and of the arguments that they are written from.
+READ = {5: ["upper", "lower"], 7: ["first", "both", "second"], 8: ["type", "size", "size" + PART], 13: [""],
+        14: ["size"]}
+READ_COMMANDS = {
+    0x0C: READ,
+    0x0D: READ | {14: ["size", "under"]},
+    0x0E: READ | {14: ["size", "under", "text with 11"], 15: PACKED_IMEI},
+}
+WRITTEN = {13: [""], 15: ["length"], 14: ["over"]}
+WRITTEN_COMMANDS = {
+    0x0C: WRITTEN,
+    0x0D: WRITTEN,
+    0x0E: WRITTEN | {15: ["length", "digit"], 14: ["over", "text with 11"]},
+}
+
+
+def of_commands(name, rules):
+    """The inputs of this name by their codec, with the rules of each."""
+    return {f"{name}, {COMMANDS[codec]}": own for codec, own in rules.items()}
+
+
+# "command", "text" and "connection" by themselves: what is judged before the codec, and those of no command's codec.
 INPUTS = {
     "packet": FRAME | COUNTS,
     "datagram": {1: [""], 3: [""], 4: ["missing", "too many"], 15: LOGIN_IMEI} | COUNTS,
-    "command": FRAME | {6: [""], 7: QUANTITIES, 8: ["type", "size", "size" + PART], 13: [""], 14: SIZES,
-                        15: PACKED_IMEI},
+    "command": FRAME | {6: [""]},
+    **of_commands("command", READ_COMMANDS),
     "login": {1: [""], 4: [""], 15: LOGIN_IMEI},
-    "text": {6: [""], 13: [""], 15: ["length", "digit"], 14: ["over", "text with 11"]},
+    "text": {6: [""]},
+    **of_commands("text", WRITTEN_COMMANDS),
     "form": {17: ["no entry", "entry's head", "entry's body", "first kind", "codec's length", "codec",
                   "record's length", "priority", "event ID", "generation type", "generation type outside 16",
                   "no record before it", "kind", "order", "element's length", "value's length", "ID", "no record",
                   "record's size", "packet's size", "group's count", "total"]},
-    "connection": {2: [""], 3: ["under", "over"], 5: ["upper", "lower"], 6: [""], 7: COUNTS[7] + QUANTITIES,
-                   8: ["timestamp", "timestamp" + PART, "left over", "type", "size", "size" + PART], 9: WALK[9],
-                   10: [""], 11: [""], 12: [""], 13: [""], 14: SIZES, 15: LOGIN_IMEI + PACKED_IMEI},
+    "connection": {2: [""], 3: ["under", "over"], 5: ["upper", "lower"], **COUNTS,
+                   8: ["timestamp", "timestamp" + PART, "left over"], 9: WALK[9], 10: [""], 11: [""], 12: [""],
+                   15: LOGIN_IMEI},
+    **of_commands("connection", READ_COMMANDS),
     "state": {},
     "line": {20: ["line: LF", "line: fields missing", *number_places("timestamp"), *degrees_places("longitude"),
                   *degrees_places("latitude"), *number_places("speed"), *ELEMENT_PLACES, "element: order"]},
@@ -83,18 +108,23 @@ INPUTS = {
 TELLING = "at an offset that tells something"
 
 # The offsets (request 6) that are the same in every input, by number or by number and place; 0 beyond 15, too.
-HEADER_AT = {1: 0, 2: 0, 3: 4, 4: 0}
+HEADER_AT = {1: 0, 2: 0, 3: 4, 4: 0, 6: 8}
+READ_AT = {(7, "first"): 9, (7, "both"): 9, (8, "type"): 10, (8, "size"): 11, (8, "size" + PART): 11, 13: 10,
+           (14, "size"): 11, (14, "under"): 11, (14, "text with 11"): 23, (15, "first digit"): 15,
+           (15, "first digit, others behind"): 15}
+WRITTEN_AT = {6: 0, 13: 0, 14: 0, 15: 0}
 FIXED = {
-    "packet": HEADER_AT | {6: 8, (7, "zero"): 9, (7, "first zero"): 9},
+    "packet": HEADER_AT | {(7, "zero"): 9, (7, "first zero"): 9},
     "datagram": {1: 0, 3: 0, 4: 0, 6: 23, (7, "zero"): 24, (7, "first zero"): 24, (15, "length"): 6,
                  (15, "length and digit"): 6},
-    "command": HEADER_AT | {6: 8, (7, "first"): 9, (7, "both"): 9, (8, "type"): 10, (8, "size"): 11,
-                            (8, "size" + PART): 11, 13: 10, (14, "size"): 11, (14, "under 8"): 11,
-                            (14, "text with 11"): 23, (15, "first digit"): 15, (15, "first digit, others behind"): 15},
+    "command": HEADER_AT,
+    **of_commands("command", dict.fromkeys(COMMANDS, READ_AT)),
     "login": {1: 0, 4: 0, (15, "length"): 0, (15, "length and digit"): 0},
-    "text": {6: 0, 13: 0, 14: 0, 15: 0},
+    "text": WRITTEN_AT,
+    **of_commands("text", dict.fromkeys(COMMANDS, WRITTEN_AT)),
+    **of_commands("connection", dict.fromkeys(COMMANDS, READ_AT)),
 }
-FIXED["connection"] = FIXED["packet"] | FIXED["command"] | FIXED["login"]
+FIXED["connection"] = FIXED["packet"] | FIXED["login"]
 
 
 def fixed(source, number, place):
@@ -146,15 +176,25 @@ NO_STATE = {19: ["closed", "phase", "length", "fill", "spare byte", "login held"
 BEFORE = ("fresh", "in a login", "between packets", "in a header", "in a packet")
 AFTER = ("no bytes", "more", "item", "item, bytes left", "refusal", "refusal, bytes left")
 FEEDS = [f"{before}: {after}" for before in BEFORE for after in AFTER]
+COMMAND_FEEDS = [f"{before}: {after}" for before in ("between packets", "in a packet") for after in AFTER[2:]]
 
 # The item of a stream that is refused: its offsets count from its start.
 STREAMS = ["login refused", "first packet refused", "later packet refused"]
+
+
+def by_codec(name, source, more):
+    """The rows of a call on commands by their codec, besides the row of the call by itself."""
+    return {f"{name}, {said}": (f"{source}, {said}", more) for said in COMMANDS.values()}
+
+
 CALLS = {
     "read_packet": ("packet", {}),
     "read_datagram": ("datagram", {}),
     "read_login": ("login", {}),
     "read_command": ("command", {}),
+    **by_codec("read_command", "command", {}),
     "command_text": ("command", {}),
+    **by_codec("command_text", "command", {}),
     "record_in_packet": ("packet", {16: ["record"]}),
     "record_in_datagram": ("datagram", {16: ["record"]}),
     "value_in_packet": ("packet", {16: ["record", "element"]}),
@@ -172,7 +212,8 @@ CALLS = {
     "acknowledge_packet": ("packet", ROOM),
     "acknowledge_datagram": ("datagram", ROOM),
     "answer_login": ("login", ROOM),
-    "write_command": ("text", ROOM),
+    "write_command": ("text", {}),
+    **by_codec("write_command", "text", ROOM),
     "form_of_packet": ("packet", ROOM),
     "form_of_datagram": ("datagram", ROOM),
     "packet_of_form": ("form", ROOM),
@@ -187,7 +228,9 @@ CALLS = {
     "element_at": ("field", TAG_ROOM),
     "wrong_byte": ("line", {}),
     "feed": ("connection", NO_STATE | {18: ["by one", "by more"], None: FEEDS}),
+    **by_codec("feed", "connection", {None: COMMAND_FEEDS}),
     "stream": ("connection", {None: STREAMS}),
+    **by_codec("stream", "connection", {None: STREAMS[1:]}),
     "wanted": ("state", NO_STATE),
     "reset": ("state", {}),
     "start": ("state", {}),
@@ -201,11 +244,16 @@ HIDING = {"wanted", "wrong_byte",
           *(name for name, (sort, _, _) in reference.CALLS.items() if sort in ("view", "receipt"))}
 
 
+def call_of(row):
+    return row.split(",")[0]
+
+
 def families_of(row):
-    """The families that a row's call can name, None if none. The older packet is not judged in an unknown one."""
-    if not reference.names_family(row.split(",")[0]):
+    """The families that a row's call can name, None if none. The older packet is not judged in an unknown one, nor is
+    the codec of a command."""
+    if not reference.names_family(call_of(row)):
         return (None,)
-    return KNOWN if row.endswith("older") else (*KNOWN, UNKNOWN)
+    return (*KNOWN, UNKNOWN) if row == call_of(row) else KNOWN
 
 
 def has_walk(row):
@@ -228,9 +276,12 @@ def rules_of(row, family):
 
 
 def allowed(row, family):
-    """The refusals that the papers let a call give, or hide, in a family; None among them if it may accept."""
+    """The refusals that the papers let a call give, or hide, in a family; None among them if it may accept, which it
+    never does without a command's codec where one is wanted."""
     numbers = {number for number, _ in pairs(rules_of(row, family), family)}
-    return numbers or {None} if family == UNKNOWN else numbers | {None}
+    if family == UNKNOWN:
+        return numbers or {None}
+    return numbers if CALLS[row][0] in ("command", "text") else numbers | {None}
 
 
 def family_named(line):
@@ -246,6 +297,32 @@ def from_older(family, words, refusal):
     if refusal is None:
         return reference.evaluate(f"last_known {family} {' '.join(words)}")[0].startswith("accepted 1")
     return refusal.number not in (16, 21) and reference.evaluate(f"read_packet {family} {words[0]}")[1] is None
+
+
+def packet_fed(name, words, answer, number):
+    """The packet, in hexadecimal, that a feed or a stream finishes or refuses last, and what is behind it; empty where
+    there is none."""
+    told = answer.split(" lent ")[1].split()
+    if name == "feed":
+        phase, fill, held, _, data, _ = words
+        finished = phase == "1" and (number or told[5] == "2")
+        return held.strip("-").ljust(2 * int(fill), "0") + data if finished else ""
+    packets = [told[place + 1] for place, word in enumerate(told) if word == "packet"]
+    if number is None:
+        return "".join(packets[-1:])
+    return words[1][2 * 17 + len("".join(packets)):] if "login" in told else ""
+
+
+def command_codec(name, words, answer, number):
+    """The codec of the command that a line writes, reads or feeds to its end; None if it is no command's, or if it is
+    refused before that is judged."""
+    codec = None
+    if name == "write_command":
+        codec = int(words[0])
+    elif number not in (1, 2, 3, 4, 18, 19) and CALLS[name][0] in ("command", "connection"):
+        packet = words[0] if CALLS[name][0] == "command" else packet_fed(name, words, answer, number)
+        codec = int(packet[16:18] or "0", 16)
+    return codec if codec in COMMANDS else None
 
 
 def feed_kind(words, answer):
@@ -297,9 +374,12 @@ class Coverage:
         row = name = line.split(" ", 1)[0]
         family, words = family_named(line)
         data = "".join(words[:1])
+        number, place = (refusal.number, refusal.place) if refusal else (None, "")
         if name.startswith("last_known") and from_older(family, words, refusal):
             row, data = f"{name}, older", words[1]
-        number, place = (refusal.number, refusal.place) if refusal else (None, "")
+        elif family in KNOWN:
+            command = command_codec(name, words, answer, number)
+            row = f"{name}, {COMMANDS[command]}" if command else name
         codec = None
         if number in WALK and has_walk(row):
             codec = int(data[16:18] if CALLS[row][0] == "packet" else data[46:48], 16)
@@ -336,14 +416,14 @@ class Coverage:
                 yield from (f"{said} with {missed}" for missed in self.missing_of_row(row, family))
         for source in INPUTS:
             rows = rows_of(source)
-            for family in KNOWN if reference.names_family(rows[0]) else (None,):
+            for family in KNOWN if reference.names_family(call_of(rows[0])) else (None,):
                 said = source if family is None else f"{source} in family {family}"
                 yield from (f"{said} with {missed}" for missed in self.missing_of_source(source, rows, family))
 
     def missing_of_row(self, row, family):
         given = self.given(row, (family,))
         yield from (number or "an acceptance" for number in allowed(row, family) if not given[number])
-        if row.split(",")[0] not in HIDING:
+        if call_of(row) not in HIDING:
             yield from self.untold_of_row(row, family)
         for number, place in pairs(more_of(row, family), family):
             if not self.times([row], (family,), None if number else "kind", number, place):
@@ -395,7 +475,7 @@ class Coverage:
                 sums[family] += self.given(row, (family,))
             given = self.given(row, families_of(row))
             cells = [given[number] if number in can else "." for number in columns]
-            hiding = row.split(",")[0] in HIDING
+            hiding = call_of(row) in HIDING
             yield f"{row + ('*' if hiding else ''):24}" + "".join(f"{cell:>7}" for cell in cells)
         for family, given in sums.items():
             said = "no family named" if family is None else f"family {family}"
@@ -425,8 +505,9 @@ class Coverage:
             places = [(place, KNOWN) for place in NO_STATE[19]] + [("family", (UNKNOWN,))]
             cells = [f"{place}: {self.times([row], families, None, 19, place)}" for place, families in places]
             yield f"{row} with 19, " + ", ".join(cells)
+        feeds = [row for row in CALLS if call_of(row) == "feed"]
         for before in BEFORE:
-            cells = [f"{after}: {self.times(['feed'], KNOWN, 'kind', None, f'{before}: {after}')}" for after in AFTER]
+            cells = [f"{after}: {self.times(feeds, KNOWN, 'kind', None, f'{before}: {after}')}" for after in AFTER]
             yield f"feed, {before}, " + "; ".join(cells)
         for number, indices in self.indices.items():
             yield f"refusal {number} at {len(indices)} record indices, the greatest {max(indices, default='none')}"

@@ -125,7 +125,7 @@ static void login(struct brundilope_login r) {
 
 static void command(struct brundilope_command r) {
     head("accepted", r.number, r.index, r.place);
-    printf("%u %u %" PRIu64 " %zu %zu", r.codec, r.type, r.imei, r.offset, r.size);
+    printf("%u %u %" PRIu32 " %" PRIu64 " %zu %zu", r.codec, r.type, r.time, r.imei, r.offset, r.size);
 }
 
 static void record(struct brundilope_record r) {
@@ -224,9 +224,10 @@ static void on_buffer(const char *call, size_t family, struct bytes p, char **w)
 }
 
 static void write_command(size_t family, char **w) {
-    struct bytes imei = bytes_of(w[3]), text = bytes_of(w[4]), out = bytes_of(w[5]);
+    struct bytes imei = bytes_of(w[3]), text = bytes_of(w[5]), out = bytes_of(w[6]);
     uint8_t codec = (uint8_t)number(w[1]), type = (uint8_t)number(w[2]);
-    written(brundilope_write_command(family, codec, type, imei.at, imei.size, text.at, text.size, out.at, out.size), out);
+    uint32_t time = (uint32_t)number(w[4]);
+    written(brundilope_write_command(family, codec, type, imei.at, imei.size, time, text.at, text.size, out.at, out.size), out);
     done_input(imei);
     done_input(text);
     done_buffer(out);
@@ -384,7 +385,7 @@ static const struct call calls[] = {
     {"value_in_datagram", 4, true},   {"id_in_packet", 4, true},         {"id_in_datagram", 4, true},
     {"last_known", 4, true},          {"acknowledge_packet", 3, true},   {"acknowledge_datagram", 3, true},
     {"form_of_packet", 3, true},      {"form_of_datagram", 3, true},     {"packet_of_form", 3, true},
-    {"contents_of_packet", 3, true},  {"contents_of_datagram", 3, true}, {"write_command", 6, true},
+    {"contents_of_packet", 3, true},  {"contents_of_datagram", 3, true}, {"write_command", 7, true},
     {"line_of_packet", 4, true},      {"line_of_datagram", 4, true},     {"lines_of_packet", 3, true},
     {"lines_of_datagram", 3, true},   {"start", 1, true},                {"reset", 4, true},
     {"wanted", 5, true},              {"feed", 7, true},                 {"stream", 3, true},

@@ -9,15 +9,17 @@ without the word of their family; `in_each_family` puts it in.
 """
 
 from examples import SAMPLE, both, fed
-from generate import (AROUND, AROUND_TEXT, CODECS, CONTENTS_LIMIT, KINDS, LEAST, UNKNOWN, WIDTHS, Maker, Record, little,
-                      number, shown)
+from generate import (AROUND, AROUND_TEXT, CODECS, COMMANDS, CONTENTS_LIMIT, KINDS, LEAST, NO_CODECS, TEXT_AT, TYPES,
+                      UNKNOWN, WIDTHS, Maker, Record, little, number, shown)
 from reference import CALLS, FAMILIES, STATE_ROOM, in_family, names_family
 
 MAKER = Maker(1)
 HEAD = bytes.fromhex("c0de5a69000f") + b"123456789012345"
 LOGIN = HEAD[4:]
 IMEI = b"123456789012345"
-PACKED = bytes.fromhex("0" + IMEI.decode())
+TIME = 0x64E83281                       # of the message in document 010
+# What stands before a command's text.
+BEFORE = {0x0C: b"", 0x0D: number(TIME, 4), 0x0E: bytes.fromhex("0" + IMEI.decode())}
 LARGE = (255, 256, 65535, 65536, (1 << 32) - 1, 1 << 32, 1 << 63, (1 << 64) - 1)
 ROOMY = "ee" * (STATE_ROOM + 20)        # a lent buffer with room for every packet
 
@@ -101,9 +103,20 @@ def pair(codec):
     return [record(codec, 0), record(codec, 1)]
 
 
-def command_field(codec, kind=5, text=b"getio", size=None, imei=b"\x03\x52\x09\x30\x81\x45\x22\x51"):
-    body = (imei if codec == 0x0E else b"") + text
+def command_field(codec, kind=5, text=b"getio", size=None, before=None):
+    body = (BEFORE[codec] if before is None else before) + text
     return bytes([codec, 1, kind]) + number(len(body) if size is None else size, 4) + body + b"\x01"
+
+
+def command_accepted(codec, kind, text, time=TIME):
+    """The answer to a command, if what is before its text is right."""
+    time, imei = time if codec == 0x0D else 0, int(IMEI) if codec == 0x0E else 0
+    return f"accepted {codec} {kind} {time} {imei} {TEXT_AT[codec]} {len(text)}"
+
+
+def writing(codec, kind, text, time=TIME):
+    """The call that writes a command, without its buffer. Each codec is given the time."""
+    return f"write_command {codec} {kind} {shown(IMEI) if codec == 0x0E else '-'} {time} {shown(text)}"
 
 
 def each_side(family):
@@ -170,7 +183,7 @@ def beginnings(_):
     for side, data, least, call in (
             ("packet", tcp(data_field(0x8E, pair(0x8E))), 8, "read_packet"),
             ("datagram", udp(data_field(0x8E, pair(0x8E))), 26, "read_datagram"),
-            ("command", tcp(command_field(0x0E)), 8, "read_command"),
+            *(("command", tcp(command_field(codec)), 8, "read_command") for codec in COMMANDS),
             ("login", LOGIN, 17, "read_login")):
         for size in range(len(data)):
             yield f"beginning of a {side}", f"{call} {shown(data[:size])}", refused(1 if size < least else 4)
@@ -178,10 +191,11 @@ def beginnings(_):
 
 
 def frames(family):
-    """First four bytes, data length and CRC, bit by bit."""
+    """First four bytes, data length and CRC, bit by bit; of commands with an unknown codec, too."""
     most = family.packet - 12
-    for side, field in (("packet", data_field(0x08, pair(0x08))), ("command", command_field(0x0C)),
-                        ("command", command_field(0x0E))):
+    commands = [command_field(codec, text=text) for codec in COMMANDS for text in (b"", b"getio")]
+    commands += [b"\x0f" + field[1:] for field in commands[:2]]
+    for side, field in (("packet", data_field(0x08, pair(0x08))), *(("command", field) for field in commands)):
         data = tcp(field)
         wrong_crc = refused(5, offset=8 + len(field))
         for bit in range(32):
@@ -222,10 +236,10 @@ def codecs_and_counts(family):
         for side, wrap in SIDES.items():
             field = bytes([codec]) + data_field(0x08, pair(0x08))[1:]
             yield reading("codec", side, wrap(field), None if codec in CODECS else refused(6, offset=FIELD_AT[side]))
-        known = codec in (0x0C, 0x0E)
+        known = codec in COMMANDS
         field = bytes([codec]) + command_field(0x0C)[1:]
         yield reading("codec", "command", tcp(field), None if known else refused(6, offset=8))
-        yield ("codec", f"write_command {codec} 5 - - {'ee' * 20}",
+        yield ("codec", f"write_command {codec} 5 - {TIME} - {'ee' * 20}",
                None if known else refused(6) + " " + "ee" * 20)
     for codec, side, wrap, _ in each_side(family):
         for counts in ((0, 0), (0, 2), (2, 0), (1, 2), (2, 1), (3, 2), (255, 2), (2, 255), (130, 2)):
@@ -391,8 +405,16 @@ def limits():
     for family, most in ((1, 512), (2, 1280)):
         for codec in CODECS:
             yield from data_limits(family, most, codec)
-        for codec, around in ((0x0C, 20), (0x0E, 28)):
-            yield from command_limits(family, most, codec, around)
+        for codec in COMMANDS:
+            yield from command_limits(family, most, codec)
+
+
+def limit_fed(family, most, packet):
+    """A packet of the most bytes, or of more, fed with just the room for one of the most."""
+    told = fed("fed 0 0 0", most, f"2 0 {most} {shown(packet)}", 1)
+    if len(packet) > most:
+        told = fed(TOO_LONG["packet"], 8, NONE, 2)
+    return "limit", in_family(family, feeding(1, b"", packet, most)), both(FAMILIES[family], told)
 
 
 def data_limits(family, most, codec):
@@ -403,22 +425,21 @@ def data_limits(family, most, codec):
             TOO_LONG["packet"] if more else accepted("packet", codec, len(records))
         name, line, expected = rebuilt("limit", codec, records, not more)
         yield name, in_family(family, line), expected
-        told = fed(TOO_LONG["packet"], 8, NONE, 2) if more else fed("fed 0 0 0", most, f"2 0 {most} {shown(packet)}", 1)
-        yield "limit", in_family(family, feeding(1, b"", packet, most)), both(FAMILIES[family], told)
+        yield limit_fed(family, most, packet)
         records = filling(codec, most + more - 26)
         yield "limit", f"read_datagram {family} {shown(udp(data_field(codec, records)))}", \
             TOO_LONG["datagram"] if more else accepted("datagram", codec, len(records))
 
 
-def command_limits(family, most, codec, around):
-    given, imei = ("-", 0) if codec == 0x0C else (shown(IMEI), int(IMEI))
+def command_limits(family, most, codec):
     for more in (0, 1):
-        text = b"a" * (most + more - around)
-        data = tcp(command_field(codec, 5, text, imei=PACKED))
+        text = b"a" * (most + more - AROUND_TEXT[codec])
+        data = tcp(command_field(codec, 5, text))
         yield "limit", f"read_command {family} {shown(data)}", \
-            TOO_LONG["packet"] if more else f"accepted {codec} 5 {imei} {around - 5} {len(text)}"
-        yield "limit", f"write_command {family} {codec} 5 {given} {shown(text)} {ROOMY}", \
+            TOO_LONG["packet"] if more else command_accepted(codec, 5, text)
+        yield "limit", in_family(family, f"{writing(codec, 5, text)} {ROOMY}"), \
             f"{refused(14)} {ROOMY}" if more else f"written {most} {shown(data)}{ROOMY[2 * most:]}"
+        yield limit_fed(family, most, data)
 
 
 def tags(_):
@@ -442,17 +463,18 @@ def tags(_):
 # ---------------------------------------------------------------- commands and IMEIs
 
 def command_rules(family):
-    for codec in (0x0C, 0x0E):
+    for codec in COMMANDS:
         for kind in range(256):
-            allowed = kind in (5, 6) or (codec == 0x0E and kind == 0x11)
+            allowed = kind in TYPES[codec]
             yield reading("type", "command", tcp(command_field(codec, kind, b"")),
-                          None if allowed else refused(13, offset=10))
+                          command_accepted(codec, kind, b"") if allowed else refused(13, offset=10))
             if not allowed:
-                text = "ee" * 28
-                imei = shown(IMEI) if codec == 0x0E else "-"
-                yield "type", f"write_command {codec} {kind} {imei} - {text}", f"{refused(13)} {text}"
+                yield reading("type", "command", tcp(command_field(codec, kind)), refused(13, offset=10))
+                lent = "ee" * 28
+                yield "type", f"{writing(codec, kind, b'')} {lent}", f"{refused(13)} {lent}"
         size = len(command_field(codec)) - 8
-        for wrong in (0, size - 1, size + 1, size - 8, size + 256, size + 65536, 1 << 31, (1 << 32) - 1):
+        for wrong in (0, size - 1, size + 1, size - 4, size + 4, size - 8, size + 8, size + 256, size + 65536, 1 << 31,
+                      (1 << 32) - 1):
             data = tcp(command_field(codec, size=wrong & 0xFFFFFFFF))
             yield reading("text size", "command", data, refused(14, offset=11))
         for quantities in ((0, 1), (1, 0), (2, 2), (255, 1), (1, 255), (2, 1), (1, 2), (0, 0)):
@@ -464,15 +486,61 @@ def command_rules(family):
         for kept in range(2, len(field) - 1):
             yield reading("cut", "command", tcp(field[:kept] + b"\x01"),
                           refused(8 if kept < 7 else 14, offset=10 if kept < 3 else 11))
-        most = longest_text(family, codec)
-        yield reading("longest text", "command", tcp(command_field(codec, 6, bytes(most))), None)
-        yield reading("too long a text", "command", tcp(command_field(codec, 6, bytes(most + 1))), TOO_LONG["packet"])
-    for size in range(8):
-        for kind in (0x05, 0x11):
-            yield reading("0E under 8", "command", tcp(command_field(0x0E, kind, b"", imei=b"\xff" * size)),
+        text = bytes(longest_text(family, codec))
+        yield reading("longest text", "command", tcp(command_field(codec, 6, text)), command_accepted(codec, 6, text))
+        yield reading("too long a text", "command", tcp(command_field(codec, 6, text + b"\0")), TOO_LONG["packet"])
+        if BEFORE[codec]:
+            yield reading("size of the text alone", "command", tcp(command_field(codec, 6, text, len(text))),
                           refused(14, offset=11))
+        for size in range(len(BEFORE[codec])):
+            for kind in TYPES[codec]:
+                yield reading("size under its least", "command",
+                              tcp(command_field(codec, kind, b"", before=b"\xff" * size)), refused(14, offset=11))
     for text in (b"\0", b"nACK", bytes(longest_text(family, 0x0E))):
         yield reading("text with type 11", "command", tcp(command_field(0x0E, 0x11, text)), refused(14, offset=23))
+
+
+def few_bytes(_):
+    """Messages of 0D with up to 7 bytes behind the size, which says as many or others: from 4 on the time is whole."""
+    for there in range(8):
+        body = bytes(range(1, there + 1))
+        time, text = body[:4], body[4:]
+        for said in range(9):
+            right = said == there >= 4
+            data = tcp(command_field(0x0D, 6, text, said, time))
+            yield reading("few bytes", "command", data,
+                          command_accepted(0x0D, 6, text, 0x01020304) if right else refused(14, offset=11))
+            yield "few bytes", f"command_text {shown(data)}", f"bytes {shown(text)}" if right else "bytes -"
+
+
+def times(family):
+    """Messages that differ in the time alone: each bit of it, none and all. What is written with it in 0C and 0E does
+    not differ."""
+    for time in (0, (1 << 32) - 1, 0x01020304, *(1 << bit for bit in range(32))):
+        for codec in COMMANDS:
+            for kind, text in ((5, b""), (6, b"getio")):
+                before = number(time, 4) if codec == 0x0D else None
+                data = tcp(command_field(codec, kind, text, before=before))
+                yield reading("time", "command", data, command_accepted(codec, kind, text, time))
+                yield ("time", f"{writing(codec, kind, text, time)} {ROOMY}",
+                       f"written {len(data)} {shown(data)}{ROOMY[2 * len(data):]}")
+    for time in (0, (1 << 32) - 1):
+        text = b"a" * longest_text(family, 0x0D)
+        data = tcp(command_field(0x0D, 6, text, before=number(time, 4)))
+        yield reading("time", "command", data, command_accepted(0x0D, 6, text, time))
+        yield from lending("time", writing(0x0D, 6, text, time), data)
+
+
+def commands_as_data(_):
+    """Good commands where data packets and datagrams are read: their codec is none of these, and they get the receipt
+    of a refused packet."""
+    for codec in COMMANDS:
+        for side, wrap in SIDES.items():
+            data, answer = wrap(command_field(codec)), refused(6, offset=FIELD_AT[side])
+            yield reading("command as data", side, data, answer)
+            yield "command as data", f"form_of_{side} {shown(data)} {'ee' * 99}", f"{answer} {'ee' * 99}"
+            yield ("command as data", f"acknowledge_{side} {shown(data)} {'ee' * 9}",
+                   f"written 4 {'00' * 4 + 'ee' * 5}" if side == "packet" else f"{answer} {'ee' * 9}")
 
 
 def wrong_imei(name, length, digits, wrong):
@@ -482,7 +550,7 @@ def wrong_imei(name, length, digits, wrong):
     data = udp(data_field(0x08, [record(0x08)]))
     yield reading(name, "datagram", data[:6] + length + digits + data[23:], refused(15, offset=6 + wrong))
     if not digits.isdigit():
-        yield name, f"write_command 14 5 {shown(digits)} - -", refused(15) + " -"
+        yield name, f"write_command 14 5 {shown(digits)} {TIME} - -", refused(15) + " -"
 
 
 def imeis(_):
@@ -501,7 +569,7 @@ def imeis(_):
         digits = list(right)
         for place, digit in wrong:
             digits[place] = f"{digit:x}"
-        data = tcp(command_field(0x0E, imei=bytes.fromhex("".join(digits))))
+        data = tcp(command_field(0x0E, before=bytes.fromhex("".join(digits))))
         return reading("packed digit", "command", data, expected)
 
     for place in range(16):
@@ -512,10 +580,10 @@ def imeis(_):
             yield packed(expected, (place, 10), (behind, 15))
             if place == 0:
                 yield packed(expected, (0, 1), (behind, 10))
-    for given in (b"", b"1", IMEI[1:], IMEI + b"0", b"0" + IMEI):
-        yield "IMEI to write", f"write_command 14 5 {shown(given)} - {'ee' * 40}", f"{refused(15)} {'ee' * 40}"
-        if given:
-            yield "IMEI to write", f"write_command 12 5 {shown(given)} - {'ee' * 40}", f"{refused(15)} {'ee' * 40}"
+    for codec in COMMANDS:
+        for given in (b"1", IMEI[1:], IMEI + b"0", b"0" + IMEI, b"" if codec == 0x0E else IMEI):
+            yield ("IMEI to write", f"write_command {codec} 5 {shown(given)} {TIME} - {'ee' * 40}",
+                   f"{refused(15)} {'ee' * 40}")
 
 
 # ---------------------------------------------------------------- looking up
@@ -633,19 +701,19 @@ def buffers(family):
         (f"acknowledge_datagram {shown(datagram)}", b"\x00\x05" + datagram[2:6] + b"\x02"),
         (f"answer_login {shown(LOGIN)} 1", b"\x01"), (f"answer_login {shown(LOGIN)} 0", b"\x00"),
         (f"answer_login {shown(LOGIN[:-1])} 1", b"\x00"),
-        ("write_command 12 5 - 676574696f", tcp(command_field(0x0C))),
-        ("write_command 14 17 333532303933303831343532323531 -", tcp(command_field(0x0E, 0x11, b""))),
+        *((writing(codec, 5, b"getio"), tcp(command_field(codec))) for codec in COMMANDS),
+        *((writing(codec, kind, b""), tcp(command_field(codec, kind, b"")))
+          for codec in COMMANDS for kind in TYPES[codec]),
         (f"form_of_packet {shown(packet)}", form), (f"form_of_datagram {shown(datagram)}", form),
         (f"packet_of_form {shown(form)}", packet))
     for call, result in writers:
         yield from lending("buffer", call, result)
-    for codec in (0x0C, 0x0E):
-        call = f"write_command {codec} 6 {'-' if codec == 0x0C else shown(IMEI)}"
+    for codec in COMMANDS:
         text = b"a" * longest_text(family, codec)
-        yield from lending("longest text", f"{call} {shown(text)}", tcp(command_field(codec, 6, text, imei=PACKED)))
+        yield from lending("longest text", writing(codec, 6, text), tcp(command_field(codec, 6, text)))
         for lent in ("-", ROOMY):
-            yield "too long a text", f"{call} {shown(text)}61 {lent}", f"{refused(14)} {lent}"
-    yield "text with type 11", f"write_command 14 17 {shown(IMEI)} 00 {'ee' * 30}", f"{refused(14)} {'ee' * 30}"
+            yield "too long a text", f"{writing(codec, 6, text + b'a')} {lent}", f"{refused(14)} {lent}"
+    yield "text with type 11", f"{writing(0x0E, 0x11, bytes(1))} {'ee' * 30}", f"{refused(14)} {'ee' * 30}"
 
 
 # ---------------------------------------------------------------- tables of contents
@@ -882,20 +950,25 @@ def head_orders(family):
 
 def command_orders(family):
     """Commands, read and to be written, that break several rules."""
-    digit = bytes([0x1F] * 8)
-    for field, refusal, at in (
-            (b"\x0d\x02\x04\x00\x03", 6, 8), (b"\x0e\x02\x04\x00\x03", 7, 9), (b"\x0e\x01\x04\x00\x03", 7, 12),
-            (b"\x0e\x01\x04\x00\x01", 13, 10), (b"\x0e\x01\x05\x00\x01", 8, 11),
-            (command_field(0x0E, 4, size=1, imei=digit), 13, 10),
-            (command_field(0x0E, 0x11, size=1, imei=digit), 14, 11),
-            (command_field(0x0E, 0x11, imei=digit), 15, 15), (command_field(0x0E, 0x11), 14, 23),
-            (command_field(0x0C, 0x11, size=1), 13, 10)):
+    digit, long = bytes([0x1F] * 8), "61" * (longest_text(family, 0x0C) + 1)
+    fields = [(b"\x0f\x02\x04\x00\x03", 6, 8), (command_field(0x0E, 0x11, size=1, before=digit), 14, 11),
+              (command_field(0x0E, 0x11, before=digit), 15, 15), (command_field(0x0E, 0x11), 14, 23),
+              (command_field(0x0D, 0x11, b"", before=b""), 13, 10), (command_field(0x0D, 6, b"", 4, b"abc"), 14, 11)]
+    calls = [(f"write_command 15 4 30 {TIME} {long}", 6), (f"write_command 14 17 {shown(IMEI)} {TIME} {long}", 14),
+             (writing(0x0E, 0x11, b"a"), 14)]
+    for codec in COMMANDS:
+        name = bytes([codec])
+        fields += [(name + b"\x02\x04\x00\x03", 7, 9), (name + b"\x01\x04\x00\x03", 7, 12),
+                   (name + b"\x01\x04\x00\x01", 13, 10), (name + b"\x01\x05\x00\x01", 8, 11),
+                   (command_field(codec, 4, size=1, before=digit), 13, 10)]
+        wrong = 4 if codec == 0x0E else 0x11
+        calls += [(f"write_command {codec} {wrong} 30 {TIME} {long}", 13),
+                  (f"write_command {codec} 5 30 {TIME} {long}", 15),
+                  (writing(codec, 5, bytes.fromhex(long)), 14), (writing(codec, 5, b"a"), 18)]
+    for field, refusal, at in fields:
         yield reading("order", "command", tcp(field), refused(refusal, offset=at))
-    long = "61" * (longest_text(family, 0x0C) + 1)
-    for words, refusal in ((f"13 4 30 {long}", 6), (f"14 4 30 {long}", 13), (f"12 17 30 {long}", 13),
-                           (f"14 5 30 {long}", 15), (f"12 5 30 {long}", 15), (f"14 17 {shown(IMEI)} {long}", 14),
-                           (f"12 5 - {long}", 14), (f"14 17 {shown(IMEI)} 61", 14), ("12 5 - 61", 18)):
-        yield "order", f"write_command {words} -", refused(refusal) + " -"
+    for call, refusal in calls:
+        yield "order", f"{call} -", refused(refusal) + " -"
 
 
 # ---------------------------------------------------------------- every refusal in every call
@@ -993,8 +1066,10 @@ def unknown_families():
             lents = ("-", "ee" * 1280) if answered in ("write", "receipt") else (None,)
             for lent in lents:
                 yield from unknown_calls(name, answered, words if lent is None else words[:-1] + [lent], lent)
-    for lent in ("-", "ee" * 40):
-        yield from unknown_calls("write_command", "write", ["12", "5", "-", "676574696f", lent], lent)
+    for codec in COMMANDS:
+        name, *words = writing(codec, 5, b"getio").split()
+        for lent in ("-", "ee" * 40):
+            yield from unknown_calls(name, "write", [*words, lent], lent)
 
 
 def unknown_calls(name, answered, words, lent):
@@ -1005,13 +1080,15 @@ def unknown_calls(name, answered, words, lent):
 
 def command_texts(_):
     """Each refusal of a command behind the view of its text."""
-    good = tcp(command_field(0x0E))
-    yield "text", f"command_text {shown(good)}", "bytes 676574696f"
-    for data in (b"", b"\x01" + good[1:], good[:4] + number(2, 4) + good[8:], good[:-1], good[:-1] + b"\0",
-                 tcp(b"\x08" + good[9:-4]), tcp(good[8:-5] + b"\x02"), tcp(b"\x0e\x01\x01"),
-                 tcp(command_field(0x0E, 4)), tcp(command_field(0x0E, size=1)),
-                 tcp(command_field(0x0E, imei=bytes([16] * 8)))):
-        yield "text", f"command_text {shown(data)}", "bytes -"
+    for codec in COMMANDS:
+        good, other = tcp(command_field(codec)), tcp(b"\x08" + command_field(codec)[1:])
+        yield "text", f"command_text {shown(good)}", "bytes 676574696f"
+        yield "text", f"command_text {shown(tcp(command_field(codec, text=b'')))}", "bytes -"
+        for data in (b"", b"\x01" + good[1:], good[:4] + number(2, 4) + good[8:], good[:-1], good[:-1] + b"\0",
+                     other, other[:-1] + b"\0", tcp(good[8:-5] + b"\x02"), tcp(bytes([codec, 1, 1])),
+                     tcp(command_field(codec, 4)), tcp(command_field(codec, size=1))):
+            yield "text", f"command_text {shown(data)}", "bytes -"
+    yield "text", f"command_text {shown(tcp(command_field(0x0E, before=bytes([16] * 8))))}", "bytes -"
     for data in (b"", LOGIN[:-1], LOGIN + b"0", changed(LOGIN, 9, 65)):
         yield "answer", f"answer_login {shown(data)} 1 eeee", "written 1 00ee"
         yield "answer", f"answer_login {shown(data)} 1 -", refused(18) + " -"
@@ -1058,7 +1135,7 @@ def good_packets(family):
         yield "longest data", tcp(data_field(codec, filling(codec, room)))
         if not family.record:
             yield "longest record", tcp(data_field(codec, [MAKER.record(codec, room)]))
-    for codec in (0x0C, 0x0E):
+    for codec in COMMANDS:
         yield "command", tcp(command_field(codec))
         yield "shortest command", tcp(command_field(codec, text=b""))
         most = longest_text(family, codec)
@@ -1103,30 +1180,35 @@ def refused_packets(family):
         yield 8, 2, 10 + 2 * size, tcp(field[:-1] + b"\0\x02")
         for place in range(2):
             yield 8, place, 10 + place * size, tcp(field[:9 + place * size] + b"\x02")
-    good = tcp(command_field(0x0E))
-    for place in range(1, 5):
-        yield 5, 0, len(good) - 4, changed(good, len(good) - place, good[-place] ^ 128)
-    for codec in (0x00, 0x07, 0x0B, 0x0D, 0x0F, 0x8C, 0xFF):
+    for codec in NO_CODECS:
         yield 6, 0, 8, tcp(bytes([codec, 1, 1]))
     yield 8, 0, 10, tcp(b"\x08\x01\x01")
-    yield 8, 0, 10, tcp(b"\x0c\x01\x01")
-    yield 8, 0, 11, tcp(b"\x0e\x01\x05\x00\x01")
-    yield 8, 0, 11, tcp(b"\x0c\x01\x06\x01")
-    for codec in (0x0C, 0x0E):
-        field = command_field(codec)
-        yield 7, 0, 9, tcp(bytes([codec, 2]) + field[2:])
-        yield 7, 0, 9, tcp(bytes([codec, 2]) + field[2:-1] + b"\x02")
-        yield 7, 0, 7 + len(field), tcp(field[:-1] + b"\x02")
+    for codec in COMMANDS:
+        for text in (b"", b"getio"):
+            field = command_field(codec, text=text)
+            good = tcp(field)
+            for place in range(1, 5):
+                yield 5, 0, len(good) - 4, changed(good, len(good) - place, good[-place] ^ 128)
+            yield 7, 0, 9, tcp(bytes([codec, 2]) + field[2:])
+            yield 7, 0, 9, tcp(bytes([codec, 2]) + field[2:-1] + b"\x02")
+            yield 7, 0, 7 + len(field), tcp(field[:-1] + b"\x02")
+        yield 8, 0, 10, tcp(bytes([codec, 1, 1]))
+        yield 8, 0, 11, tcp(bytes([codec, 1, 5, 0, 1]))
+        yield 8, 0, 11, tcp(bytes([codec, 1, 6, 1]))
         yield 13, 0, 10, tcp(command_field(codec, 7))
         yield 14, 0, 11, tcp(command_field(codec, size=4))
-    yield 13, 0, 10, tcp(command_field(0x0C, 0x11, b""))
-    yield 14, 0, 11, tcp(command_field(0x0E, 0x11, b"", imei=bytes(7)))
+        if BEFORE[codec]:
+            yield 14, 0, 11, tcp(command_field(codec, 6, b"", before=BEFORE[codec][1:]))
+        if 0x11 not in TYPES[codec]:
+            yield 13, 0, 10, tcp(command_field(codec, 0x11, b""))
+    yield 14, 0, 11, tcp(command_field(0x0E, 0x11, b"", before=bytes(7)))
     yield 14, 0, 23, tcp(command_field(0x0E, 0x11))
-    yield 15, 0, 15, tcp(command_field(0x0E, imei=b"\x10" + bytes(7)))
-    yield 15, 0, 15, tcp(command_field(0x0E, imei=b"\x10" + bytes(6) + b"\xaa"))
-    yield 15, 0, 16, tcp(command_field(0x0E, imei=b"\x09\xa0" + bytes(5) + b"\xff"))
-    yield 15, 0, 19, tcp(command_field(0x0E, imei=bytes(4) + b"\x0a\xa0\0\xff"))
-    yield 15, 0, 22, tcp(command_field(0x0E, imei=bytes(7) + b"\x0a"))
+    yield 15, 0, 15, tcp(command_field(0x0E, before=b"\x10" + bytes(7)))
+    yield 15, 0, 15, tcp(command_field(0x0E, before=b"\x10" + bytes(6) + b"\xaa"))
+    yield 15, 0, 16, tcp(command_field(0x0E, before=b"\x09\xa0" + bytes(5) + b"\xff"))
+    yield 15, 0, 19, tcp(command_field(0x0E, before=bytes(4) + b"\x0a\xa0\0\xff"))
+    yield 15, 0, 17, tcp(command_field(0x0E, before=bytes(2) + b"\xa0" + bytes(5)))
+    yield 15, 0, 22, tcp(command_field(0x0E, before=bytes(7) + b"\x0a"))
 
 
 def feeds(family):
@@ -1148,7 +1230,7 @@ def feeds(family):
 
 def unreachable(family):
     """States that no feeds from a fresh one give, a closed one first: phase, fill, bytes held, how many are lent."""
-    good, bad = tcp(command_field(0x0C)), tcp(b"\x0d\x01\x01")
+    good, bad = tcp(command_field(0x0C)), tcp(b"\x0f\x01\x01")
     for held in (b"", LOGIN[:5], good[:12]):
         fill = len(held)
         yield 2, fill, held, STATE_ROOM
@@ -1170,7 +1252,7 @@ def unreachable(family):
     for *_, header in refused_headers(family):
         for more in (0, 1, 30, STATE_ROOM - 8):
             yield 1, 8 + more, header, STATE_ROOM
-    for data in (good, bad, changed(good, 24, 0), least_data(0x08)):
+    for data in (good, bad, changed(good, 24, 0), least_data(0x08), tcp(command_field(0x0D))):
         for more in (0, 1, 8, STATE_ROOM - len(data)):
             yield 1, len(data) + more, data, STATE_ROOM
     longest = tcp(command_field(0x0C, 6, bytes(longest_text(family, 0x0C))))
@@ -1273,7 +1355,8 @@ def streaming(family, name, sizes, data, items, end="0 0 0", used=None, phase=1,
 
 def streams(family):
     """Whole connections, cut in every way; those that end within an item, and those that are closed."""
-    short = [LOGIN, tcp(command_field(0x0C, text=b"")), least_data(0x08), tcp(command_field(0x0E))]
+    short = [LOGIN, tcp(command_field(0x0C, text=b"")), least_data(0x08),
+             *(tcp(command_field(codec)) for codec in COMMANDS)]
     data = b"".join(short)
     for cut in range(len(data)):
         yield streaming(family, "two pieces", f"{cut},{len(data)}", data, short)
@@ -1293,6 +1376,7 @@ def streams(family):
         end = " ".join(map(str, end))
         for sizes in ("1", "8", "11,30", "99999"):
             yield streaming(family, "closed", sizes, data + last + LOGIN, short, end, len(data + last), 2)
+        yield streaming(family, "closed at once", "99999", LOGIN + last, [LOGIN], end, len(LOGIN + last), 2)
     for sizes in ("1", "16", "17", "99999"):
         for at, login in refused_logins():
             yield streaming(family, "login refused", sizes, login + data, [], f"15 0 {at}", 17, 2)
@@ -1300,9 +1384,10 @@ def streams(family):
 
 
 PARTS = (beginnings, frames, checksums, codecs_and_counts, cuts, fields, later_records, counts_and_lengths,
-         past_the_record, sizes, wraps, tags, command_rules, imeis, lookups, long_records, twice, last_known, buffers,
-         sample_contents, contents, form_entries, form_rules, form_limits, walk_orders, head_orders, command_orders,
-         everywhere, command_texts, feeds, refused_states, starts, packet_rooms, wanted, streams)
+         past_the_record, sizes, wraps, tags, command_rules, few_bytes, times, commands_as_data, imeis, lookups,
+         long_records, twice, last_known, buffers, sample_contents, contents, form_entries, form_rules, form_limits,
+         walk_orders, head_orders, command_orders, everywhere, command_texts, feeds, refused_states, starts,
+         packet_rooms, wanted, streams)
 
 
 def in_each_family(parts):

@@ -1,16 +1,18 @@
 """The papers' examples and one of our own as calls of family 2: (name, call line, expected answer or None).
 
 P1 to P13 are the bench sheet of document 01; compare/vectors/006.txt holds the
-streams of document 006, compare/vectors/request-2.txt our own, for request 2 of
-document 02, samples/lines.txt the lines of samples. The expected answers are
-those of the papers, a refusal's offset that of request 6 by hand; but TLV forms
-and the packets behind them are made by the reference. The calls are written here
-without the word of their family; `example_calls` puts it in.
+streams of document 006, 010.txt the one of Codec 13, which only document 010 has,
+request-2.txt our own, for request 2 of document 02, samples/lines.txt the lines of
+samples. The expected answers are those of the papers, a refusal's offset that of
+request 6 by hand; but TLV forms and the packets behind them are made by the
+reference. The calls are written here without the word of their family;
+`example_calls` puts it in.
 """
 
 import os
 
 import reference
+from generate import TEXT_AT
 
 HERE = os.path.dirname(os.path.abspath(__file__))
 VECTORS = os.path.join(HERE, "vectors")
@@ -44,7 +46,7 @@ def bench_calls():
         ("P6", f"read_datagram {changed(SAMPLE, 50, 2)}", "refused 9 0 25"),
         ("P7", f"read_datagram {changed(SAMPLE, 51, 2)}", "refused 8 0 57"),
         ("P8", f"read_datagram {counts}", "refused 8 1 57"),
-        ("P9", f"read_command {GETIO}", "accepted 12 5 0 15 5"),
+        ("P9", f"read_command {GETIO}", "accepted 12 5 0 0 15 5"),
         ("P10", f"read_command {changed(GETIO, -1, 0xCA)}", "refused 5 0 21"),
         ("P11", "read_packet -", "refused 1 0 0"),
         ("P11", "read_command -", "refused 1 0 0"),
@@ -64,9 +66,9 @@ def bench_calls():
     ]
 
 
-def refused_calls(name, kind, text, number, offset):
+def refused_calls(name, kind, text, refused, offset):
     """An input that document 01 refuses, in each call that takes it."""
-    answer = f"refused {number} 0 {offset}"
+    answer = f"refused {refused} 0 {offset}"
     if kind == "command":
         return [(name, f"read_command {text}", answer), (name, f"command_text {text}", "bytes -")]
     calls = [f"read_{kind} {text}", f"record_in_{kind} {text} 0", f"value_in_{kind} {text} 0 0",
@@ -105,20 +107,23 @@ def login_calls(name, text, imei):
             (name, f"answer_login {text} 0 ee", "written 1 00")]
 
 
-def command_calls(name, text, codec, kind, imei, sent=""):
-    codec, kind, sent = int(codec, 16), int(kind, 16), sent.lower()
-    start, given = (15, "-") if codec == 0x0C else (23, imei.encode().hex())
-    size = len(text) // 2
-    return [(name, f"read_command {text}", f"accepted {codec} {kind} {imei} {start} {len(sent) // 2}"),
-            (name, f"command_text {text}", f"bytes {sent or '-'}"),
-            packet_fed(name, text),
-            (name, f"write_command {codec} {kind} {given} {sent or '-'} {'ee' * size}", f"written {size} {text}")]
+def command_calls(name, packet, codec, type, time="0", imei="", text=""):
+    """A command: read, fed, written, and refused where data packets are."""
+    codec, kind, text = int(codec, 16), int(type, 16), text.lower()
+    start, size = TEXT_AT[codec], len(packet) // 2
+    words = f"{codec} {kind} {imei.encode().hex() or '-'} {time} {text or '-'}"
+    return [(name, f"read_command {packet}", f"accepted {codec} {kind} {time} {imei or 0} {start} {len(text) // 2}"),
+            (name, f"command_text {packet}", f"bytes {text or '-'}"),
+            packet_fed(name, packet),
+            (name, f"write_command {words} {'ee' * size}", f"written {size} {packet}"),
+            (name, f"read_packet {packet}", "refused 6 0 8"),
+            (name, f"acknowledge_packet {packet} {'ee' * 7}", "written 4 00000000eeeeee")]
 
 
-def data_calls(name, kind, text, codec, count, reply):
+def data_calls(name, kind, text, codec, records, reply):
     """A data packet or datagram: read, acknowledged, turned into its form, and that into a packet."""
     codec, reply, data = int(codec, 16), reply.lower(), bytes.fromhex(text)
-    accepted = f"accepted {codec} {count}"
+    accepted = f"accepted {codec} {records}"
     if kind == "datagram":
         accepted += f" {data[8:23].decode()} {data[2] * 256 + data[3]} {data[4]} {data[5]}"
         packet, read = reference.tcp_packet(data[23:]), reference.read_datagram(FAMILY, data)
@@ -133,7 +138,7 @@ def data_calls(name, kind, text, codec, count, reply):
             (name, f"packet_of_form {form.hex()} {'ee' * len(packet)}", f"written {len(packet)} {packet.hex()}"),
             (name, f"contents_of_{kind} {text} {'ee' * 512}", None),
             packet_fed(name, packet.hex()),
-            (name, f"record_in_{kind} {text} {count}", "refused 16 0 0")]
+            (name, f"record_in_{kind} {text} {records}", "refused 16 0 0")]
 
 
 def record_calls(name, kind, text, number, fields, elements):
@@ -157,13 +162,14 @@ def vector_calls(lines):
         if kind == "record":            # of the line before
             yield from record_calls(name, side, text, told[0], told[1:11], told[11:])
             continue
-        side, text, told = kind, told[0].lower(), told[1:]
-        if told[0] == "refused":
-            yield from refused_calls(name, side, text, *told[1::2])
+        side, text = kind, told[0].lower()
+        told = dict(zip(told[1::2], told[2::2]))
+        if "refused" in told:
+            yield from refused_calls(name, side, text, **told)
         else:
             calls = {"login": login_calls, "command": command_calls}
             first = (name, text) if side in calls else (name, side, text)
-            yield from calls.get(side, data_calls)(*first, *told[1::2])
+            yield from calls.get(side, data_calls)(*first, **told)
 
 
 def sample_line_calls():
@@ -187,7 +193,7 @@ def sample_line_calls():
 def bare_calls():
     yield from bench_calls()
     yield from sample_line_calls()
-    for name in ("006.txt", "request-2.txt"):
+    for name in ("006.txt", "010.txt", "request-2.txt"):
         with open(os.path.join(VECTORS, name), encoding="ascii") as file:
             yield from vector_calls(line for line in file if line.strip() and not line.startswith("#"))
 

@@ -22,17 +22,25 @@ from reference import FAMILIES, STATE_ROOM, crc16, in_family
 # Numbers that are no family's; some of them are one's in fewer bits.
 UNKNOWN = (0, max(FAMILIES) + 1, 255, 256, *(256 + number for number in FAMILIES), (1 << 32) + 1, (1 << 64) - 1)
 CONTENTS_LIMIT = 640            # words that hold every table of contents
-CODECS = (0x08, 0x8E, 0x10)
-OTHER_CODECS = (0x00, 0x07, 0x09, 0x0C, 0x0D, 0x0E, 0x0F, 0x11, 0x80, 0x8D, 0x8F, 0xFF)
 
 # Codec: bytes of event ID, generation type, count, ID; least record.
 WIDTHS = {0x08: (1, 0, 1, 1), 0x8E: (2, 0, 2, 2), 0x10: (2, 1, 1, 2)}
 LEAST = {0x08: 30, 0x8E: 38, 0x10: 32}
 KINDS = (1, 2, 4, 8, 9)
 
-# The bytes around the records of a TCP packet and of a datagram, and around the text of a command.
+# Command codec: its types; where its text starts, which is behind a time in 0D and behind an IMEI in 0E.
+TYPES = {0x0C: (0x05, 0x06), 0x0D: (0x05, 0x06), 0x0E: (0x05, 0x06, 0x11)}
+TEXT_AT = {0x0C: 15, 0x0D: 19, 0x0E: 23}
+
+# The codecs of data packets, those of commands, and some that are neither's.
+CODECS = tuple(WIDTHS)
+COMMANDS = tuple(TYPES)
+NO_CODECS = (0x00, 0x07, 0x09, 0x0B, 0x0F, 0x11, 0x80, 0x8C, 0x8D, 0x8F, 0xFF)
+
+# The bytes around the records of a TCP packet and of a datagram, and around the text of a command, behind which are the
+# quantity and the CRC field.
 AROUND = {"packet": 15, "datagram": 26}
-AROUND_TEXT = {0x0C: 20, 0x0E: 28}
+AROUND_TEXT = {codec: at + 5 for codec, at in TEXT_AT.items()}
 
 # The aims of damage; those that are missed more often stand here twice.
 TCP_AIMS = (1, 2, 3, 4, 5, 6, 7, 8, 8, 9, 9, 10, 11, 12, 12)
@@ -216,6 +224,11 @@ class Maker:
         room = self.pick((0, size - 1, self.upto(size), size, size, size, size + 1, size + 2 + self.upto(64),
                           CONTENTS_LIMIT, CONTENTS_LIMIT + 1))
         return self.bytes(8 * room)
+
+    def wide(self, bits):
+        """A number of so many bits: any, a small one, an end of the range or a round one."""
+        return self.pick((0, 1, 9, 10, 255, (1 << bits) - 1, 1 << bits - 1, 10 ** self.upto(bits * 3 // 10 + 1),
+                          self.rng.getrandbits(bits), self.rng.getrandbits(bits))) & (1 << bits) - 1
 
     def beyond(self, bound):
         """A number from bound on, some of them within it in fewer bits."""
@@ -447,7 +460,7 @@ class Maker:
                 (first - 1, second), (first, second - 1), (255, second), (first, 255),
                 (second ^ 128, second), (self.upto(256), self.upto(256))))
         if 6 in aims:
-            codec = self.pick(OTHER_CODECS) if self.chance(0.8) else self.upto(256)
+            codec = self.pick(COMMANDS + NO_CODECS) if self.chance(0.8) else self.upto(256)
         ends = bytes([codec, first & 255]), bytes([second & 255])
         if 0 in aims:
             if self.chance(0.7):
@@ -575,6 +588,10 @@ class Maker:
 
     # ------------------------------------------------------------ commands, logins
 
+    def command_type(self, codec):
+        """A type that the codec allows, 11 less often than the others."""
+        return self.pick(TYPES[codec] + TYPES[codec][:2])
+
     def text(self, most):
         style = self.rng.random()
         if style < 0.15:
@@ -587,29 +604,37 @@ class Maker:
             return self.bytes(self.upto(most + 1))
         return self.bytes(most - self.pick((0, 0, 0, 1, 2)))
 
+    def before_text(self, codec):
+        """What stands between the size of a command and its text."""
+        if codec == 0x0D:
+            return number(self.wide(32), 4)
+        return bytes.fromhex("0" + self.digits().decode()) if codec == 0x0E else b""
+
     def command_body(self, codec, aims):
-        """Type, size, and IMEI with text, with damage towards 3, 13, 14 and 15."""
+        """Type, size, and what is before the text with it, with damage towards 3, 13, 14 and 15."""
         most = self.family.packet - AROUND_TEXT[codec]
-        kind = self.pick((0x05, 0x06, 0x05, 0x06, 0x11) if codec == 0x0E else (0x05, 0x06))
+        kind = self.command_type(codec)
         text = b"" if kind == 0x11 else self.text(most)
         if 3 in aims and self.chance(0.4):
             text = self.bytes(most + self.pick((1, 1, 2, 50, 120)))
-        imei = bytes.fromhex("0" + self.digits().decode()) if codec == 0x0E else b""
+        before = self.before_text(codec)
+        least = len(before)
         if 15 in aims:
-            imei = self.wrong_packed(imei)
+            before = self.wrong_packed(before)
         matched = True
         if codec == 0x0E and (14 in aims and self.chance(0.3) or 15 in aims and self.chance(0.2)):
             kind = 0x11
             text = text or self.bytes(self.pick((1, 8, 1 + self.upto(9))))
             matched = False
-        body = imei + text
-        if 14 in aims and codec == 0x0E and self.chance(0.25):
-            body = body[:self.pick((7, self.upto(8)))]
+        body = before + text
+        if 14 in aims and least and self.chance(0.25):
+            body = body[:self.pick((least - 1, self.upto(least)))]
             matched = False
         size = len(body)
         if 14 in aims and (matched or self.chance(0.1)):
-            size += self.pick((1, 1, -1, -1, 8, -8, -size, 256, 1 << 16, 1 << 24, 1 << 31, 1 << 31,
-                               -1 - size, -8, -15 - size, -23 - size, self.rng.getrandbits(32)))
+            # 4 less counts the text of 0D alone, 8 less that of 0E
+            size += self.pick((1, 1, -1, -1, 4, -4, -4, 8, -8, -8, -size, 256, 1 << 16, 1 << 24, 1 << 31, 1 << 31,
+                               -1 - size, -15 - size, -19 - size, -23 - size, self.rng.getrandbits(32)))
         if 13 in aims:
             kind = self.pick((0x00, 0x04, 0x07, 0x10, 0x12, 0x85, 0xFF, 0x11, 0x11, 0x11, self.upto(256)))
         return kind, size, body
@@ -617,14 +642,16 @@ class Maker:
     def command(self, valid=0.4):
         """A command packet: its bytes."""
         aims = self.aims(COMMAND_AIMS, valid)
-        codec = 0x0E if 15 in aims else self.pick((0x0C, 0x0E))
+        codec = 0x0E if 15 in aims else self.pick(COMMANDS)
         kind, size, body = self.command_body(codec, aims)
+        if 14 in aims and self.chance(0.1):         # the layout of one codec under the name of another
+            codec = self.pick(COMMANDS)
         first = second = 1
         if 7 in aims:
             first, second = self.pick(((2, 2), (2, 1), (1, 2), (0, 0), (0, 1), (1, 0), (255, 1),
                                        (1, 129), (self.upto(256), self.upto(256))))
         if 6 in aims:
-            codec = self.pick((0x00, 0x08, 0x0B, 0x0D, 0x0F, 0x10, 0x8E, 0x8C, self.upto(256)))
+            codec = self.pick((*CODECS, *NO_CODECS, self.upto(256)))
         field = bytes([codec, first, kind]) + number(size, 4) + body + bytes([second])
         clean = len(field)
         if 8 in aims:
@@ -669,9 +696,9 @@ class Maker:
         return self.huge(self.raw_damage(data), 0.03)
 
     def command_words(self):
-        """The words of a write_command call."""
-        codec = self.pick((0x0C, 0x0E, 0x0E))
-        kind = self.pick((0x05, 0x06, 0x05, 0x06, 0x11) if codec == 0x0E else (0x05, 0x06))
+        """The words of a write_command call. Each codec is given a time, of which only 0D has a use."""
+        codec = self.pick(COMMANDS)
+        kind = self.command_type(codec)
         imei = self.digits() if codec == 0x0E else b""
         most = self.family.packet - AROUND_TEXT[codec]
         text = b"" if kind == 0x11 and self.chance(0.7) else self.text(most)
@@ -680,7 +707,7 @@ class Maker:
         if 0 in aims:
             aims = {aim for aim in (6, 13, 14, 15) if self.chance(0.5)}
         if 6 in aims:
-            codec = self.pick((0x00, 0x08, 0x0B, 0x0D, 0x0F, 0x10, 0x8E, 0xFF, self.upto(256)))
+            codec = self.pick((*CODECS, *NO_CODECS, self.upto(256)))
         if 13 in aims:
             kind = self.pick((0x00, 0x04, 0x07, 0x10, 0x11, 0x12, 0xFF, self.upto(256)))
         if 14 in aims:
@@ -691,7 +718,7 @@ class Maker:
             imei = self.pick((b"", b"0", self.digits()[:14], self.digits() + b"0", b"0" + self.digits(),
                               self.wrong_digits(self.digits()), self.wrong_digits(self.digits()),
                               self.digits(), self.wrong_digits(self.digits()) + b"7"))
-        return f"{codec} {kind} {shown(imei)} {shown(text)} {shown(self.buffer(size))}"
+        return f"{codec} {kind} {shown(imei)} {self.wide(32)} {shown(text)} {shown(self.buffer(size))}"
 
     # ------------------------------------------------------------ TLV forms
 
@@ -813,7 +840,7 @@ class Maker:
                               chosen[2][:1], b"", chosen[2][1:]))
             chosen[0], chosen[2] = len(body), body
         elif style == 3:
-            entries[0][2] = bytes([self.pick(OTHER_CODECS + CODECS)])
+            entries[0][2] = bytes([self.pick(CODECS + COMMANDS + NO_CODECS)])
         else:
             entries[0] = [2, 100, bytes([codec, 0])]
 
@@ -821,11 +848,6 @@ class Maker:
         return sum(4 + len(body) for _, _, body in self.form_entries(codec, records))
 
     # ------------------------------------------------------------ billing lines
-
-    def wide(self, bits):
-        """A number of so many bits: any, a small one, an end of the range or a round one."""
-        return self.pick((0, 1, 9, 10, 255, (1 << bits) - 1, 1 << bits - 1, 10 ** self.upto(bits * 3 // 10 + 1),
-                          self.rng.getrandbits(bits), self.rng.getrandbits(bits))) & (1 << bits) - 1
 
     def coordinate(self):
         value = self.wide(32)

@@ -1,5 +1,5 @@
 #!/usr/bin/env python3
-"""A second implementation of the rules of document 01 and of requests 1, 2, 4, 5 and 6 of document 02.
+"""A second implementation of the rules of document 01 and of requests 1, 2 and 4 to 7 of document 02.
 
     python3 reference.py     answers calls from standard input, one a line
 
@@ -43,8 +43,14 @@ VARIABLE_KIND = 9
 GROUP_FIELDS = {size: tuple(f"{size or 'variable'} {field}" for field in ("count", "ID", "value"))
                 for size in FIXED_KINDS + (None,)}
 
-# The message types that a command codec allows.
-TYPES = {0x0C: (0x05, 0x06), 0x0E: (0x05, 0x06, 0x11)}
+# A command codec: the message types that it allows, and the bytes of a time and of an IMEI between the size, which
+# counts them, and the text. 0 means: no such field.
+CommandLayout = namedtuple("CommandLayout", "types time imei")
+COMMANDS = {
+    0x0C: CommandLayout(types=(0x05, 0x06), time=0, imei=0),
+    0x0D: CommandLayout(types=(0x05, 0x06), time=4, imei=0),
+    0x0E: CommandLayout(types=(0x05, 0x06, 0x11), time=0, imei=8),
+}
 NO_MATCH = 0x11
 
 # TLV form (document 01 calls it the house form): the kinds of its first entry
@@ -67,7 +73,7 @@ Record = namedtuple("Record", "timestamp priority longitude latitude altitude an
 FIXED_FIELDS = slice(Record._fields.index("elements"))
 Packet = namedtuple("Packet", "codec records")
 Datagram = namedtuple("Datagram", "codec records imei packet unused avl")
-Command = namedtuple("Command", "codec type imei offset size")
+Command = namedtuple("Command", "codec type time imei offset size")
 Item = namedtuple("Item", "kind imei packet")
 
 
@@ -273,28 +279,28 @@ def read_login(data):
 def read_command(family, data):
     check_frame(family, data)
     codec = data[8]
-    if codec not in TYPES:
+    if codec not in COMMANDS:
         raise Refused(6, offset=8)
+    layout = COMMANDS[codec]
     if data[9] != 1:
         raise Refused(7, place="first" if data[-5] == 1 else "both", offset=9)
     if data[-5] != 1:
         raise Refused(7, place="second", offset=len(data) - 5)
     space = Space(data, 10, len(data) - 5)
     kind = big(space.take(1, "type"))
-    if kind not in TYPES[codec]:
+    if kind not in layout.types:
         raise Refused(13, offset=10)
     size = big(space.take(4, "size"))
     if size != space.end - space.at:
         raise Refused(14, place="size", offset=11)
-    imei = 0
-    if codec == 0x0E:
-        if size < 8:
-            raise Refused(14, place="under 8", offset=11)
-        imei = packed_imei(space.take(8, "IMEI"), space.at - 8)
+    if size < layout.time + layout.imei:
+        raise Refused(14, place="under", offset=11)
+    time = big(space.take(layout.time, "time"))
+    imei = packed_imei(space.take(layout.imei, "IMEI"), space.at - layout.imei) if layout.imei else 0
     text = space.end - space.at
     if kind == NO_MATCH and text > 0:
         raise Refused(14, place="text with 11", offset=space.at)
-    return Command(codec, kind, imei, space.at, text)
+    return Command(codec, kind, time, imei, space.at, text)
 
 
 # ---------------------------------------------------------------- looking up
@@ -519,18 +525,21 @@ def packet_of_form(family, form):
 
 # ---------------------------------------------------------------- writing commands and answers
 
-def write_command(family, codec, kind, imei, text):
-    """A command packet. What is refused here are arguments, so no offset goes with it."""
-    if codec not in TYPES:
+def write_command(family, codec, kind, imei, time, text):
+    """A command packet; a time is ignored where the codec has none. What is refused here are arguments, so no offset
+    goes with it."""
+    if codec not in COMMANDS:
         raise Refused(6)
-    if kind not in TYPES[codec]:
+    layout = COMMANDS[codec]
+    if kind not in layout.types:
         raise Refused(13)
-    if len(imei) != (15 if codec == 0x0E else 0):
+    if len(imei) != (15 if layout.imei else 0):
         raise Refused(15, place="length")
     if wrong_digits(imei):
         raise Refused(15, place="digit")
-    packed = bytes.fromhex("0" + imei.decode("ascii")) if imei else b""
-    body = packed + text
+    stamp = time.to_bytes(layout.time, "big") if layout.time else b""
+    packed = bytes.fromhex("0" + imei.decode("ascii")) if layout.imei else b""
+    body = stamp + packed + text
     field = bytes([codec, 1, kind]) + len(body).to_bytes(4, "big") + body + b"\x01"
     if AROUND + len(field) > family.packet:
         raise Refused(14, place="over")
@@ -620,7 +629,7 @@ class Connection:
         if len(self.held) == 8:
             check_header(self.family, self.held)
             return NO_ITEM
-        reader = read_command if self.held[8] in TYPES else read_packet
+        reader = read_command if self.held[8] in COMMANDS else read_packet
         reader(self.family, self.held)
         return Item(2, 0, self.held)
 
@@ -865,7 +874,7 @@ CALLS = {
     "acknowledge_packet": ("receipt", "FPP", packet_acknowledgement),
     "acknowledge_datagram": ("write", "FPP", datagram_acknowledgement),
     "answer_login": ("receipt", "PKP", login_answer),
-    "write_command": ("write", "FBBPPP", write_command),
+    "write_command": ("write", "FBBPTPP", write_command),
     "form_of_packet": ("write", "FPP", form_of(read_packet)),
     "form_of_datagram": ("write", "FPP", form_of(read_datagram)),
     "packet_of_form": ("write", "FPP", packet_of_form),
@@ -888,7 +897,7 @@ CALLS = {
 
 # How many fields an answer of C has besides the number, the index and the offset, all 0 on a refusal.
 FIELDS = {
-    "read_packet": 2, "read_datagram": 6, "read_login": 1, "read_command": 5, "record_in_packet": 11,
+    "read_packet": 2, "read_datagram": 6, "read_login": 1, "read_command": 6, "record_in_packet": 11,
     "record_in_datagram": 11, "value_in_packet": 4, "value_in_datagram": 4, "id_in_packet": 4, "id_in_datagram": 4,
     "last_known": 5, "acknowledge_packet": 1, "acknowledge_datagram": 1, "answer_login": 1, "write_command": 1,
     "form_of_packet": 1, "form_of_datagram": 1, "packet_of_form": 1, "contents_of_packet": 1, "contents_of_datagram": 1,
@@ -898,7 +907,8 @@ FIELDS = {
 
 # The sorts of words: P bytes; W a buffer of 64-bit words; S sizes of pieces, which go over and over; numbers below
 # these bounds. F is a family, refused with 21 before anything else; C a connection's, c that of a state by value.
-BOUNDS = {"F": 1 << 64, "C": 1 << 64, "c": 1 << 8, "N": 1 << 64, "I": 1 << 16, "L": 1 << 16, "B": 1 << 8, "K": 2}
+BOUNDS = {"F": 1 << 64, "C": 1 << 64, "c": 1 << 8, "N": 1 << 64, "T": 1 << 32, "I": 1 << 16, "L": 1 << 16, "B": 1 << 8,
+          "K": 2}
 FAMILY_SORTS = ("F", "C", "c")
 DECIMAL = re.compile(r"[0-9]{1,20}")
 SIZES = re.compile(r"(?=.*[1-9])[0-9]{1,9}(,[0-9]{1,9})*")

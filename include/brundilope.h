@@ -129,9 +129,10 @@ struct brundilope_command {
     size_t number;
     size_t index;
     size_t place;
-    uint8_t codec; /* 0x0C or 0x0E */
+    uint8_t codec; /* 0x0C, 0x0D or 0x0E */
     uint8_t type;  /* 0x05 command, 0x06 response, 0x11 IMEI doesn't match (0x0E only) */
-    uint64_t imei; /* below 10^15; 0 in 0x0C */
+    uint32_t time; /* of a message of 0x0D, as the unit gives it: its unit is not judged; 0 in 0x0C and 0x0E */
+    uint64_t imei; /* below 10^15, in 0x0E; 0 in 0x0C and 0x0D */
     size_t offset;
     size_t size;
 };
@@ -342,7 +343,7 @@ static inline size_t brundilope_contents_value_size(uint64_t v) { return (uint16
  * A connection is one login, then data or command packets, by the limits of the family that it is started with. A feed
  * takes the state and the next bytes. It uses every byte up to the one that finishes or refuses an item and none after
  * it, and says how many it used; the unused rest is fed again. A login is judged when 17 bytes are gathered (15), a
- * packet's header at 8 (2, 3), the rest when the whole packet is (5, then 7, 8, 13, 14, 15 for codecs 0x0C and 0x0E,
+ * packet's header at 8 (2, 3), the rest when the whole packet is (5, then 7, 8, 13, 14, 15 for codecs 0x0C to 0x0E,
  * and 6 to 12 for all others); 1 and 4 never occur. However the bytes are cut, the items, the closing refusal and the
  * state at the end are the same.
  *
@@ -455,10 +456,11 @@ struct brundilope_written brundilope_acknowledge_datagram(size_t family, const u
 
 /* ---- writing: BRUNDILOPE_LARGEST bytes are enough for every packet, BRUNDILOPE_LARGEST_FORM for every TLV form */
 
-/* A command packet. `imei` is empty for codec 0x0C and 15 ASCII digits for 0x0E; `text` is any bytes, none with type
- * 0x11. Refusals, in this order: 6, 13, 15, 14 (also if the packet would be over the family's limit), 18. */
+/* A command packet. `imei` is 15 ASCII digits for codec 0x0E and empty for 0x0C and 0x0D; `time` is any number for 0x0D
+ * and ignored for 0x0C and 0x0E; `text` is any bytes, none with type 0x11. Refusals, in this order: 6, 13, 15, 14 (also
+ * if the packet would be over the family's limit), 18. */
 struct brundilope_written brundilope_write_command(size_t family, uint8_t codec, uint8_t type,
-                                                   const uint8_t *imei, size_t imei_len,
+                                                   const uint8_t *imei, size_t imei_len, uint32_t time,
                                                    const uint8_t *text, size_t text_len, uint8_t *out, size_t out_len);
 
 /* The TLV form of a TCP data packet or of a datagram. Refusals: those of reading it, then 18. */

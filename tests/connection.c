@@ -179,7 +179,7 @@ static void lost_family(uint8_t family) {
 /* Writes a command packet of this size; gives the refusal's number. */
 static size_t command_of(size_t family, size_t size, uint8_t *out) {
     static const uint8_t text[BRUNDILOPE_LARGEST] = {0};
-    struct brundilope_written w = brundilope_write_command(family, 0x0C, 0x05, NULL, 0, text, size - 20, out, size);
+    struct brundilope_written w = brundilope_write_command(family, 0x0C, 0x05, NULL, 0, 7, text, size - 20, out, size);
     HOLD(w.written, w.number ? 0 : (long long)size);
     return w.number;
 }

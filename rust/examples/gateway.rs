@@ -72,7 +72,7 @@ fn answer_unit(mut unit: &TcpStream, name: &str, known: &[u64], keep: Keep) -> i
                     unit.write_all(&data.ack())?; // not before: the unit forgets what is acknowledged
                 }
                 Item::Command(command) => {
-                    keep(&format!("{name}: command, {}\n", command.read().text.escape_ascii()))?;
+                    keep(&format!("{name}: command, {}\n", command.read()))?;
                 }
                 Item::Refused(refusal) => {
                     unit.write_all(if logged_in { &[] } else { &[0] })?;

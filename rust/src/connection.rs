@@ -6,7 +6,7 @@ use std::iter::FusedIterator;
 use crate::contents::{Contents, DataPacket};
 use crate::family::Family;
 use crate::raw;
-use crate::reading::{read_command, Command, Login};
+use crate::reading::{is_command, read_command, Command, Login};
 use crate::refusal::{data_judged, input_judged, Refusal};
 use crate::LARGEST;
 
@@ -102,7 +102,7 @@ impl Connection {
     #[inline]
     fn feed_into(&mut self, bytes: &[u8], item: &mut Item) -> usize {
         let codec = self.held().iter().chain(bytes).nth(8);
-        let command = matches!(codec, Some(0x0C | 0x0E));
+        let command = matches!(codec, Some(codec) if is_command(*codec));
         *item = match command {
             true => Item::Command(ReceivedCommand(raw::Given::none(self.family()))),
             false => Item::Data(ReceivedData(raw::Given::none(self.family()))),
@@ -469,7 +469,7 @@ impl ReceivedCommand {
         self.0.family
     }
 
-    /// What is in it: codec, type, IMEI and text. [`read_command`] judges it once more, by the connection's family.
+    /// What is in it: codec, type, IMEI, time and text. [`read_command`] judges it once more, by the connection's family.
     ///
     /// ```
     /// # use brundilope::{samples, Connection, Family, Item};

@@ -35,7 +35,7 @@ fn layouts_are_those_of_the_header() {
         Packet as "packet" { number, index, place, codec, count }
         Datagram as "datagram" { number, index, place, codec, count, packet_id, unused, avl_packet_id, imei }
         Login as "login" { number, index, place, imei }
-        Command as "command" { number, index, place, codec, message_type, imei, offset, size }
+        Command as "command" { number, index, place, codec, message_type, time, imei, offset, size }
         Record as "record" {
             number, index, place, timestamp, priority, longitude, latitude, altitude, angle, satellites, speed, event,
             generation, elements

@@ -1,5 +1,5 @@
 //! Packets of Teltonika AVL trackers, read and written: codecs 8, 8 Extended and 16 over TCP and UDP, command codecs
-//! 12 and 14.
+//! 12, 13 and 14.
 //!
 //! The work is done by a library in Rattle, whose every call is proved against definitions of the protocol. This crate
 //! is a safe face of it: functions take slices and give structs, or a [`Refusal`] with its number, meaning, record and
@@ -108,7 +108,7 @@ pub use lookup::{
     id_in_datagram, id_in_packet, last_known, record_in_datagram, record_in_packet, value_in_datagram, value_in_packet,
     LastKnown, Record, Source, Value,
 };
-pub use reading::{read_command, read_datagram, read_login, read_packet, Command, Datagram, Login, Packet};
+pub use reading::{read_command, read_datagram, read_login, read_packet, Command, Datagram, Heading, Login, Packet};
 pub use records::{DataRecord, Records, Values};
 pub use refusal::Refusal;
 pub use writing::{

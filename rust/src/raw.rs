@@ -41,6 +41,7 @@ pub struct Command {
     pub place: usize,
     pub codec: u8,
     pub message_type: u8,
+    pub time: u32,
     pub imei: u64,
     pub offset: usize,
     pub size: usize,
@@ -241,6 +242,7 @@ extern "C" {
         message_type: u8,
         imei: *const u8,
         imei_len: usize,
+        time: u32,
         text: *const u8,
         text_len: usize,
         out: *mut u8,
@@ -254,14 +256,24 @@ pub fn last_known(family: Family, newer: &[u8], older: &[u8], id: u16) -> Known 
     unsafe { brundilope_last_known(family as usize, newer_at, newer.len(), older_at, older.len(), id) }
 }
 
-pub fn write_command(family: Family, codec: u8, message_type: u8, imei: &[u8], text: &[u8], out: &mut [u8]) -> Written {
+pub fn write_command(
+    family: Family,
+    codec: u8,
+    message_type: u8,
+    imei: &[u8],
+    time: u32,
+    text: &[u8],
+    out: &mut [u8],
+) -> Written {
     let (imei_at, text_at, out_at) = (imei.as_ptr(), text.as_ptr(), out.as_mut_ptr());
     let (imei_len, text_len, out_len) = (imei.len(), text.len(), out.len());
     let family = family as usize;
     // SAFETY: pointers and lengths are those of three slices, and `out` overlaps neither of the others since it is
     // `&mut`; the call writes only within `out` and keeps none of them.
     unsafe {
-        brundilope_write_command(family, codec, message_type, imei_at, imei_len, text_at, text_len, out_at, out_len)
+        brundilope_write_command(
+            family, codec, message_type, imei_at, imei_len, time, text_at, text_len, out_at, out_len,
+        )
     }
 }
 

@@ -1,4 +1,6 @@
 //! Whole packets, datagrams, logins and commands.
+use std::fmt::{Display, Formatter, Result as Printed};
+
 use crate::family::Family;
 use crate::raw;
 use crate::refusal::{data_judged, input_judged, Refusal};
@@ -53,16 +55,84 @@ impl Login {
 /// A command packet.
 #[derive(Clone, Copy, Debug, PartialEq, Eq, Hash)]
 pub struct Command<'a> {
-    /// The codec: 0x0C or 0x0E.
+    /// The codec: 0x0C, 0x0D or 0x0E.
     pub codec: u8,
     /// 0x05 command, 0x06 response, 0x11 IMEI doesn't match (0x0E only).
     pub message_type: u8,
-    /// The IMEI, below 10^15; 0 in codec 0x0C.
+    /// The IMEI, below 10^15, in codec 0x0E; 0 in 0x0C and 0x0D.
     pub imei: u64,
+    /// The time of a message of codec 0x0D, as the unit gives it: its unit is not judged. 0 in 0x0C and 0x0E.
+    pub time: u32,
     /// Where the text starts in the input.
     pub offset: usize,
     /// The text: any bytes, or none.
     pub text: &'a [u8],
+}
+
+impl Command<'_> {
+    /// What stands before the text, as [`write_command`](crate::write_command) takes it.
+    ///
+    /// ```
+    /// use brundilope::{read_command, samples, write_command, Family, LARGEST};
+    ///
+    /// let command = read_command(Family::Standard, samples::CODEC13_MESSAGE)?;
+    /// let mut again = [0; LARGEST];
+    /// let size = write_command(Family::Standard, command.heading(), command.message_type, command.text, &mut again)?;
+    /// assert_eq!(&again[..size], samples::CODEC13_MESSAGE);
+    /// # Ok::<(), brundilope::Refusal>(())
+    /// ```
+    #[must_use]
+    pub fn heading(&self) -> Heading {
+        match self.codec {
+            0x0D => Heading::Codec13 { time: self.time },
+            0x0E => Heading::Codec14 { imei: self.imei },
+            _ => Heading::Codec12,
+        }
+    }
+}
+
+/// Codec and type in hexadecimal, the time or IMEI that the codec has, and the text with escapes.
+///
+/// ```
+/// use brundilope::{read_command, samples, Family};
+///
+/// let message = read_command(Family::Standard, samples::CODEC13_MESSAGE)?;
+/// assert_eq!(message.to_string(), r"codec 0D, type 06, time 1692938881: hello lets test\r\n");
+/// # Ok::<(), brundilope::Refusal>(())
+/// ```
+impl Display for Command<'_> {
+    fn fmt(&self, f: &mut Formatter<'_>) -> Printed {
+        write!(f, "codec {:02X}, type {:02X}", self.codec, self.message_type)?;
+        match self.heading() {
+            Heading::Codec12 => {}
+            Heading::Codec13 { time } => write!(f, ", time {time}")?,
+            Heading::Codec14 { imei } => write!(f, ", IMEI {imei:015}")?,
+        }
+        write!(f, ": {}", self.text.escape_ascii())
+    }
+}
+
+/// What stands before a command's text, by its codec.
+#[derive(Clone, Copy, Debug, PartialEq, Eq, Hash)]
+pub enum Heading {
+    /// Codec 0x0C: nothing.
+    Codec12,
+    /// Codec 0x0D, from unit to server only: the message's time. Any number; the maker's pages do not agree on its unit.
+    Codec13 {
+        /// The time.
+        time: u32,
+    },
+    /// Codec 0x0E: the IMEI of the unit.
+    Codec14 {
+        /// The IMEI, below 10^15.
+        imei: u64,
+    },
+}
+
+/// Whether packets of this codec are commands.
+#[inline]
+pub(crate) fn is_command(codec: u8) -> bool {
+    matches!(codec, 0x0C..=0x0E)
 }
 
 /// The `size` bytes of an input from `offset` on: the library's views lie within their input.
@@ -134,6 +204,10 @@ pub fn read_login(login: &[u8]) -> Result<Login, Refusal> {
 /// assert_eq!((command.codec, command.message_type), (0x0E, 0x05));
 /// assert_eq!(command.imei, 352093081452251);
 /// assert_eq!((command.offset, command.text), (23, &b"getver"[..]));
+///
+/// let message = read_command(Family::Standard, samples::CODEC13_MESSAGE)?;
+/// assert_eq!((message.codec, message.message_type), (0x0D, 0x06));
+/// assert_eq!((message.time, message.text), (0x64E8_3281, &b"hello lets test\r\n"[..]));
 /// # Ok::<(), brundilope::Refusal>(())
 /// ```
 pub fn read_command(family: Family, packet: &[u8]) -> Result<Command<'_>, Refusal> {
@@ -143,6 +217,7 @@ pub fn read_command(family: Family, packet: &[u8]) -> Result<Command<'_>, Refusa
         codec: a.codec,
         message_type: a.message_type,
         imei: a.imei,
+        time: a.time,
         offset: a.offset,
         text: view(packet, a.offset, a.size),
     })

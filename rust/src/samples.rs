@@ -39,6 +39,8 @@ pub const CODEC16: &[u8] = &hex::<107>(include_str!("../../samples/codec16.hex")
 pub const CODEC12_COMMAND: &[u8] = &hex::<25>(include_str!("../../samples/codec12-command.hex"));
 /// The unit's response to `getio`.
 pub const CODEC12_RESPONSE: &[u8] = &hex::<67>(include_str!("../../samples/codec12-response.hex"));
+/// Message `hello lets test` with its time, codec 13.
+pub const CODEC13_MESSAGE: &[u8] = &hex::<41>(include_str!("../../samples/codec13-message.hex"));
 /// Command `getver` to IMEI 352093081452251, codec 14.
 pub const CODEC14_COMMAND: &[u8] = &hex::<34>(include_str!("../../samples/codec14-command.hex"));
 /// The unit's response to `getver`.

@@ -63,28 +63,50 @@ pub fn acknowledge_datagram(family: Family, datagram: &[u8], out: &mut [u8]) -> 
 
 /// Writes a command packet.
 ///
-/// `imei` is empty for codec 0x0C and 15 ASCII digits for 0x0E; `text` is any bytes, none with type 0x11. Refusals, in
-/// this order: 6, 13, 15, 14 (also if the packet would be over the family's limit), 18.
+/// `heading` says the codec, and the time or IMEI that it has; `text` is any bytes, none with type 0x11. Refusals, in
+/// this order: 13, 15 (an IMEI of 10^15 or more), 14 (also if the packet would be over the family's limit), 18.
 ///
 /// ```
-/// use brundilope::{samples, write_command, Family};
+/// use brundilope::{samples, write_command, Family, Heading};
 ///
 /// let mut out = [0; brundilope::LARGEST];
-/// let size = write_command(Family::Standard, 0x0C, 0x05, b"", b"getio", &mut out)?;
+/// let size = write_command(Family::Standard, Heading::Codec12, 0x05, b"getio", &mut out)?;
 /// assert_eq!(&out[..size], samples::CODEC12_COMMAND);
-/// let size = write_command(Family::Standard, 0x0E, 0x05, b"352093081452251", b"getver", &mut out)?;
+///
+/// let heading = Heading::Codec14 { imei: 352093081452251 };
+/// let size = write_command(Family::Standard, heading, 0x05, b"getver", &mut out)?;
 /// assert_eq!(&out[..size], samples::CODEC14_COMMAND);
+///
+/// let heading = Heading::Codec13 { time: 0x64E8_3281 };
+/// let size = write_command(Family::Standard, heading, 0x06, b"hello lets test\r\n", &mut out)?;
+/// assert_eq!(&out[..size], samples::CODEC13_MESSAGE);
 /// # Ok::<(), brundilope::Refusal>(())
 /// ```
 pub fn write_command(
     family: Family,
-    codec: u8,
+    heading: Heading,
     message_type: u8,
-    imei: &[u8],
     text: &[u8],
     out: &mut [u8],
 ) -> Result<usize, Refusal> {
-    written(raw::write_command(family, codec, message_type, imei, text, out))
+    let mut room = [0; 20];
+    let (codec, imei, time) = match heading {
+        Heading::Codec12 => (0x0C, &[][..], 0),
+        Heading::Codec13 { time } => (0x0D, &[][..], time),
+        Heading::Codec14 { imei } => (0x0E, digits(imei, &mut room), 0),
+    };
+    written(raw::write_command(family, codec, message_type, imei, time, text, out))
+}
+
+/// An IMEI as the library takes it: 15 ASCII digits, or more of a number that is too large, which it refuses.
+fn digits(imei: u64, room: &mut [u8; 20]) -> &[u8] {
+    let (mut start, mut rest) = (room.len(), imei);
+    while rest > 0 || start > room.len() - 15 {
+        start -= 1;
+        room[start] = b'0' + (rest % 10) as u8;
+        rest /= 10;
+    }
+    &room[start..]
 }
 
 /// Writes the TLV form of a TCP data packet. Refusals 1 to 12, then 18.

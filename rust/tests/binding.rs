@@ -94,10 +94,49 @@ fn the_total_counts_driver_tags() {
 
 #[test]
 fn commands_are_read_as_they_were_written() {
-    let out = &mut vec![0; 28][..];
-    assert_eq!(write_command(Family::Standard, 0x0E, 0x11, b"352093081452251", b"", out), Ok(28));
-    let read = Command { codec: 0x0E, message_type: 0x11, imei: 352_093_081_452_251, offset: 23, text: b"" };
-    assert_eq!(read_command(Family::Standard, out), Ok(read));
+    let rows = [
+        (Heading::Codec12, 0x0C, 0x05, 15, &b"getio"[..]),
+        (Heading::Codec12, 0x0C, 0x06, 15, b""),
+        (Heading::Codec13 { time: 0 }, 0x0D, 0x05, 19, b""),
+        (Heading::Codec13 { time: 0x0102_0304 }, 0x0D, 0x06, 19, b"hello"),
+        (Heading::Codec13 { time: u32::MAX }, 0x0D, 0x06, 19, b"hello"),
+        (Heading::Codec14 { imei: 0 }, 0x0E, 0x05, 23, b"getver"),
+        (Heading::Codec14 { imei: 352_093_081_452_251 }, 0x0E, 0x11, 23, b""),
+        (Heading::Codec14 { imei: 999_999_999_999_999 }, 0x0E, 0x06, 23, b"ok"),
+    ];
+    for (heading, codec, message_type, offset, text) in rows {
+        let mut out = [0; LARGEST];
+        let size = write_command(Family::Standard, heading, message_type, text, &mut out).unwrap();
+        assert_eq!(size, offset + text.len() + 5);
+        let read = read_command(Family::Standard, &out[..size]).unwrap();
+        let (imei, time) = match heading {
+            Heading::Codec12 => (0, 0),
+            Heading::Codec13 { time } => (0, time),
+            Heading::Codec14 { imei } => (imei, 0),
+        };
+        assert_eq!(read, Command { codec, message_type, imei, time, offset, text });
+        assert_eq!(read.heading(), heading);
+    }
+}
+
+#[test]
+fn commands_say_what_they_are() {
+    let said = |packet| read_command(Family::Standard, packet).unwrap().to_string();
+    assert_eq!(said(samples::CODEC12_COMMAND), "codec 0C, type 05: getio");
+    assert_eq!(said(samples::CODEC13_MESSAGE), r"codec 0D, type 06, time 1692938881: hello lets test\r\n");
+    assert_eq!(said(samples::CODEC14_COMMAND), "codec 0E, type 05, IMEI 352093081452251: getver");
+}
+
+#[test]
+fn messages_are_told_apart_by_their_time() {
+    let mut packets = [[0; 41]; 2];
+    for (packet, time) in packets.iter_mut().zip([0x64E8_3281, 0x64E8_3282]) {
+        let heading = Heading::Codec13 { time };
+        assert_eq!(write_command(Family::Standard, heading, 0x06, b"hello lets test\r\n", packet), Ok(41));
+        assert_eq!(read_command(Family::Standard, packet).map(|message| message.time), Ok(time));
+    }
+    assert_eq!(packets[0], samples::CODEC13_MESSAGE);
+    assert_ne!(packets[0], packets[1]);
 }
 
 /// A writer on a fixed input, and the result that it writes.
@@ -115,7 +154,7 @@ fn writers_keep_to_their_result() {
         (&|out| answer_login(samples::LOGIN, false, out), &[0]),
         (&|out| acknowledge_packet(Family::Standard, &packet, out), &[0, 0, 0, 2]),
         (&|out| acknowledge_datagram(Family::Standard, &datagram, out), &[0x00, 0x05, 0x12, 0x34, 0x56, 0x78, 2]),
-        (&|out| write_command(Family::Standard, 0x0C, 0x05, b"", b"getio", out), samples::CODEC12_COMMAND),
+        (&|out| write_command(Family::Standard, Heading::Codec12, 0x05, b"getio", out), samples::CODEC12_COMMAND),
         (&|out| form_of_packet(Family::Standard, &packet, out), form),
         (&|out| form_of_datagram(Family::Standard, &datagram, out), form),
         (&|out| packet_of_form(Family::Standard, form, out), &packet),
@@ -171,7 +210,7 @@ fn all_samples_are_accepted() {
     for packet in [CODEC8, CODEC8E, DRIVER_TAGS, LONG_TAGS, CODEC16] {
         assert!(read_packet(Family::Standard, packet).is_ok());
     }
-    for command in [CODEC12_COMMAND, CODEC12_RESPONSE, CODEC14_COMMAND, CODEC14_RESPONSE] {
+    for command in [CODEC12_COMMAND, CODEC12_RESPONSE, CODEC13_MESSAGE, CODEC14_COMMAND, CODEC14_RESPONSE] {
         assert!(read_command(Family::Standard, command).is_ok());
     }
     for datagram in [UDP_CODEC8, UDP_CODEC8E] {
@@ -208,9 +247,9 @@ fn sizes_are_those_of_the_header_and_the_library() {
     }
     let text = [0; LARGEST - 19]; // one byte too many: 20 bytes of a packet are not text
     let mut out = [0; LARGEST];
-    assert_eq!(write_command(Family::Standard, 0x0C, 0x05, b"", &text[1..], &mut out), Ok(LARGEST));
+    assert_eq!(write_command(Family::Standard, Heading::Codec12, 0x05, &text[1..], &mut out), Ok(LARGEST));
     assert_eq!(
-        write_command(Family::Standard, 0x0C, 0x05, b"", &text, &mut out),
+        write_command(Family::Standard, Heading::Codec12, 0x05, &text, &mut out),
         Err(Refusal { number: 14, record: None, offset: None })
     );
 }

@@ -120,7 +120,7 @@ fn packets_are_read_as_by_themselves() {
     for (family, largest, counts) in [(Family::Fmx640, 512, &LONGEST_640[..]), (Family::Standard, LARGEST, &LONGEST)] {
         let (mut longest, mut long_command) = (vec![0; largest], vec![0; largest]);
         assert_eq!(packet_of_form(family, &form_of_counts(counts), &mut longest), Ok(largest));
-        assert_eq!(write_command(family, 0x0C, 0x06, b"", &vec![b'x'; largest - 20], &mut long_command), Ok(largest));
+        assert_eq!(write_command(family, Heading::Codec12, 0x06, &vec![b'x'; largest - 20], &mut long_command), Ok(largest));
         let mut connection = logged_in(family);
         for input in [longest, long_command].iter().chain(&sent()[1..]) {
             read_as_by_itself(&connection.feed(input).item, family, input);
@@ -207,9 +207,12 @@ fn refusals_close() {
         (Refusal { record: Some(1), ..no(10, 56) }, with(&DATA, 48, 3)),
         (no(7, 9), vec![0x0C, 2, 2]),
         (no(8, 10), vec![0x0C, 1, 1]),
+        (no(8, 10), vec![0x0D, 1, 1]),
         (no(8, 10), vec![0x0E, 1, 1]),
         (no(13, 10), vec![0x0C, 1, 0x11, 0, 0, 0, 0, 1]),
+        (no(13, 10), vec![0x0D, 1, 0x11, 0, 0, 0, 4, 0, 0, 0, 0, 1]),
         (no(14, 11), vec![0x0C, 1, 5, 0, 0, 0, 1, 1]),
+        (no(14, 11), vec![0x0D, 1, 6, 0, 0, 0, 3, 0, 0, 0, 1]),
         (no(15, 15), vec![0x0E, 1, 5, 0, 0, 0, 8, 0x10, 0, 0, 0, 0, 0, 0, 0, 1]),
     ];
     for (refusal, data) in fields {
@@ -221,10 +224,10 @@ fn refusals_close() {
 fn refusals_are_those_of_reading() {
     let open = logged_in(Family::Standard);
     for (place, byte) in DATA.into_iter().enumerate() {
-        for wrong in [0, 3, 0x0C, byte.wrapping_add(1)] {
+        for wrong in [0, 3, 0x0C, 0x0D, byte.wrapping_add(1)] {
             let input = packet(&with(&DATA, place, wrong));
             let expected = match input[CODEC] {
-                0x0C | 0x0E => read_command(Family::Standard, &input).map(|_| ()),
+                0x0C..=0x0E => read_command(Family::Standard, &input).map(|_| ()),
                 _ => read_packet(Family::Standard, &input).map(|_| ()),
             };
             let fed = open.clone().feed(&input);

@@ -142,7 +142,8 @@ fn data_packets_and_datagrams_keep_to_the_limit() {
 #[test]
 fn commands_keep_to_the_limit() {
     let text = [b'x'; LARGEST];
-    let write = |family, size: usize, out: &mut [u8]| write_command(family, 0x0C, 0x06, b"", &text[..size - 20], out);
+    let write =
+        |family, size: usize, out: &mut [u8]| write_command(family, Heading::Codec12, 0x06, &text[..size - 20], out);
     for (family, limit) in FAMILIES.into_iter().zip(LIMITS) {
         let mut longest = vec![0; limit];
         assert_eq!(write(family, limit, &mut longest), Ok(limit));

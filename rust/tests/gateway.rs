@@ -5,7 +5,7 @@ use std::sync::{Arc, Mutex};
 use std::thread;
 use std::time::Duration;
 
-use brundilope::samples::{CODEC12_RESPONSE, CODEC16, CODEC8, CODEC8E, LOGIN};
+use brundilope::samples::{CODEC12_RESPONSE, CODEC13_MESSAGE, CODEC16, CODEC8, CODEC8E, LOGIN};
 use gateway::serve;
 
 #[allow(dead_code)] // its `main`
@@ -15,8 +15,13 @@ mod gateway;
 const KNOWN: &[u64] = &[356_307_042_441_013];
 
 /// What a unit sends, and what is answered to each.
-const SENT: [(&[u8], &[u8]); 4] =
-    [(LOGIN, &[1]), (CODEC8, &[0, 0, 0, 1]), (CODEC12_RESPONSE, &[]), (CODEC16, &[0, 0, 0, 2])];
+const SENT: [(&[u8], &[u8]); 5] = [
+    (LOGIN, &[1]),
+    (CODEC8, &[0, 0, 0, 1]),
+    (CODEC12_RESPONSE, &[]),
+    (CODEC13_MESSAGE, &[]),
+    (CODEC16, &[0, 0, 0, 2]),
+];
 
 /// A gateway in this process. What it keeps goes to `keep`.
 fn start(keep: impl Fn(&str) -> Result<()> + Send + Sync + 'static) -> SocketAddr {
@@ -113,7 +118,8 @@ fn all_is_kept() {
 unit: login of 356307042441013
 unit: data, codec 08, records 1
   time 1560161086000, longitude 0, latitude 0, values 5
-unit: command, DI1:1 DI2:0 DI3:0 AIN1:0 AIN2:16924 DO1:0 DO2:1
+unit: command, codec 0C, type 06: DI1:1 DI2:0 DI3:0 AIN1:0 AIN2:16924 DO1:0 DO2:1
+unit: command, codec 0D, type 06, time 1692938881: hello lets test\\r\\n
 unit: data, codec 10, records 2
   time 1562760414000, longitude 0, latitude 0, values 4
   time 1562760415000, longitude 0, latitude 0, values 4

@@ -147,6 +147,10 @@ fn commands_are_refused_at_their_field() {
         (8, 11, vec![0x0E, 1, 5, 0, 0, 0, 1]),
         (13, 10, vec![0x0C, 1, 0x11, 0, 0, 0, 0, 1]),
         (14, 11, vec![0x0C, 1, 5, 0, 0, 0, 1, 1]),
+        (13, 10, vec![0x0D, 1, 0x11, 0, 0, 0, 4, 0, 0, 0, 0, 1]),
+        (14, 11, vec![0x0D, 1, 6, 0, 0, 0, 0, 1]),
+        (14, 11, vec![0x0D, 1, 6, 0, 0, 0, 3, 0, 0, 0, 1]),
+        (14, 11, vec![0x0D, 1, 6, 0, 0, 0, 1, 0, 0, 0, 0, b'x', 1]),
         (14, 11, codec14(5, &[0; 7], b"")),
         (14, 23, codec14(0x11, &[0; 8], b"x")),
         (15, 15, codec14(5, &[0x10, 0, 0, 0, 0, 0, 0, 0], b"x")),
@@ -162,13 +166,14 @@ fn commands_are_refused_at_their_field() {
 
 #[test]
 fn a_writer_refuses_its_arguments_at_no_byte() {
-    let written =
-        |codec, message_type, imei, text| write_command(FAMILY, codec, message_type, imei, text, &mut [0; LARGEST]);
-    assert_eq!(written(0x0D, 5, b"", b""), Err(refusal(6, None)));
-    assert_eq!(written(0x0C, 0x11, b"", b""), Err(refusal(13, None)));
-    assert_eq!(written(0x0E, 0x11, b"352093081452251", b"x"), Err(refusal(14, None)));
-    assert_eq!(written(0x0E, 5, b"35209308145225x", b""), Err(refusal(15, None)));
-    assert_eq!(written(0x0E, 5, b"", b""), Err(refusal(15, None)));
+    let written = |heading, message_type, text| write_command(FAMILY, heading, message_type, text, &mut [0; LARGEST]);
+    let (imei, time) = (352_093_081_452_251, 0x64E8_3281);
+    assert_eq!(written(Heading::Codec12, 0x11, b""), Err(refusal(13, None)));
+    assert_eq!(written(Heading::Codec13 { time }, 0x11, b""), Err(refusal(13, None)));
+    assert_eq!(written(Heading::Codec14 { imei }, 0x11, b"x"), Err(refusal(14, None)));
+    assert_eq!(written(Heading::Codec13 { time }, 6, &[0; LARGEST - 23]), Err(refusal(14, None)));
+    assert_eq!(written(Heading::Codec14 { imei: 10_u64.pow(15) }, 5, b""), Err(refusal(15, None)));
+    assert_eq!(written(Heading::Codec14 { imei: u64::MAX }, 5, b""), Err(refusal(15, None)));
 }
 
 #[test]

@@ -59,8 +59,8 @@ flatLogin (accepted imei) = record { number = 0; index = 0; place = 0; imei = im
 flatLogin (refused x) = record { number = x .number; index = x .index; place = x .place; imei = 0 }
 
 unfoldable pub flatCommand : Answer CommandFields → CommandC
-flatCommand (accepted f) = record { number = 0; index = 0; place = 0; codec = f .codec; kind = f .kind; imei = f .imei; offset = f .offset; size = f .size }
-flatCommand (refused x) = record { number = x .number; index = x .index; place = x .place; codec = 0; kind = 0; imei = 0; offset = 0; size = 0 }
+flatCommand (accepted f) = record { number = 0; index = 0; place = 0; codec = f .codec; kind = f .kind; time = f .time; imei = f .imei; offset = f .offset; size = f .size }
+flatCommand (refused x) = record { number = x .number; index = x .index; place = x .place; codec = 0; kind = 0; time = 0; imei = 0; offset = 0; size = 0 }
 
 -- 1 a login, 2 a packet, else 0; what belongs to none of these is 0
 unfoldable pub itemNumber : Item → ℕ

@@ -79,6 +79,7 @@ pub struct CommandC {
     pub place: usize,
     pub codec: u8,
     pub kind: u8,
+    pub time: u32,
     pub imei: u64,
     pub offset: usize,
     pub size: usize,
@@ -218,6 +219,7 @@ pub extern "C" fn brundilope_read_command(family: usize, p: &[u8]) -> CommandC
             place: 0,
             codec: f.codec,
             kind: f.kind,
+            time: f.time,
             imei: f.imei,
             offset: f.offset,
             size: f.size,
@@ -228,6 +230,7 @@ pub extern "C" fn brundilope_read_command(family: usize, p: &[u8]) -> CommandC
             place: r.place,
             codec: 0,
             kind: 0,
+            time: 0,
             imei: 0,
             offset: 0,
             size: 0,
@@ -241,13 +244,14 @@ pub extern "C" fn brundilope_write_command(
     codec: u8,
     kind: u8,
     imei: &[u8],
+    time: u32,
     text: &[u8],
     out: &mut [u8],
 ) -> WrittenC
-    ensures answer { λ r. ⌜ r ≡ flatWritten (writing (commandBytes (limitsOf family) codec kind (now (imei .entry)) (now (text .entry))) (now (out .entry))) ⌝ }
-    ensures buffer { λ r. ⌜ now (out .exit) ≡ leaving (commandBytes (limitsOf family) codec kind (now (imei .entry)) (now (text .entry))) (now (out .entry)) ⌝ }
+    ensures answer { λ r. ⌜ r ≡ flatWritten (writing (commandBytes (limitsOf family) codec kind (now (imei .entry)) time (now (text .entry))) (now (out .entry))) ⌝ }
+    ensures buffer { λ r. ⌜ now (out .exit) ≡ leaving (commandBytes (limitsOf family) codec kind (now (imei .entry)) time (now (text .entry))) (now (out .entry)) ⌝ }
 {
-    flat_written(command::write_command(family, codec, kind, imei, text, out))
+    flat_written(command::write_command(family, codec, kind, imei, time, text, out))
 }
 
 // ---- looking up

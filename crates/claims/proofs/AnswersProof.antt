@@ -6,7 +6,7 @@ use Rattle.claims.proofs.Computing.{computing}
 
 read-as-said : AsSaid readings
 unfolding computing readings
-read-as-said = (refl, (refl, (refl, (refl, (refl, (refl, (refl, (refl, (refl, (refl, tt))))))))))
+read-as-said = (refl, (refl, (refl, (refl, (refl, (refl, (refl, (refl, (refl, (refl, (refl, (refl, (refl, (refl, tt))))))))))))))
 
 found-as-said : AsSaid lookups
 unfolding computing lookups
@@ -14,7 +14,7 @@ found-as-said = (refl, (refl, (refl, (refl, (refl, (refl, (refl, (refl, (refl, (
 
 written-as-said : AsSaid writings
 unfolding computing writings
-written-as-said = (refl, (refl, (refl, (refl, (refl, (refl, (refl, (refl, (refl, (refl, (refl, (refl, (refl, (refl, (refl, (refl, (refl, (refl, (refl, tt)))))))))))))))))))
+written-as-said = (refl, (refl, (refl, (refl, (refl, (refl, (refl, (refl, (refl, (refl, (refl, (refl, (refl, (refl, (refl, (refl, (refl, (refl, (refl, (refl, (refl, (refl, tt))))))))))))))))))))))
 
 pub answer-table : AsThePaperAnswers
 answer-table = (read-as-said, (found-as-said, (written-as-said, tt)))

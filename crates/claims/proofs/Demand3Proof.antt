@@ -43,9 +43,9 @@ by-form p q family other a b f g e =
     f .whole ∙ ap packetBytes same ∙ sym (g .whole)
 
 by-fields : (p q : List ℕ) (family other : ℕ) (c e : Command) → CommandPacket (limitsOf family) c p → CommandPacket (limitsOf other) e q
-    → c .codec ≡ e .codec → c .type ≡ e .type → c .imei ≡ e .imei → c .text ≡ e .text → p ≡ q
-by-fields p q family other c e f g codec type imei text =
-    let same : c ≡ e = λ i. record { codec = codec i; type = type i; imei = imei i; text = text i } in
+    → c .codec ≡ e .codec → c .type ≡ e .type → c .imei ≡ e .imei → c .time ≡ e .time → c .text ≡ e .text → p ≡ q
+by-fields p q family other c e f g codec type imei time text =
+    let same : c ≡ e = λ i. record { codec = codec i; type = type i; imei = imei i; time = time i; text = text i } in
     let row : f .row ≡ g .row = layout-unique (c .codec) (f .rules .layout) (rw (sym codec) at (g .rules .layout)) in
     f .whole ∙ ap₂ (λ (l : Layout) (x : Command). framed (commandField l x)) row same ∙ sym (g .whole)
 

@@ -28,7 +28,7 @@ use Rattle.datagram.specs.Datagrams.{Datagram, readHeader, judgeHeader, readDat
 use Rattle.datagram.proofs.DatagramLaws.{datagram-exact}
 use Rattle.command.specs.Layouts.{types, layoutOf, member}
 use Rattle.command.specs.Commands.{Command, commandField, mismatch, readCommand, answerCommand}
-use Rattle.command.specs.Writing.{givenImei, packetOf, bytesWithin, commandBytes}
+use Rattle.command.specs.Writing.{givenImei, givenTime, packetOf, bytesWithin, commandBytes}
 use Rattle.command.proofs.PacketLaws.{command-exact}
 use Rattle.lookup.specs.Lookups.{Source, LastKnown, tcpSource, udpSource, valueInLast, inOlder, orElse, lastKnown}
 use Rattle.tlv.specs.Decoding.{decoded}
@@ -153,16 +153,16 @@ module _ (a b : Limits) (order : Below a b) where
       ∙ onAccepted-passed (readForm b f) _ (form-exact b f (i .0) h small .1 (record { packet = above; form = k .form }))
       ∙ i .2
 
-  written-too : (codec type : ℕ) (imei text p : List ℕ) → commandBytes a codec type imei text ≡ accepted p → commandBytes b codec type imei text ≡ accepted p
+  written-too : (codec type : ℕ) (imei : List ℕ) (time : ℕ) (text p : List ℕ) → commandBytes a codec type imei time text ≡ accepted p → commandBytes b codec type imei time text ≡ accepted p
   unfolding commandBytes bytesWithin packetOf
-  written-too codec type imei text p e =
+  written-too codec type imei time text p e =
       let c = check-accepted (isKnown (a .largest)) 21 _ _ e in
       let known : 1 ≤ a .largest = leb-true 1 (a .largest) (c .0) in
       let row = onAccepted-accepted (layoutOf codec) _ (c .1) in
       let l = row .0 in
       let kind = check-accepted (member type (types l)) 13 _ _ (row .2) in
       let given = onAccepted-accepted (givenImei l imei) _ (kind .1) in
-      let x : Command = record { codec = codec; type = type; imei = given .0; text = text } in
+      let x : Command = record { codec = codec; type = type; imei = given .0; time = givenTime l time; text = text } in
       let empty = check-accepted (mismatch type text) 14 _ _ (given .2) in
       let short = check-accepted (leb (length (commandField l x) + 12) (a .largest)) 14 _ _ (empty .1) in
       let most : length (commandField l x) + 12 ≤ a .largest = leb-true _ _ (short .0) in
@@ -274,7 +274,7 @@ says-21 family h k =
       commands = λ p. refl;
       acknowledgements = λ p. refl;
       forms = λ f. refl;
-      written = λ codec type imei text. refl;
+      written = λ codec type imei time text. refl;
     })
 
 pub families-kept : FamiliesKept

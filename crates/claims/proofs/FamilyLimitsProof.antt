@@ -10,7 +10,7 @@ unknown-families = (refl, (refl, (refl, (refl, (refl, (refl, (refl, (refl, (refl
 
 family-limits : AsSaid familyLimits
 unfolding computing familyLimits
-family-limits = (refl, (refl, (refl, (refl, (refl, (refl, (refl, (refl, (refl, (refl, (refl, (refl, (refl, (refl, (refl, (refl, (refl, (refl, (refl, (refl, (refl, (refl, (refl, tt)))))))))))))))))))))))
+family-limits = (refl, (refl, (refl, (refl, (refl, (refl, (refl, (refl, (refl, (refl, (refl, (refl, (refl, (refl, (refl, (refl, (refl, (refl, (refl, (refl, (refl, (refl, (refl, (refl, (refl, (refl, tt))))))))))))))))))))))))))
 
 too-many-values : AsSaid tooManyValues
 unfolding computing tooManyValues

@@ -10,7 +10,7 @@ started-as-said = (refl, (refl, (refl, (refl, (refl, (refl, (refl, (refl, (refl,
 
 feed-refusals : AsSaid feedRefusals
 unfolding computing feedRefusals
-feed-refusals = (refl, (refl, (refl, (refl, (refl, (refl, (refl, (refl, (refl, (refl, (refl, (refl, (refl, (refl, (refl, (refl, (refl, (refl, (refl, (refl, (refl, (refl, (refl, (refl, (refl, (refl, tt))))))))))))))))))))))))))
+feed-refusals = (refl, (refl, (refl, (refl, (refl, (refl, (refl, (refl, (refl, (refl, (refl, (refl, (refl, (refl, (refl, (refl, (refl, (refl, (refl, (refl, (refl, (refl, (refl, (refl, (refl, (refl, (refl, (refl, tt))))))))))))))))))))))))))))
 
 shut-feeds : AsSaid shutFeeds
 unfolding computing shutFeeds
@@ -18,7 +18,7 @@ shut-feeds = (refl, (refl, (refl, (refl, (refl, (refl, (refl, (refl, (refl, (ref
 
 feed-answers : AsSaid feedAnswers
 unfolding computing feedAnswers
-feed-answers = (refl, (refl, (refl, (refl, (refl, (refl, (refl, (refl, (refl, (refl, (refl, (refl, (refl, (refl, (refl, (refl, (refl, (refl, (refl, (refl, (refl, (refl, (refl, (refl, (refl, (refl, (refl, (refl, (refl, (refl, tt))))))))))))))))))))))))))))))
+feed-answers = (refl, (refl, (refl, (refl, (refl, (refl, (refl, (refl, (refl, (refl, (refl, (refl, (refl, (refl, (refl, (refl, (refl, (refl, (refl, (refl, (refl, (refl, (refl, (refl, (refl, (refl, (refl, (refl, (refl, (refl, (refl, (refl, tt))))))))))))))))))))))))))))))))
 
 wanted-as-said : AsSaid wants
 unfolding computing wants
@@ -26,7 +26,7 @@ wanted-as-said = (refl, (refl, (refl, (refl, (refl, (refl, (refl, (refl, (refl, 
 
 streamed-as-said : AsSaid streams
 unfolding computing streams
-streamed-as-said = (refl, (refl, (refl, (refl, (refl, (refl, (refl, (refl, tt))))))))
+streamed-as-said = (refl, (refl, (refl, (refl, (refl, (refl, (refl, (refl, (refl, tt)))))))))
 
 pub feed-table : AsThePaperFeeds
 feed-table = (started-as-said, (feed-refusals, (shut-feeds, (feed-answers, (wanted-as-said, (streamed-as-said, tt))))))

@@ -6,7 +6,7 @@ use Rattle.claims.proofs.Computing.{computing}
 
 packet-refusals : AsSaid packetRefusals
 unfolding computing packetRefusals
-packet-refusals = (refl, (refl, (refl, (refl, (refl, (refl, (refl, (refl, (refl, (refl, (refl, (refl, (refl, (refl, (refl, (refl, (refl, (refl, (refl, (refl, (refl, (refl, (refl, (refl, (refl, (refl, (refl, tt)))))))))))))))))))))))))))
+packet-refusals = (refl, (refl, (refl, (refl, (refl, (refl, (refl, (refl, (refl, (refl, (refl, (refl, (refl, (refl, (refl, (refl, (refl, (refl, (refl, (refl, (refl, (refl, (refl, (refl, (refl, (refl, (refl, (refl, tt))))))))))))))))))))))))))))
 
 datagram-refusals : AsSaid datagramRefusals
 unfolding computing datagramRefusals
@@ -18,7 +18,7 @@ login-refusals = (refl, (refl, (refl, (refl, (refl, tt)))))
 
 command-refusals : AsSaid commandRefusals
 unfolding computing commandRefusals
-command-refusals = (refl, (refl, (refl, (refl, (refl, (refl, (refl, (refl, (refl, (refl, (refl, (refl, (refl, (refl, (refl, (refl, (refl, (refl, (refl, (refl, tt))))))))))))))))))))
+command-refusals = (refl, (refl, (refl, (refl, (refl, (refl, (refl, (refl, (refl, (refl, (refl, (refl, (refl, (refl, (refl, (refl, (refl, (refl, (refl, (refl, (refl, (refl, (refl, (refl, (refl, (refl, (refl, (refl, tt))))))))))))))))))))))))))))
 
 lookup-refusals : AsSaid lookupRefusals
 unfolding computing lookupRefusals
@@ -26,7 +26,7 @@ lookup-refusals = (refl, (refl, (refl, (refl, (refl, (refl, (refl, (refl, (refl,
 
 writer-refusals : AsSaid writerRefusals
 unfolding computing writerRefusals
-writer-refusals = (refl, (refl, (refl, (refl, (refl, (refl, (refl, (refl, (refl, (refl, (refl, (refl, (refl, (refl, (refl, (refl, (refl, (refl, (refl, (refl, (refl, (refl, (refl, (refl, (refl, (refl, (refl, (refl, (refl, (refl, (refl, (refl, tt))))))))))))))))))))))))))))))))
+writer-refusals = (refl, (refl, (refl, (refl, (refl, (refl, (refl, (refl, (refl, (refl, (refl, (refl, (refl, (refl, (refl, (refl, (refl, (refl, (refl, (refl, (refl, (refl, (refl, (refl, (refl, (refl, (refl, (refl, (refl, (refl, (refl, (refl, (refl, (refl, (refl, (refl, (refl, tt)))))))))))))))))))))))))))))))))))))
 
 contents-refusals : AsSaid contentsRefusals
 unfolding computing contentsRefusals

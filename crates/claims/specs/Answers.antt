@@ -18,7 +18,7 @@ use Rattle.claims.specs.Rows.{Row, EachAsSaid}
 use Rattle.claims.specs.Calls.{read-packet, read-datagram, read-login, read-command}
 use Rattle.claims.specs.Calls.{record-in-packet, record-in-datagram, value-in-packet, value-in-datagram, id-in-packet, id-in-datagram, last-known}
 use Rattle.claims.specs.Calls.{acknowledge-packet, acknowledge-datagram, answer-login, write-command, form-of-packet, form-of-datagram, packet-of-form, contents-of-packet, contents-of-datagram}
-use Rattle.claims.specs.Packets.{field, tcp, imei, login, udp, long, twoTcp, twoUdp, brokenTcp, newer, newerUdp, older, getver, nack}
+use Rattle.claims.specs.Packets.{field, tcp, imei, login, udp, long, twoTcp, twoUdp, brokenTcp, newer, newerUdp, older, getver, nack, hello, helloField, helloText, getioField}
 use Rattle.claims.specs.BenchSheet.{sample, sampleForm, getio}
 
 -- a number below 0
@@ -154,10 +154,14 @@ readings =
     ∷ read-datagram "codec 8" 2 twoUdp (DatagramAnswer.Accepted 0x08 2 header)
     ∷ read-datagram "family 1, a record of 255 bytes" 1 (udp 0x01 0x17 (field 0x8E 1 (long 213 1))) (DatagramAnswer.Accepted 0x8E 1 header)
     ∷ read-login "login" login (LoginAnswer.Imei 123456789012345)
-    ∷ read-command "codec 12" 2 getio (CommandAnswer.Accepted (record { codec = 0x0C; kind = 0x05; imei = 0; offset = 15; size = 5 })) (0x67 ∷ 0x65 ∷ 0x74 ∷ 0x69 ∷ 0x6F ∷ [])
-    ∷ read-command "codec 12, type 06, no text" 2 (tcp 0x00 0x08 (0x0C ∷ 0x01 ∷ 0x06 ∷ 0x00 ∷ 0x00 ∷ 0x00 ∷ 0x00 ∷ 0x01 ∷ []) 0x33 0xD1) (CommandAnswer.Accepted (record { codec = 0x0C; kind = 0x06; imei = 0; offset = 15; size = 0 })) []
-    ∷ read-command "codec 14" 2 getver (CommandAnswer.Accepted (record { codec = 0x0E; kind = 0x05; imei = 352093081452251; offset = 23; size = 6 })) (0x67 ∷ 0x65 ∷ 0x74 ∷ 0x76 ∷ 0x65 ∷ 0x72 ∷ [])
-    ∷ read-command "codec 14, type 11" 2 nack (CommandAnswer.Accepted (record { codec = 0x0E; kind = 0x11; imei = 352093081452251; offset = 23; size = 0 })) []
+    ∷ read-command "codec 12" 2 getio (CommandAnswer.Accepted (record { codec = 0x0C; kind = 0x05; imei = 0; time = 0; offset = 15; size = 5 })) (0x67 ∷ 0x65 ∷ 0x74 ∷ 0x69 ∷ 0x6F ∷ [])
+    ∷ read-command "codec 12, type 06, no text" 2 (tcp 0x00 0x08 (0x0C ∷ 0x01 ∷ 0x06 ∷ 0x00 ∷ 0x00 ∷ 0x00 ∷ 0x00 ∷ 0x01 ∷ []) 0x33 0xD1) (CommandAnswer.Accepted (record { codec = 0x0C; kind = 0x06; imei = 0; time = 0; offset = 15; size = 0 })) []
+    ∷ read-command "codec 13" 2 hello (CommandAnswer.Accepted (record { codec = 0x0D; kind = 0x06; imei = 0; time = 0x64E83281; offset = 19; size = 17 })) helloText
+    ∷ read-command "codec 13, one more in the time" 2 (tcp 0x00 0x1D (set helloField 10 0x82) 0x71 0x0C) (CommandAnswer.Accepted (record { codec = 0x0D; kind = 0x06; imei = 0; time = 0x64E83282; offset = 19; size = 17 })) helloText
+    ∷ read-command "codec 13, type 05, no text" 2 (tcp 0x00 0x0C (0x0D ∷ 0x01 ∷ 0x05 ∷ 0x00 ∷ 0x00 ∷ 0x00 ∷ 0x04 ∷ 0xFF ∷ 0xFF ∷ 0xFF ∷ 0xFF ∷ 0x01 ∷ []) 0xBB 0x6C) (CommandAnswer.Accepted (record { codec = 0x0D; kind = 0x05; imei = 0; time = 0xFFFFFFFF; offset = 19; size = 0 })) []
+    ∷ read-command "codec 13 in a command of codec 12" 2 (tcp 0x00 0x0D (set getioField 0 0x0D) 0x81 0xC9) (CommandAnswer.Accepted (record { codec = 0x0D; kind = 0x05; imei = 0; time = 0x67657469; offset = 19; size = 1 })) (0x6F ∷ [])
+    ∷ read-command "codec 14" 2 getver (CommandAnswer.Accepted (record { codec = 0x0E; kind = 0x05; imei = 352093081452251; time = 0; offset = 23; size = 6 })) (0x67 ∷ 0x65 ∷ 0x74 ∷ 0x76 ∷ 0x65 ∷ 0x72 ∷ [])
+    ∷ read-command "codec 14, type 11" 2 nack (CommandAnswer.Accepted (record { codec = 0x0E; kind = 0x11; imei = 352093081452251; time = 0; offset = 23; size = 0 })) []
     ∷ []
 
 -- what was looked up
@@ -191,13 +195,16 @@ unfoldable pub writings : List Row
 writings =
     acknowledge-packet "accepted" 2 newer (replicate 5 7) (Written.Bytes 4) (0x00 ∷ 0x00 ∷ 0x00 ∷ 0x02 ∷ 0x07 ∷ [])
     ∷ acknowledge-packet "refused" 2 brokenTcp (replicate 5 7) (Written.Bytes 4) (0x00 ∷ 0x00 ∷ 0x00 ∷ 0x00 ∷ 0x07 ∷ [])
+    ∷ acknowledge-packet "a message of codec 13" 2 hello (replicate 5 7) (Written.Bytes 4) (0x00 ∷ 0x00 ∷ 0x00 ∷ 0x00 ∷ 0x07 ∷ [])
     ∷ acknowledge-datagram "accepted" 2 twoUdp (replicate 8 7) (Written.Bytes 7) (0x00 ∷ 0x05 ∷ 0xCA ∷ 0xFE ∷ 0x01 ∷ 0x05 ∷ 0x02 ∷ 0x07 ∷ [])
     ∷ answer-login "known" login true (replicate 2 7) (Written.Bytes 1) (0x01 ∷ 0x07 ∷ [])
     ∷ answer-login "not known" login false (replicate 2 7) (Written.Bytes 1) (0x00 ∷ 0x07 ∷ [])
     ∷ answer-login "known, digit 3A" (set login 16 0x3A) true (replicate 2 7) (Written.Bytes 1) (0x00 ∷ 0x07 ∷ [])
-    ∷ write-command "codec 12" 2 0x0C 0x05 [] (0x67 ∷ 0x65 ∷ 0x74 ∷ 0x69 ∷ 0x6F ∷ []) (replicate 26 7) (Written.Bytes 25) (getio ++ (7 ∷ []))
-    ∷ write-command "codec 14" 2 0x0E 0x05 imei (0x67 ∷ 0x65 ∷ 0x74 ∷ 0x76 ∷ 0x65 ∷ 0x72 ∷ []) (replicate 34 7) (Written.Bytes 34) getver
-    ∷ write-command "codec 14, type 11" 2 0x0E 0x11 imei [] (replicate 28 7) (Written.Bytes 28) nack
+    ∷ write-command "codec 12" 2 0x0C 0x05 [] 0x64E83281 (0x67 ∷ 0x65 ∷ 0x74 ∷ 0x69 ∷ 0x6F ∷ []) (replicate 26 7) (Written.Bytes 25) (getio ++ (7 ∷ []))
+    ∷ write-command "codec 13" 2 0x0D 0x06 [] 0x64E83281 helloText (replicate 42 7) (Written.Bytes 41) (hello ++ (7 ∷ []))
+    ∷ write-command "codec 13, type 05, no text" 2 0x0D 0x05 [] 0xFFFFFFFF [] (replicate 24 7) (Written.Bytes 24) (tcp 0x00 0x0C (0x0D ∷ 0x01 ∷ 0x05 ∷ 0x00 ∷ 0x00 ∷ 0x00 ∷ 0x04 ∷ 0xFF ∷ 0xFF ∷ 0xFF ∷ 0xFF ∷ 0x01 ∷ []) 0xBB 0x6C)
+    ∷ write-command "codec 14" 2 0x0E 0x05 imei 0x64E83281 (0x67 ∷ 0x65 ∷ 0x74 ∷ 0x76 ∷ 0x65 ∷ 0x72 ∷ []) (replicate 34 7) (Written.Bytes 34) getver
+    ∷ write-command "codec 14, type 11" 2 0x0E 0x11 imei 0x64E83281 [] (replicate 28 7) (Written.Bytes 28) nack
     ∷ form-of-packet "codec 16" 2 newer (replicate 121 7) (Written.Bytes 120) (newerForm ++ (7 ∷ []))
     ∷ form-of-packet "codec 8E" 2 older (replicate 58 7) (Written.Bytes 58) olderForm
     ∷ form-of-datagram "codec 16" 2 newerUdp (replicate 120 7) (Written.Bytes 120) newerForm

@@ -28,9 +28,9 @@ getio =
     0x00 ∷ 0x00 ∷ 0x00 ∷ 0x00 ∷ 0x00 ∷ 0x00 ∷ 0x00 ∷ 0x0D ∷ 0x0C ∷ 0x01 ∷ 0x05 ∷ 0x00 ∷ 0x00 ∷ 0x00 ∷ 0x05 ∷ 0x67 ∷ 0x65 ∷ 0x74 ∷ 0x69 ∷ 0x6F ∷ 0x01 ∷ 0x00 ∷ 0x00 ∷ 0x00
     ∷ 0xCB ∷ []
 
--- a command's codec, type, IMEI and text
+-- a command's codec, type, IMEI, time and text
 unfoldable pub commandFields : List ℕ → Answer (List ℕ)
-commandFields p = onAccepted (readCommand (limitsOf 2) p) (λ c. accepted (c .codec ∷ c .type ∷ c .imei ∷ c .text))
+commandFields p = onAccepted (readCommand (limitsOf 2) p) (λ c. accepted (c .codec ∷ c .type ∷ c .imei ∷ c .time ∷ c .text))
 
 unfoldable pub sheet : List Row
 sheet =
@@ -42,7 +42,7 @@ sheet =
     ∷ row "P6" (formOfDatagram (limitsOf 2) (set sample 50 2)) (refused (9 at 0 byte 25))
     ∷ row "P7" (formOfDatagram (limitsOf 2) (set sample 51 2)) (refused (8 at 0 byte 57))
     ∷ row "P8" (formOfDatagram (limitsOf 2) (set (set sample 24 2) 57 2)) (refused (8 at 1 byte 57))
-    ∷ row "P9" (commandFields getio) (accepted (0x0C ∷ 0x05 ∷ 0 ∷ 0x67 ∷ 0x65 ∷ 0x74 ∷ 0x69 ∷ 0x6F ∷ []))
+    ∷ row "P9" (commandFields getio) (accepted (0x0C ∷ 0x05 ∷ 0 ∷ 0 ∷ 0x67 ∷ 0x65 ∷ 0x74 ∷ 0x69 ∷ 0x6F ∷ []))
     ∷ row "P10" (commandFields (set getio 24 0xCA)) (refused (5 at 0 byte 21))
     ∷ row "P11" (formOfPacket (limitsOf 2) []) (refused (1 at 0))
     ∷ row "P12" (formOfPacket (limitsOf 2) (0 ∷ 0 ∷ 0 ∷ 0 ∷ 0 ∷ 0 ∷ 0 ∷ 0 ∷ [])) (refused (3 at 0 byte 4))

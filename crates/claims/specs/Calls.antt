@@ -119,8 +119,8 @@ acknowledge-datagram label family p = written label (udpAcknowledgement (limitsO
 abbrev pub answer-login : String → List ℕ → Bool → List ℕ → Written → List ℕ → Row
 answer-login label p known = written label (accepted (loginAnswer known p))
 
-abbrev pub write-command : String → ℕ → ℕ → ℕ → List ℕ → List ℕ → List ℕ → Written → List ℕ → Row
-write-command label family codec type imei text = written label (commandBytes (limitsOf family) codec type imei text)
+abbrev pub write-command : String → ℕ → ℕ → ℕ → List ℕ → ℕ → List ℕ → List ℕ → Written → List ℕ → Row
+write-command label family codec type imei time text = written label (commandBytes (limitsOf family) codec type imei time text)
 
 abbrev pub form-of-packet : String → ℕ → List ℕ → List ℕ → Written → List ℕ → Row
 form-of-packet label family p = written label (formOfPacket (limitsOf family) p)

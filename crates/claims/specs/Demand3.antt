@@ -29,9 +29,9 @@ AgreeBut i d e = (j : ℕ) → (j ≡ i → ⊥) → (j ≡ suc i → ⊥) → g
 pub record Told (p q : List ℕ) (ps qs : List (List ℕ)) : Type 0 where
   -- data packets with the same TLV form are the same bytes
   pub byForm : (family other : ℕ) (a b : AvlData) → DataPacket (limitsOf family) a p → DataPacket (limitsOf other) b q → form a ≡ form b → p ≡ q
-  -- commands with the same codec, type, IMEI and text are the same bytes
+  -- commands with the same codec, type, IMEI, time and text are the same bytes
   pub byFields : (family other : ℕ) (c e : Command) → CommandPacket (limitsOf family) c p → CommandPacket (limitsOf other) e q
-      → c .codec ≡ e .codec → c .type ≡ e .type → c .imei ≡ e .imei → c .text ≡ e .text → p ≡ q
+      → c .codec ≡ e .codec → c .type ≡ e .type → c .imei ≡ e .imei → c .time ≡ e .time → c .text ≡ e .text → p ≡ q
   -- equally long packets never differ in an odd number of bits
   pub evenly : length p ≡ length q → differing p q % 2 ≡ 0
   -- nor, if their last four bytes agree, do their data fields differ in one byte or two neighbouring bytes only

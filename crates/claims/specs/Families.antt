@@ -57,7 +57,7 @@ pub record AcceptedToo (a b : Limits) : Type 0 where
       → lastKnown id (tcpSource a newer) (tcpSource a older) ≡ accepted k → lastKnown id (tcpSource b newer) (tcpSource b older) ≡ accepted k
   -- a packet of a form, a command that is written
   pub forms : (f p : List ℕ) → Bytes f → packetOfForm a f ≡ accepted p → packetOfForm b f ≡ accepted p
-  pub written : (codec type : ℕ) (imei text p : List ℕ) → commandBytes a codec type imei text ≡ accepted p → commandBytes b codec type imei text ≡ accepted p
+  pub written : (codec type : ℕ) (imei : List ℕ) (time : ℕ) (text p : List ℕ) → commandBytes a codec type imei time text ≡ accepted p → commandBytes b codec type imei time text ≡ accepted p
 
 -- ---- number 12
 
@@ -75,7 +75,7 @@ pub record Says21 (limits : Limits) : Type 0 where
   pub commands : (p : List ℕ) → readCommand limits p ≡ refused (refusal 21)
   pub acknowledgements : (p : List ℕ) → tcpAcknowledgement limits p ≡ refused (refusal 21)
   pub forms : (f : List ℕ) → packetOfForm limits f ≡ refused (refusal 21)
-  pub written : (codec type : ℕ) (imei text : List ℕ) → commandBytes limits codec type imei text ≡ refused (refusal 21)
+  pub written : (codec type : ℕ) (imei : List ℕ) (time : ℕ) (text : List ℕ) → commandBytes limits codec type imei time text ≡ refused (refusal 21)
 
 pub record FamiliesKept : Type 0 where
   -- any number but 1 and 2 is no family

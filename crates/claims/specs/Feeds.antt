@@ -11,7 +11,7 @@ use Rattle.connection.specs.declared.Lent.{Lent}
 use Rattle.connection.specs.declared.Item.{Item}
 use Rattle.claims.specs.Rows.{Row, EachAsSaid, _at_, _at_byte_}
 use Rattle.claims.specs.Calls.{start, reset, feed, feed-either, feed-lent, want, streamed}
-use Rattle.claims.specs.Packets.{field, tcp, login, plain, long, two, two16, twoTcp, brokenTcp, newer, older, getioField, getverField, getver}
+use Rattle.claims.specs.Packets.{field, tcp, login, plain, long, two, two16, twoTcp, brokenTcp, newer, older, getioField, getverField, getver, hello, helloField}
 use Rattle.claims.specs.BenchSheet.{sample, getio}
 
 -- ---- packets
@@ -103,7 +103,7 @@ feedRefusals =
     ∷ feed-either "CRC, lower byte, bytes behind" (behindLogin []) (set twoTcp 74 0xB2 ++ getio) (closes 75 (5 at 0 byte 71))
     ∷ feed-either "CRC wrong, codec too" (behindLogin []) (set twoTcp 8 0x07) (closes 75 (5 at 0 byte 71))
     ∷ feed-either "codec 07, counts 0" (behindLogin []) (tcp 0x00 0x3F (set (set (set two 0 0x07) 1 0x00) 62 0x00) 0x34 0xFC) (closes 75 (6 at 0 byte 8))
-    ∷ feed-either "codec 0D" (behindLogin []) (tcp 0x00 0x0D (set getioField 0 0x0D) 0x81 0xC9) (closes 25 (6 at 0 byte 8))
+    ∷ feed-either "codec 0F" (behindLogin []) (tcp 0x00 0x0D (set getioField 0 0x0F) 0xC3 0xCE) (closes 25 (6 at 0 byte 8))
     ∷ feed-either "counts 2 and 1, priority 3" (behindLogin []) (tcp 0x00 0x3F (set (set two 10 0x03) 62 0x01) 0xBE 0xC0) (closes 75 (7 at 0 byte 70))
     ∷ feed-either "left-over byte, count 2" (behindLogin []) (tcp 0x00 0x40 (field 0x08 2 (plain ++ plain ++ (0x00 ∷ []))) 0x14 0x75) (closes 76 (8 at 2 byte 70))
     ∷ feed-either "total 1, no value" (behindLogin []) (tcp 0x00 0x3F (set two 57 0x01) 0x65 0xB2) (closes 75 (9 at 1 byte 40))
@@ -118,6 +118,8 @@ feedRefusals =
     ∷ feed-either "command, size 1 too large" (behindLogin []) (tcp 0x00 0x0D (set getioField 6 0x06) 0x00 0xF8) (closes 25 (14 at 0 byte 11))
     ∷ feed-either "command, first digit 1" (behindLogin []) (tcp 0x00 0x16 (set getverField 7 0x13) 0xDE 0xD1) (closes 34 (15 at 0 byte 15))
     ∷ feed-either "command, type 11, text" (behindLogin []) (tcp 0x00 0x16 (set getverField 2 0x11) 0xC5 0xF2) (closes 34 (14 at 0 byte 23))
+    ∷ feed-either "codec 13, type 11" (behindLogin []) (tcp 0x00 0x1D (set helloField 2 0x11) 0xD6 0x49) (closes 41 (13 at 0 byte 10))
+    ∷ feed-either "codec 13, size 3, 12 bytes held" (behindLogin (take 12 (tcp 0x00 0x0B (0x0D ∷ 0x01 ∷ 0x06 ∷ 0x00 ∷ 0x00 ∷ 0x00 ∷ 0x03 ∷ 0x64 ∷ 0xE8 ∷ 0x32 ∷ 0x01 ∷ []) 0x6D 0x4E))) (drop 12 (tcp 0x00 0x0B (0x0D ∷ 0x01 ∷ 0x06 ∷ 0x00 ∷ 0x00 ∷ 0x00 ∷ 0x03 ∷ 0x64 ∷ 0xE8 ∷ 0x32 ∷ 0x01 ∷ []) 0x6D 0x4E) ++ getio) (closes 11 (14 at 0 byte 11))
     ∷ feed-either "login, IMEI length 14, bytes behind" (beforeLogin []) (set login 1 0x0E ++ getio) (closes 17 (15 at 0))
     ∷ feed-either "login, last digit 3A, 16 bytes held" (beforeLogin (take 16 login)) (0x3A ∷ 0x00 ∷ []) (closes 1 (15 at 0 byte 16))
     ∷ feed-either "a packet before the login" (beforeLogin []) getio (closes 17 (15 at 0))
@@ -174,6 +176,8 @@ feedAnswers =
     ∷ feed "codec 8E" (behindLogin []) older (gives 67 67 older)
     ∷ feed "codec 16" (behindLogin []) newer (gives 108 108 newer)
     ∷ feed "codec 12" (behindLogin []) getio (gives 25 25 getio)
+    ∷ feed "codec 13" (behindLogin []) hello (gives 41 41 hello)
+    ∷ feed "codec 13, 17 bytes held, a command behind it" (behindLogin (take 17 hello)) (drop 17 hello ++ getio) (gives 24 41 hello)
     ∷ feed "codec 14" (behindLogin []) getver (gives 34 34 getver)
     ∷ feed "L 1,268" (behindLogin (take 1279 largest)) (0x79 ∷ 0x00 ∷ []) (gives 1 1280 largest)
     ∷ feed-lent "no bytes, 7 held" (behindLogin (take 7 sampleTcp)) [] (replicate 1280 7) (record { phase = 1; fill = 7; used = 0; item = Item.More }) (stored (take 7 sampleTcp)) (replicate 1280 7)
@@ -214,6 +218,7 @@ streams =
     streamed "no bytes" 2 [] [] (waiting forLogin [])
     ∷ streamed "a login, a packet, a command" 2 (login ++ sampleTcp ++ getio) (rule.login 123456789012345 ∷ rule.packet sampleTcp ∷ rule.packet getio ∷ []) (waiting forPacket [])
     ∷ streamed "a login, a command, 3 bytes of a packet" 2 (login ++ getio ++ (0x00 ∷ 0x00 ∷ 0x01 ∷ [])) (rule.login 123456789012345 ∷ rule.packet getio ∷ []) (waiting forPacket (0x00 ∷ 0x00 ∷ 0x01 ∷ []))
+    ∷ streamed "a login, a message of codec 13, a command" 2 (login ++ hello ++ getio) (rule.login 123456789012345 ∷ rule.packet hello ∷ rule.packet getio ∷ []) (waiting forPacket [])
     ∷ streamed "the CRC wrong, a command behind it" 2 (login ++ set getio 24 0xCA ++ getio) (rule.login 123456789012345 ∷ rule.refusing (5 at 0 byte 21) ∷ []) rule.closed
     ∷ streamed "two logins, a command behind them" 2 (login ++ login ++ getio) (rule.login 123456789012345 ∷ rule.refusing (2 at 0) ∷ []) rule.closed
     ∷ streamed "family 1, a record of 256 bytes" 1 (login ++ longTcp ++ getio) (rule.login 123456789012345 ∷ rule.refusing (12 at 1 byte 52) ∷ []) rule.closed

@@ -15,7 +15,7 @@ use Rattle.claims.specs.Rows.{Row, EachAsSaid, _at_, _at_byte_}
 use Rattle.claims.specs.Calls.{read-packet, read-datagram, read-login, read-command}
 use Rattle.claims.specs.Calls.{record-in-packet, record-in-datagram, value-in-packet, value-in-datagram, id-in-packet, id-in-datagram, last-known}
 use Rattle.claims.specs.Calls.{acknowledge-packet, acknowledge-datagram, answer-login, write-command, form-of-packet, form-of-datagram, packet-of-form, contents-of-packet, contents-of-datagram}
-use Rattle.claims.specs.Packets.{field, tcp, unit, login, udp, plain, long, two, two16, twoTcp, twoUdp, brokenTcp, brokenUdp, newer, older, getioField, getverField}
+use Rattle.claims.specs.Packets.{field, tcp, unit, login, udp, plain, long, two, two16, twoTcp, twoUdp, brokenTcp, brokenUdp, newer, older, getioField, getverField, hello, helloField}
 use Rattle.claims.specs.BenchSheet.{sample, sampleForm, getio}
 
 -- read_packet: 1, 2, 3, 4, 5, 6, 7, then the walk
@@ -33,6 +33,7 @@ packetRefusals =
     ∷ read-packet "CRC, upper byte" 2 (set twoTcp 71 0x01) (PacketAnswer.Refused (5 at 0 byte 71))
     ∷ read-packet "CRC wrong, codec too" 2 (set twoTcp 8 0x07) (PacketAnswer.Refused (5 at 0 byte 71))
     ∷ read-packet "codec 07, counts 0" 2 (tcp 0x00 0x3F (set (set (set two 0 0x07) 1 0x00) 62 0x00) 0x34 0xFC) (PacketAnswer.Refused (6 at 0 byte 8))
+    ∷ read-packet "a message of codec 13" 2 hello (PacketAnswer.Refused (6 at 0 byte 8))
     ∷ read-packet "a command" 2 (tcp 0x00 0x0D getioField 0x00 0xCB) (PacketAnswer.Refused (6 at 0 byte 8))
     ∷ read-packet "counts 0" 2 (tcp 0x00 0x3F (set (set two 1 0x00) 62 0x00) 0x37 0x33) (PacketAnswer.Refused (7 at 0 byte 9))
     ∷ read-packet "counts 2 and 1, priority 3" 2 (tcp 0x00 0x3F (set (set two 10 0x03) 62 0x01) 0xBE 0xC0) (PacketAnswer.Refused (7 at 0 byte 70))
@@ -109,6 +110,14 @@ commandRefusals =
     ∷ read-command "a digit A" 2 (tcp 0x00 0x16 (set getverField 10 0x3A) 0xCA 0xD9) (CommandAnswer.Refused (15 at 0 byte 18)) []
     ∷ read-command "last digit A, type 11, text" 2 (tcp 0x00 0x16 (set (set getverField 2 0x11) 14 0x5A) 0x76 0xB3) (CommandAnswer.Refused (15 at 0 byte 22)) []
     ∷ read-command "type 11, text" 2 (tcp 0x00 0x16 (set getverField 2 0x11) 0xC5 0xF2) (CommandAnswer.Refused (14 at 0 byte 23)) []
+    ∷ read-command "codec 13, CRC, lower byte" 2 (set hello 40 0x49) (CommandAnswer.Refused (5 at 0 byte 37)) []
+    ∷ read-command "codec 13, second quantity 0, type 11" 2 (tcp 0x00 0x1D (set (set helloField 2 0x11) 28 0x00) 0x16 0x88) (CommandAnswer.Refused (7 at 0 byte 36)) []
+    ∷ read-command "codec 13, type 11" 2 (tcp 0x00 0x1D (set helloField 2 0x11) 0xD6 0x49) (CommandAnswer.Refused (13 at 0 byte 10)) []
+    ∷ read-command "codec 13, size cut short" 2 (tcp 0x00 0x07 (0x0D ∷ 0x01 ∷ 0x06 ∷ 0x00 ∷ 0x00 ∷ 0x00 ∷ 0x01 ∷ []) 0xD1 0x94) (CommandAnswer.Refused (8 at 0 byte 11)) []
+    ∷ read-command "codec 13, no time, size 0" 2 (tcp 0x00 0x08 (0x0D ∷ 0x01 ∷ 0x06 ∷ 0x00 ∷ 0x00 ∷ 0x00 ∷ 0x00 ∷ 0x01 ∷ []) 0xFF 0x10) (CommandAnswer.Refused (14 at 0 byte 11)) []
+    ∷ read-command "codec 13, size 3" 2 (tcp 0x00 0x0B (0x0D ∷ 0x01 ∷ 0x06 ∷ 0x00 ∷ 0x00 ∷ 0x00 ∷ 0x03 ∷ 0x64 ∷ 0xE8 ∷ 0x32 ∷ 0x01 ∷ []) 0x6D 0x4E) (CommandAnswer.Refused (14 at 0 byte 11)) []
+    ∷ read-command "codec 13, the size without the time" 2 (tcp 0x00 0x1D (set helloField 6 0x11) 0xC6 0x7A) (CommandAnswer.Refused (14 at 0 byte 11)) []
+    ∷ read-command "codec 13, size 1 too large" 2 (tcp 0x00 0x1D (set helloField 6 0x16) 0xD0 0x1C) (CommandAnswer.Refused (14 at 0 byte 11)) []
     ∷ []
 
 -- look-ups: the input's own refusal, else 16
@@ -144,18 +153,23 @@ writerRefusals =
     ∷ acknowledge-datagram "6 bytes lent" 2 twoUdp (replicate 6 7) (Written.Refused (18 at 0)) (replicate 6 7)
     ∷ answer-login "none lent" login true [] (Written.Refused (18 at 0)) []
     ∷ answer-login "18 bytes, none lent" (login ++ (0x30 ∷ [])) false [] (Written.Refused (18 at 0)) []
-    ∷ write-command "codec 08, type 07" 2 0x08 0x07 unit (0x78 ∷ []) (replicate 3 7) (Written.Refused (6 at 0)) (replicate 3 7)
-    ∷ write-command "type 11 in codec 12, IMEI" 2 0x0C 0x11 unit (0x78 ∷ []) (replicate 3 7) (Written.Refused (13 at 0)) (replicate 3 7)
-    ∷ write-command "type 07 in codec 14, no IMEI" 2 0x0E 0x07 [] (0x78 ∷ []) (replicate 3 7) (Written.Refused (13 at 0)) (replicate 3 7)
-    ∷ write-command "codec 12, IMEI" 2 0x0C 0x05 unit (0x78 ∷ []) (replicate 3 7) (Written.Refused (15 at 0)) (replicate 3 7)
-    ∷ write-command "codec 14, 14 digits" 2 0x0E 0x05 (take 14 unit) (0x78 ∷ []) (replicate 3 7) (Written.Refused (15 at 0)) (replicate 3 7)
-    ∷ write-command "codec 14, a digit 3A, text with type 11" 2 0x0E 0x11 (set unit 14 0x3A) (0x78 ∷ []) (replicate 3 7) (Written.Refused (15 at 0)) (replicate 3 7)
-    ∷ write-command "text with type 11" 2 0x0E 0x11 unit (0x78 ∷ []) (replicate 3 7) (Written.Refused (14 at 0)) (replicate 3 7)
-    ∷ write-command "codec 12, 1,281 bytes" 2 0x0C 0x06 [] (replicate 1261 7) (replicate 3 7) (Written.Refused (14 at 0)) (replicate 3 7)
-    ∷ write-command "codec 14, 1,281 bytes" 2 0x0E 0x06 unit (replicate 1253 7) (replicate 3 7) (Written.Refused (14 at 0)) (replicate 3 7)
-    ∷ write-command "codec 12, 1,280 bytes" 2 0x0C 0x06 [] (replicate 1260 7) (replicate 3 7) (Written.Refused (18 at 0)) (replicate 3 7)
-    ∷ write-command "codec 14, 1,280 bytes" 2 0x0E 0x06 unit (replicate 1252 7) (replicate 3 7) (Written.Refused (18 at 0)) (replicate 3 7)
-    ∷ write-command "20 of 21 bytes lent" 2 0x0C 0x05 [] (0x78 ∷ []) (replicate 20 7) (Written.Refused (18 at 0)) (replicate 20 7)
+    ∷ write-command "codec 08, type 07" 2 0x08 0x07 unit 0x64E83281 (0x78 ∷ []) (replicate 3 7) (Written.Refused (6 at 0)) (replicate 3 7)
+    ∷ write-command "type 11 in codec 12, IMEI" 2 0x0C 0x11 unit 0x64E83281 (0x78 ∷ []) (replicate 3 7) (Written.Refused (13 at 0)) (replicate 3 7)
+    ∷ write-command "type 07 in codec 14, no IMEI" 2 0x0E 0x07 [] 0x64E83281 (0x78 ∷ []) (replicate 3 7) (Written.Refused (13 at 0)) (replicate 3 7)
+    ∷ write-command "codec 12, IMEI" 2 0x0C 0x05 unit 0x64E83281 (0x78 ∷ []) (replicate 3 7) (Written.Refused (15 at 0)) (replicate 3 7)
+    ∷ write-command "codec 14, 14 digits" 2 0x0E 0x05 (take 14 unit) 0x64E83281 (0x78 ∷ []) (replicate 3 7) (Written.Refused (15 at 0)) (replicate 3 7)
+    ∷ write-command "codec 14, a digit 3A, text with type 11" 2 0x0E 0x11 (set unit 14 0x3A) 0x64E83281 (0x78 ∷ []) (replicate 3 7) (Written.Refused (15 at 0)) (replicate 3 7)
+    ∷ write-command "text with type 11" 2 0x0E 0x11 unit 0x64E83281 (0x78 ∷ []) (replicate 3 7) (Written.Refused (14 at 0)) (replicate 3 7)
+    ∷ write-command "codec 12, 1,281 bytes" 2 0x0C 0x06 [] 0x64E83281 (replicate 1261 7) (replicate 3 7) (Written.Refused (14 at 0)) (replicate 3 7)
+    ∷ write-command "codec 14, 1,281 bytes" 2 0x0E 0x06 unit 0x64E83281 (replicate 1253 7) (replicate 3 7) (Written.Refused (14 at 0)) (replicate 3 7)
+    ∷ write-command "codec 12, 1,280 bytes" 2 0x0C 0x06 [] 0x64E83281 (replicate 1260 7) (replicate 3 7) (Written.Refused (18 at 0)) (replicate 3 7)
+    ∷ write-command "codec 14, 1,280 bytes" 2 0x0E 0x06 unit 0x64E83281 (replicate 1252 7) (replicate 3 7) (Written.Refused (18 at 0)) (replicate 3 7)
+    ∷ write-command "20 of 21 bytes lent" 2 0x0C 0x05 [] 0x64E83281 (0x78 ∷ []) (replicate 20 7) (Written.Refused (18 at 0)) (replicate 20 7)
+    ∷ write-command "type 11 in codec 13, IMEI" 2 0x0D 0x11 unit 0x64E83281 (0x78 ∷ []) (replicate 3 7) (Written.Refused (13 at 0)) (replicate 3 7)
+    ∷ write-command "codec 13, IMEI, 1,281 bytes" 2 0x0D 0x06 unit 0x64E83281 (replicate 1257 7) (replicate 3 7) (Written.Refused (15 at 0)) (replicate 3 7)
+    ∷ write-command "codec 13, 1,281 bytes" 2 0x0D 0x06 [] 0x64E83281 (replicate 1257 7) (replicate 3 7) (Written.Refused (14 at 0)) (replicate 3 7)
+    ∷ write-command "codec 13, 1,280 bytes" 2 0x0D 0x06 [] 0x64E83281 (replicate 1256 7) (replicate 3 7) (Written.Refused (18 at 0)) (replicate 3 7)
+    ∷ write-command "codec 13, 24 of 25 bytes lent" 2 0x0D 0x05 [] 0x64E83281 (0x78 ∷ []) (replicate 24 7) (Written.Refused (18 at 0)) (replicate 24 7)
     ∷ form-of-packet "refused packet" 2 brokenTcp (replicate 3 7) (Written.Refused (10 at 1 byte 48)) (replicate 3 7)
     ∷ form-of-packet "a byte too few lent" 2 (tcp 0x00 0x21 (field 0x08 1 plain) 0xA3 0xFA) (replicate 35 7) (Written.Refused (18 at 0)) (replicate 35 7)
     ∷ form-of-datagram "refused datagram" 2 brokenUdp (replicate 3 7) (Written.Refused (10 at 1 byte 63)) (replicate 3 7)

@@ -1,4 +1,4 @@
--- Which way the walk over a command's body goes: the type, the size, then the IMEI and the text.
+-- Which way the walk over a command's body goes: the type, the size, then the IMEI, the time and the text.
 use Prim.Native.Nat.{ℕ, _+_, _-_, _≤_, _<_}
 use native.Mathlib.Omega.{arith}
 use mathlib.Core.Path.{_≡_, sym, ap, ap₂, _∙_}
@@ -18,7 +18,7 @@ use Rattle.wire.proofs.Shifts.{number-one}
 use Rattle.wire.proofs.ImeiPacked.{packed-exact, length-packed}
 use Rattle.command.specs.declared.Layout.{Layout}
 use Rattle.command.specs.declared.BodyWalk.the-variants.{Of}
-use Rattle.command.specs.Layouts.{types, member}
+use Rattle.command.specs.Layouts.{types, heading, member}
 use Rattle.command.specs.Commands.{Command, mismatch, commandBody}
 use Rattle.command.specs.Walks.{bodyAs}
 
@@ -26,21 +26,27 @@ use Rattle.command.specs.Walks.{bodyAs}
 abbrev pub broken : ℕ → ℕ → Refusal
 broken number place = record { number = number; index = 0; place = place }
 
+-- what is read behind the time
+abbrev afterTime : Layout → ℕ → ℕ → ℕ → ℕ → Reader Command
+afterTime l type size imei time = do
+  textAt ← here
+  text ← bytes (size - heading l)
+  require (mismatch type text) 14 textAt
+  pure (record { codec = l .codec; type = type; imei = imei; time = time; text = text })
+
 -- what is read behind the size
 abbrev afterSize : Layout → ℕ → ℕ → Reader Command
 afterSize l type size = do
   imei ← readPacked (l .imei)
-  textAt ← here
-  text ← bytes (size - l .imei)
-  require (mismatch type text) 14 textAt
-  pure (record { codec = l .codec; type = type; imei = imei; text = text })
+  time ← number (l .time)
+  afterTime l type size imei time
 
 -- what is read behind the number that is the size
 abbrev afterNumber : Layout → ℕ → ℕ → ℕ → Reader Command
 afterNumber l space type size = do
   start ← here
   require (eqb (start + size) space) 14 1
-  require (leb (l .imei) size) 14 1
+  require (leb (heading l) size) 14 1
   afterSize l type size
 
 module _ (l : Layout) (s : List ℕ) where
@@ -71,10 +77,10 @@ module _ (l : Layout) (s : List ℕ) where
       size-wrong e = size-read ∙ here-got _ s 5 ∙ require-bad _ 14 1 _ s 5 (ne-eqb _ _ e)
 
       module _ (filled : 5 + size ≡ length s) where
-        pub size-small : size < l .imei → commandBody l (length s) s 0 ≡ bad (broken 14 1)
+        pub size-small : size < heading l → commandBody l (length s) s 0 ≡ bad (broken 14 1)
         size-small h = size-read ∙ here-got _ s 5 ∙ require-got _ 14 1 _ s 5 (eq-eqb _ _ filled) ∙ require-bad _ 14 1 _ s 5 (lt-leb _ _ h)
 
-        module _ (room : l .imei ≤ size) where
+        module _ (room : heading l ≤ size) where
           size-there : commandBody l (length s) s 0 ≡ afterSize l (getD s 0 0) size s 5
           size-there = size-read ∙ here-got _ s 5 ∙ require-got _ 14 1 _ s 5 (eq-eqb _ _ filled) ∙ require-got _ 14 1 _ s 5 (le-leb _ _ room)
 
@@ -82,24 +88,32 @@ module _ (l : Layout) (s : List ℕ) where
           imei-wrong e = size-there ∙ then-bad (readPacked (l .imei)) _ s 5 e
 
           module _ {imei next : ℕ} (read : readPacked (l .imei) s 5 ≡ got imei next) (end : next ≡ 5 + l .imei) where
-            text-got : bytes (size - l .imei) s next ≡ got (take (5 + size - next) (drop next s)) (length s)
+            abbrev start : ℕ
+            start = next + l .time
+
+            abbrev text : List ℕ
+            text = take (5 + size - start) (drop start s)
+
+            time-there : commandBody l (length s) s 0 ≡ afterTime l (getD s 0 0) size imei (numberAt s next (l .time)) s start
+            time-there = size-there ∙ then-got (readPacked (l .imei)) _ s 5 read ∙ number-there _ s next (l .time) (omega arith)
+
+            text-got : bytes (size - heading l) s start ≡ got text (length s)
             text-got =
-                let long : size - l .imei ≡ 5 + size - next = omega arith in
-                let whole : next + (5 + size - next) ≡ length s = omega arith in
-                ap (λ (n : ℕ). bytes n s next) long ∙ bytes-got _ s next (omega arith) ∙ ap (got (take (5 + size - next) (drop next s))) whole
+                let long : size - heading l ≡ 5 + size - start = omega arith in
+                let whole : start + (5 + size - start) ≡ length s = omega arith in
+                ap (λ (n : ℕ). bytes n s start) long ∙ bytes-got _ s start (omega arith) ∙ ap (got text) whole
 
-            pub text-wrong : mismatch (getD s 0 0) (take (5 + size - next) (drop next s)) ≡ false → commandBody l (length s) s 0 ≡ bad (broken 14 next)
-            text-wrong e =
-                size-there ∙ then-got (readPacked (l .imei)) _ s 5 read ∙ here-got _ s next ∙ then-got (bytes _) _ s next text-got ∙ require-bad _ 14 next _ s _ e
+            pub text-wrong : mismatch (getD s 0 0) text ≡ false → commandBody l (length s) s 0 ≡ bad (broken 14 start)
+            text-wrong e = time-there ∙ here-got _ s start ∙ then-got (bytes _) _ s start text-got ∙ require-bad _ 14 start _ s _ e
 
-            pub text-there : mismatch (getD s 0 0) (take (5 + size - next) (drop next s)) ≡ true
-                → bodyAs (commandBody l (length s) s 0) ≡ Of (getD s 0 0) imei (size - l .imei)
+            pub text-there : mismatch (getD s 0 0) text ≡ true
+                → bodyAs (commandBody l (length s) s 0) ≡ Of (getD s 0 0) imei (numberAt s next (l .time)) (5 + size - start)
             unfolding pure bodyAs
             text-there e =
-                let room : 5 + size - next ≤ length (drop next s) = omega (arith, length-drop next s) in
-                let long : length (take (5 + size - next) (drop next s)) ≡ size - l .imei = omega (arith, length-take-le _ (drop next s) room) in
-                ap bodyAs (size-there ∙ then-got (readPacked (l .imei)) _ s 5 read ∙ here-got _ s next ∙ then-got (bytes _) _ s next text-got ∙ require-got _ 14 next _ s _ e)
-                ∙ ap (Of (getD s 0 0) imei) long
+                let room : 5 + size - start ≤ length (drop start s) = omega (arith, length-drop start s) in
+                let long : length text ≡ 5 + size - start = length-take-le _ (drop start s) room in
+                ap bodyAs (time-there ∙ here-got _ s start ∙ then-got (bytes _) _ s start text-got ∙ require-got _ 14 start _ s _ e)
+                ∙ ap (Of (getD s 0 0) imei (numberAt s next (l .time))) long
 
 -- where the IMEI ends
 pub imei-end : (w : ℕ) (s : List ℕ) {imei next : ℕ} → Bytes s → 5 ≤ length s → readPacked w s 5 ≡ got imei next → next ≡ 5 + w

@@ -6,21 +6,23 @@ use mathlib.Core.Bool.{Bool, true, false}
 use mathlib.Core.List.{List, [], _∷_}
 use lib.ListN.{length}
 use lib.Dec.{eqb, leb, lit<, lit≤}
-use borrow.Author.Tests.{le-leb, leb-true, eq-eqb, eqb-true}
+use borrow.Author.Tests.{le-leb, leb-true, eq-eqb, ne-eqb, eqb-true, eqb-false}
 use Rattle.wire.specs.Numbers.{Bytes, be, pick}
 use Rattle.wire.specs.Sequences.{All}
 use Rattle.wire.specs.Envelope.{codecOf, firstCount, lastCount, inner}
 use Rattle.wire.specs.Reading.{got, pure, here, require, number, bytes}
-use Rattle.wire.specs.Answers.{accepted}
+use Rattle.wire.specs.Answers.{accepted, refused, refusal}
 use Rattle.wire.specs.Imei.{packed, readPacked}
 use Rattle.wire.proofs.Placed.{between-join, between-split, between-moved, between-bytes, between-whole, whole-between}
 use Rattle.wire.proofs.Exactness.{Meets, meets-then, meets-next, meets-pure, meets-here, meets-require, then-got, here-got, require-got, number-exact, bytes-exact}
 use Rattle.wire.proofs.Enclosed.{enclosed-parts, length-enclosed, codec-enclosed, first-enclosed, last-enclosed, inner-enclosed, bytes-inner}
 use Rattle.wire.proofs.Accepting.{pick-either, check-accepted, check-passed, onAccepted-accepted, onAccepted-passed, told-accepted, told-got}
+use Rattle.wire.proofs.Widths.{length-digits}
 use Rattle.wire.proofs.ImeiPacked.{length-packed, packed-exact}
-use Rattle.command.specs.Layouts.{types, layouts, findLayout, layoutOf, member}
+use Rattle.command.specs.Layouts.{types, layouts, findLayout, layoutOf, heading, member}
 use Rattle.command.specs.declared.Layout.{Layout}
 use Rattle.command.specs.Commands.{Command, bodyBytes, mismatch, commandField, CommandRules, commandBody, readField}
+use Rattle.command.specs.Writing.{givenTime}
 
 -- ---- the table
 
@@ -45,15 +47,43 @@ rows-fit : All (λ l. l .codec < 256) layouts
 unfolding layouts
 rows-fit = search (lit<, tt)
 
-rows-narrow : All (λ l. l .imei ≤ 8) layouts
+rows-narrow : All (λ l. (l .imei ≤ 8) × (l .time ≤ 4)) layouts
 unfolding layouts
 rows-narrow = search (lit≤, tt)
+
+-- a given time fits in every row
+rows-timed : {time : ℕ} → time < 256 ^ 4 → All (λ l. givenTime l time < 256 ^ l .time) layouts
+unfolding layouts
+rows-timed h = (lit< tt, (h, (lit< tt, tt)))
 
 pub type-fits : (l : Layout) (type : ℕ) → member type (types l) ≡ true → type < 256 ^ 1
 unfolding types
 type-fits l type e =
     member-all (λ t. t < 256 ^ 1) type (types l)
     (pick-either (λ ts. All (λ t. t < 256 ^ 1) (0x05 ∷ 0x06 ∷ ts)) (l .mismatch) (0x11 ∷ []) [] (omega arith) (omega arith)) e
+
+-- the rows by tests of the codec
+abbrev RowOf : ℕ → Type 0
+RowOf n = layoutOf n ≡ accepted (record { codec = n; mismatch = eqb n 0x0E; imei = pick (eqb n 0x0E) 8 0; time = pick (eqb n 0x0D) 4 0 })
+
+pub row-within : (codec : ℕ) → 0x0C ≤ codec → codec ≤ 0x0E → RowOf codec
+unfolding layouts findLayout layoutOf
+row-within codec low high = first (eqb codec 0x0C) refl
+  where
+    second : (b : Bool) → eqb codec 0x0D ≡ b → (codec ≡ 0x0C → ⊥) → RowOf codec
+    second true e other = subst RowOf (sym (eqb-true codec 0x0D e)) refl
+    second false e other = let last : 0x0E ≡ codec = omega (arith, low, high, other, eqb-false codec 0x0D e) in subst RowOf last refl
+    first : (b : Bool) → eqb codec 0x0C ≡ b → RowOf codec
+    first true e = subst RowOf (sym (eqb-true codec 0x0C e)) refl
+    first false e = second (eqb codec 0x0D) refl (eqb-false codec 0x0C e)
+
+pub row-below : (codec : ℕ) → codec < 0x0C → layoutOf codec ≡ refused (refusal 6)
+unfolding layouts findLayout layoutOf
+row-below codec h = simp (ne-eqb codec 0x0C (λ e. omega (arith, h, e)), ne-eqb codec 0x0D (λ e. omega (arith, h, e)), ne-eqb codec 0x0E (λ e. omega (arith, h, e)))
+
+pub row-above : (codec : ℕ) → 0x0E < codec → layoutOf codec ≡ refused (refusal 6)
+unfolding layouts findLayout layoutOf
+row-above codec h = simp (ne-eqb codec 0x0C (λ e. omega (arith, h, e)), ne-eqb codec 0x0D (λ e. omega (arith, h, e)), ne-eqb codec 0x0E (λ e. omega (arith, h, e)))
 
 module _ (codec : ℕ) {l : Layout} (row : layoutOf codec ≡ accepted l) where
   pub layout-codec : l .codec ≡ codec
@@ -64,9 +94,13 @@ module _ (codec : ℕ) {l : Layout} (row : layoutOf codec ≡ accepted l) where
   unfolding layoutOf
   codec-fits = subst (λ (x : ℕ). x < 256) layout-codec (found-row (λ l. l .codec < 256) codec layouts rows-fit row .1)
 
-  pub layout-narrow : l .imei ≤ 8
+  pub layout-narrow : (l .imei ≤ 8) × (l .time ≤ 4)
   unfolding layoutOf
-  layout-narrow = found-row (λ l. l .imei ≤ 8) codec layouts rows-narrow row .1
+  layout-narrow = found-row (λ l. (l .imei ≤ 8) × (l .time ≤ 4)) codec layouts rows-narrow row .1
+
+  pub time-fits : {time : ℕ} → time < 256 ^ 4 → givenTime l time < 256 ^ l .time
+  unfolding layoutOf
+  time-fits {time} h = found-row (λ l. givenTime l time < 256 ^ l .time) codec layouts (rows-timed h) row .1
 
   -- a codec has one row
   pub layout-unique : {m : Layout} → layoutOf codec ≡ accepted m → l ≡ m
@@ -99,28 +133,31 @@ body-sound l s row h =
     meets-then (number 4) _ s n₃ (number-exact 4 .sound s n₃ h (omega (arith, k₁ .0 .inside, k₂ .1, k₃ .1))) (λ size n₄ k₄.
     meets-then here _ s n₄ (meets-here s n₄) (λ start n₅ k₅.
     meets-next (require (eqb (start + size) (length s)) 14 sizeAt) _ s n₅ (meets-require _ _ _ s n₅) (λ u₆ n₆ k₆.
-    meets-next (require (leb (l .imei) size) 14 sizeAt) _ s n₆ (meets-require _ _ _ s n₆) (λ u₇ n₇ k₇.
+    meets-next (require (leb (heading l) size) 14 sizeAt) _ s n₆ (meets-require _ _ _ s n₆) (λ u₇ n₇ k₇.
     meets-then (readPacked (l .imei)) _ s n₇ (packed-exact (l .imei) .sound s n₇ h (omega (arith, k₄ .0 .inside, k₅ .1, k₆ .1, k₇ .1))) (λ imei n₈ k₈.
-    meets-then here _ s n₈ (meets-here s n₈) (λ textAt n₉ k₉.
-    meets-then (bytes (size - l .imei)) _ s n₉ (bytes-exact (size - l .imei) .sound s n₉ h (omega (arith, k₈ .0 .inside, k₉ .1))) (λ text n₁₀ k₁₀.
-    meets-next (require (mismatch type text) 14 textAt) _ s n₁₀ (meets-require _ _ _ s n₁₀) (λ u₁₁ n₁₁ k₁₁.
-    let counted : size ≡ l .imei + length text = omega (arith, leb-true (l .imei) size (k₇ .0), k₁₀ .1 .0) in
-    let end : n₁₀ ≡ length s =
-    omega (arith, eqb-true (start + size) (length s) (k₆ .0), k₅, k₆ .1, k₇ .1, k₉ .1, k₈ .0 .size, k₁₀ .0 .size, length-packed (l .imei) imei) in
-    meets-pure _ s n₁₁ (
+    meets-then (number (l .time)) _ s n₈ (number-exact (l .time) .sound s n₈ h (k₈ .0 .inside)) (λ time n₉ k₉.
+    meets-then here _ s n₉ (meets-here s n₉) (λ textAt n₁₀ k₁₀.
+    meets-then (bytes (size - heading l)) _ s n₁₀ (bytes-exact (size - heading l) .sound s n₁₀ h (omega (arith, k₉ .0 .inside, k₁₀ .1))) (λ text n₁₁ k₁₁.
+    meets-next (require (mismatch type text) 14 textAt) _ s n₁₁ (meets-require _ _ _ s n₁₁) (λ u₁₂ n₁₂ k₁₂.
+    let counted : size ≡ heading l + length text = omega (arith, leb-true (heading l) size (k₇ .0), k₁₁ .1 .0) in
+    let end : n₁₁ ≡ length s =
+    omega (arith, eqb-true (start + size) (length s) (k₆ .0), k₅, k₆ .1, k₇ .1, k₁₀ .1, k₈ .0 .size, k₉ .0 .size, k₁₁ .0 .size, length-packed (l .imei) imei, length-digits 256 (l .time) time) in
+    meets-pure _ s n₁₂ (
       refl,
       record {
         layout = row;
         typeAllowed = k₂ .0;
         imeiRange = k₈ .1;
-        textBytes = k₁₀ .1 .1;
-        mismatchEmpty = mismatch-sound type text (k₁₁ .0);
+        timeRange = k₉ .1;
+        textBytes = k₁₁ .1 .1;
+        mismatchEmpty = mismatch-sound type text (k₁₂ .0);
       },
       whole-between
           (between-join (between-moved (k₀ .1) refl (k₁ .0))
           (between-join (between-moved (k₃ .1 ∙ k₂ .1) refl (between-bytes (ap (be 4) counted) (k₄ .0)))
-          (between-join (between-moved (k₇ .1 ∙ k₆ .1 ∙ k₅ .1) refl (k₈ .0)) (between-moved (k₉ .1) end (k₁₀ .0))))),
-    )))))))))))))
+          (between-join (between-moved (k₇ .1 ∙ k₆ .1 ∙ k₅ .1) refl (k₈ .0))
+          (between-join (k₉ .0) (between-moved (k₁₀ .1) end (k₁₁ .0)))))),
+    ))))))))))))))
 
 pub body-complete : (l : Layout) (c : Command) → CommandRules l c → length (bodyBytes l c) < 256 ^ 4
     → commandBody l (length (bodyBytes l c)) (bodyBytes l c) 0 ≡ got c (length (bodyBytes l c))
@@ -128,13 +165,14 @@ unfolding commandBody pure
 body-complete l c h fits =
     let s = bodyBytes l c in
     let n = length s in
-    let w = l .imei in
+    let w = heading l in
     let size = w + length (c .text) in
     let f₁ = between-split (be 1 (c .type)) (between-whole s) in
     let f₂ = between-split (be 4 size) (f₁ .1) in
-    let f₃ = between-split (packed w (c .imei)) (f₂ .1) in
+    let f₃ = between-split (packed (l .imei) (c .imei)) (f₂ .1) in
+    let f₄ = between-split (be (l .time) (c .time)) (f₃ .1) in
     let start = 0 + length (be 1 (c .type)) + length (be 4 size) in
-    let filled : start + size ≡ n = omega (arith, f₃ .1 .size, length-packed w (c .imei)) in
+    let filled : start + size ≡ n = omega (arith, f₄ .1 .size, length-packed (l .imei) (c .imei), length-digits 256 (l .time) (c .time)) in
     here-got _ s 0
     ∙ then-got (number 1) _ s 0 (number-exact 1 .complete s 0 _ _ (type-fits l (c .type) (h .typeAllowed)) (f₁ .0))
     ∙ require-got (member (c .type) (types l)) 13 0 _ s _ (h .typeAllowed)
@@ -143,11 +181,12 @@ body-complete l c h fits =
     ∙ here-got _ s _
     ∙ require-got (eqb (start + size) n) 14 _ _ s _ (eq-eqb (start + size) n filled)
     ∙ require-got (leb w size) 14 _ _ s _ (le-leb w size (omega arith))
-    ∙ then-got (readPacked w) _ s _ (packed-exact w .complete s _ (c .imei) _ (h .imeiRange) (f₃ .0))
+    ∙ then-got (readPacked (l .imei)) _ s _ (packed-exact (l .imei) .complete s _ (c .imei) _ (h .imeiRange) (f₃ .0))
+    ∙ then-got (number (l .time)) _ s _ (number-exact (l .time) .complete s _ (c .time) _ (h .timeRange) (f₄ .0))
     ∙ here-got _ s _
-    ∙ then-got (bytes (size - w)) _ s _ (bytes-exact (size - w) .complete s _ (c .text) n (omega arith, h .textBytes) (f₃ .1))
+    ∙ then-got (bytes (size - w)) _ s _ (bytes-exact (size - w) .complete s _ (c .text) n (omega arith, h .textBytes) (f₄ .1))
     ∙ require-got (mismatch (c .type) (c .text)) 14 _ _ s n (mismatch-complete (c .type) (c .text) (h .mismatchEmpty))
-    ∙ ap (λ (x : ℕ). got (record { codec = x; type = c .type; imei = c .imei; text = c .text }) n) (layout-codec (c .codec) (h .layout))
+    ∙ ap (λ (x : ℕ). got (record { codec = x; type = c .type; imei = c .imei; time = c .time; text = c .text }) n) (layout-codec (c .codec) (h .layout))
 
 -- ---- the data field
 

@@ -15,16 +15,17 @@ use Rattle.wire.proofs.Enclosed.{bytes-inner}
 use Rattle.wire.proofs.Accepting.{from-passed, told-got}
 use Rattle.command.specs.declared.Layout.{Layout}
 use Rattle.command.specs.declared.BodyWalk.the-variants.{Of, Stopped}
-use Rattle.command.specs.Layouts.{layoutOf}
+use Rattle.command.specs.Layouts.{layoutOf, heading}
 use Rattle.command.specs.Commands.{Command, commandBody, readField, answered}
 use Rattle.command.specs.Walks.{bodyAs}
 use Rattle.command.proofs.CommandLaws.{layout-codec, body-sound}
 use Rattle.command.proofs.OffendingLaws.{body-local}
+use Rattle.command.proofs.WriterLaws.{length-body}
 
-body-of : (r : Read Command) {type imei size : ℕ} → bodyAs r ≡ Of type imei size
-    → (c : Command) × (next : ℕ) × (r ≡ got c next) × (c .type ≡ type) × (c .imei ≡ imei) × (length (c .text) ≡ size)
+body-of : (r : Read Command) {type imei time size : ℕ} → bodyAs r ≡ Of type imei time size
+    → (c : Command) × (next : ℕ) × (r ≡ got c next) × (c .type ≡ type) × (c .imei ≡ imei) × (c .time ≡ time) × (length (c .text) ≡ size)
 unfolding bodyAs
-body-of (got c n) e = (c, n, refl, cc, cc, cc)
+body-of (got c n) e = (c, n, refl, cc, cc, cc, cc)
 body-of (bad x) e = absurd (let z : _≡_ {A = ℕ} 0 1 = cc in omega arith)
 
 body-stopped : (r : Read Command) {x : Refusal} → bodyAs r ≡ Stopped x → r ≡ bad x
@@ -38,6 +39,17 @@ module _ (d : List ℕ) where
   codec-unknown e = simp e
 
   module _ {l : Layout} (row : layoutOf (codecOf d) ≡ accepted l) where
+    -- the text ends where the second quantity stands
+    pub text-last : {type imei time size : ℕ} → Bytes d → 3 ≤ length d → bodyAs (commandBody l (length (inner d)) (inner d) 0) ≡ Of type imei time size
+        → 8 + heading l + size ≡ length d
+    unfolding inner
+    text-last h long e =
+        let k = body-of _ e in
+        let c = k .0 in
+        let same : l .codec ≡ codecOf d = layout-codec (codecOf d) row in
+        let whole = ap length (body-sound l (inner d) (ap layoutOf same ∙ row) (bytes-inner d h) .if-got c (k .1) (k .2) .2) in
+        omega (arith, whole, length-body l c, k .6, length-take-le (length d - 3) (drop 2 d) (omega (arith, length-drop 2 d)))
+
     pub first-wrong : (firstCount d ≡ 1 → ⊥) → readField d ≡ refused (refusalAt 7 1)
     unfolding readField onAccepted checkAt
     first-wrong e = simp (row, ne-eqb _ _ e)
@@ -52,16 +64,17 @@ module _ (d : List ℕ) where
         unfolding readField onAccepted checkAt
         field-walk = simp (row, eq-eqb _ _ first, eq-eqb _ _ last)
 
-        pub field-taken : {type imei size : ℕ} → Bytes d → bodyAs (commandBody l (length (inner d)) (inner d) 0) ≡ Of type imei size
-            → answered (from 8 (readField d)) ≡ accepted (record { codec = codecOf d; kind = type; imei = imei; offset = 15 + l .imei; size = size })
+        pub field-taken : {type imei time size : ℕ} → Bytes d → 3 ≤ length d → bodyAs (commandBody l (length (inner d)) (inner d) 0) ≡ Of type imei time size
+            → answered (from 8 (readField d)) ≡ accepted (record { codec = codecOf d; kind = type; imei = imei; time = time; offset = 8 + (length d - 1 - size); size = size })
         unfolding answered onAccepted
-        field-taken h e =
+        field-taken {size = size} h long e =
             let k = body-of _ e in
             let c = k .0 in
             let same : l .codec ≡ codecOf d = layout-codec (codecOf d) row in
             let codec : c .codec ≡ codecOf d = body-sound l (inner d) (ap layoutOf same ∙ row) (bytes-inner d h) .if-got c (k .1) (k .2) .0 ∙ same in
             let read : from 8 (readField d) ≡ accepted c = from-passed 8 _ (field-walk ∙ told-got _ _ (k .2)) in
-            simp (read, codec, row, k .3, k .4, k .5)
+            let start : 15 + heading l ≡ 8 + (length d - 1 - size) = omega (arith, text-last h long e) in
+            simp (read, codec, row, k .3, k .4, k .5, k .6, start)
 
         pub field-stopped : {x : Refusal} → bodyAs (commandBody l (length (inner d)) (inner d) 0) ≡ Stopped x
             → answered (from 8 (readField d)) ≡ refused (record { number = x .number; index = x .index; place = 8 + (2 + x .place) })

@@ -1,5 +1,5 @@
 -- The walk between the quantities is decided by the bytes up to the end of the offending field, and lies within them.
-use Prim.Native.Nat.{ℕ, _-_, _≤_}
+use Prim.Native.Nat.{ℕ, _+_, _-_, _≤_}
 use native.Mathlib.Omega.{arith}
 use mathlib.Core.Path.{_≡_, refl}
 use mathlib.Core.List.{List}
@@ -39,8 +39,10 @@ module _ (s : List ℕ) where
       local-here s 5 h₂ _
       (local-require s 5 h₂ _ 14 1 _ (λ _. (omega arith, h₂)) (λ _.
       local-require s 5 h₂ _ 14 1 _ (λ _. (omega arith, h₂)) (λ _.
-      local-then (readPacked (l .imei)) _ s 5 (packed-local s missing 0 digit (l .imei) 5 h₂ (omega arith)) (λ imei textAt e₃ o₃ h₃.
-      local-here s textAt h₃ _
-      (local-then (bytes _) _ s textAt (local-bytes s missing textAt h₃ _) (λ t end e₄ o₄ h₄.
-      local-require s end h₄ _ 14 textAt _ (λ _. omega (arith, text textAt o₃, o₄, h₄, h₃)) (λ _.
-      local-pure s end h₄ _))))))))))))
+      local-then (readPacked (l .imei)) _ s 5 (packed-local s missing 0 digit (l .imei) 5 h₂ (omega arith)) (λ imei timeAt e₃ o₃ h₃.
+      local-field s missing timeAt h₃ (l .time) _ (λ h₄.
+      let textAt = timeAt + l .time in
+      local-here s textAt h₄ _
+      (local-then (bytes _) _ s textAt (local-bytes s missing textAt h₄ _) (λ t end e₅ o₅ h₅.
+      local-require s end h₅ _ 14 textAt _ (λ _. omega (arith, text textAt (omega (arith, o₃)), o₅, h₅, h₄)) (λ _.
+      local-pure s end h₅ _)))))))))))))

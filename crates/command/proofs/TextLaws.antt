@@ -12,17 +12,18 @@ use Rattle.wire.specs.Answers.{Answer, accepted, refused, onAccepted}
 use Rattle.wire.specs.Imei.{packed}
 use Rattle.wire.proofs.Placed.{Between, between-split, between-moved, between-bytes, between-is, between-whole}
 use Rattle.wire.proofs.Accepting.{onAccepted-accepted, onAccepted-passed}
+use Rattle.wire.proofs.Widths.{length-digits}
 use Rattle.wire.proofs.ImeiPacked.{length-packed}
 use Rattle.frame.specs.Frame.{framed}
 use Rattle.command.specs.declared.Layout.{Layout}
 use Rattle.command.specs.declared.CommandFields.{CommandFields}
-use Rattle.command.specs.Layouts.{layoutOf}
+use Rattle.command.specs.Layouts.{layoutOf, heading}
 use Rattle.command.specs.Commands.{Command, bodyBytes, commandField, readCommand, answerCommand, answered, textView}
 use Rattle.command.proofs.CommandLaws.{layout-unique}
 use Rattle.command.proofs.PacketLaws.{command-exact}
 
 text-between : (l : Layout) (c : Command) (p : List ℕ) → p ≡ framed (commandField l c)
-    → Between p (15 + l .imei) (c .text) (15 + l .imei + length (c .text))
+    → Between p (15 + heading l) (c .text) (15 + heading l + length (c .text))
 unfolding framed commandField enclosed digits
 text-between l c p e =
     let d = commandField l c in
@@ -33,10 +34,12 @@ text-between l c p e =
     let g₂ = between-split (be 1 1) (g₁ .1) in
     let g₃ = between-split (bodyBytes l c) (g₂ .1) in
     let h₁ = between-split (be 1 (c .type)) (g₃ .0) in
-    let h₂ = between-split (be 4 (l .imei + length (c .text))) (h₁ .1) in
+    let h₂ = between-split (be 4 (heading l + length (c .text))) (h₁ .1) in
     let h₃ = between-split (packed (l .imei) (c .imei)) (h₂ .1) in
-    let start = ap (λ (n : ℕ). 15 + n) (length-packed (l .imei) (c .imei)) in
-    between-moved start (h₃ .1 .size ∙ ap (λ (n : ℕ). n + length (c .text)) start) (h₃ .1)
+    let h₄ = between-split (be (l .time) (c .time)) (h₃ .1) in
+    let start : 15 + length (packed (l .imei) (c .imei)) + length (be (l .time) (c .time)) ≡ 15 + heading l =
+    omega (arith, length-packed (l .imei) (c .imei), length-digits 256 (l .time) (c .time)) in
+    between-moved start (h₄ .1 .size ∙ ap (λ (n : ℕ). n + length (c .text)) start) (h₄ .1)
 
 pub text-stands : (limits : Limits) (p : List ℕ) (f : CommandFields) → Bytes p → answerCommand limits p ≡ accepted f
     → (c : Command) × (readCommand limits p ≡ accepted c) × (take (f .size) (drop (f .offset) p) ≡ c .text) × (f .offset + f .size ≤ length p)
@@ -48,8 +51,8 @@ text-stands limits p f h e =
     let l = row .0 in
     let k = command-exact limits p c h .0 (read .1) in
     let same : k .row ≡ l = layout-unique (c .codec) (k .rules .layout) (row .1) in
-    let fields : _≡_ {A = CommandFields} (record { codec = c .codec; kind = c .type; imei = c .imei; offset = 15 + l .imei; size = length (c .text) }) f = cc in
-    let offset : 15 + l .imei ≡ f .offset = ap (λ (x : CommandFields). x .offset) fields in
+    let fields : _≡_ {A = CommandFields} (record { codec = c .codec; kind = c .type; imei = c .imei; time = c .time; offset = 15 + heading l; size = length (c .text) }) f = cc in
+    let offset : 15 + heading l ≡ f .offset = ap (λ (x : CommandFields). x .offset) fields in
     let size : length (c .text) ≡ f .size = ap (λ (x : CommandFields). x .size) fields in
     let text = text-between l c p (k .whole ∙ ap (λ (m : Layout). framed (commandField m c)) same) in
     (c, read .1, ap₂ (λ (n at : ℕ). take n (drop at p)) (sym size) (sym offset) ∙ between-is text, omega (arith, text .inside))

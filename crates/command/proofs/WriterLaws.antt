@@ -14,11 +14,13 @@ use Rattle.wire.specs.Envelope.{enclosed}
 use Rattle.wire.specs.Imei.{packedPair, packed}
 use Rattle.wire.proofs.BufferLaws.{sets-front}
 use Rattle.wire.proofs.Storing.{sets-append, sets-snoc, drop-sets, drop-at-sets}
+use Rattle.wire.proofs.Widths.{length-digits}
 use Rattle.wire.proofs.ImeiPacked.{length-packed}
 use Rattle.wire.proofs.Enclosed.{length-enclosed}
 use Rattle.frame.specs.Frame.{framed}
 use Rattle.frame.proofs.FrameLaws.{length-framed}
 use Rattle.command.specs.declared.Layout.{Layout}
+use Rattle.command.specs.Layouts.{heading}
 use Rattle.command.specs.Commands.{Command, bodyBytes, commandField}
 
 -- ---- the IMEI
@@ -52,33 +54,40 @@ told-value base n m s at = go (repeat n m s at)
 -- ---- the blocks
 
 module _ (l : Layout) (c : Command) where
-  length-body : length (bodyBytes l c) ≡ 5 + l .imei + length (c .text)
+  pub length-body : length (bodyBytes l c) ≡ 5 + heading l + length (c .text)
   unfolding digits
-  length-body = omega (arith, length-append (packed (l .imei) (c .imei)) (c .text), length-packed (l .imei) (c .imei))
+  length-body =
+      let time = be (l .time) (c .time) in
+      omega (arith, length-append (packed (l .imei) (c .imei)) (time ++ c .text), length-append time (c .text), length-packed (l .imei) (c .imei), length-digits 256 (l .time) (c .time))
 
-  pub length-field : length (commandField l c) ≡ 8 + l .imei + length (c .text)
+  pub length-field : length (commandField l c) ≡ 8 + heading l + length (c .text)
   unfolding commandField
   length-field = omega (arith, length-enclosed (c .codec) 1 (bodyBytes l c), length-body)
 
   pub body-stored : (out : List ℕ)
-      → sets (sets (sets (sets out 10 (be 1 (c .type))) 11 (be 4 (l .imei + length (c .text)))) 15 (packed (l .imei) (c .imei))) (15 + l .imei) (c .text)
+      → sets (sets (sets (sets (sets out 10 (be 1 (c .type))) 11 (be 4 (heading l + length (c .text)))) 15 (packed (l .imei) (c .imei))) (15 + l .imei) (be (l .time) (c .time))) (15 + heading l) (c .text)
       ≡ sets out 10 (bodyBytes l c)
   unfolding digits
   body-stored out =
       let type = be 1 (c .type) in
-      let size = be 4 (l .imei + length (c .text)) in
+      let size = be 4 (heading l + length (c .text)) in
       let imei = packed (l .imei) (c .imei) in
+      let time = be (l .time) (c .time) in
       let out₁ = sets out 10 type in
       let out₂ = sets out₁ 11 size in
+      let out₃ = sets out₂ 15 imei in
+      let at : 15 + length imei ≡ 15 + l .imei = omega (arith, length-packed (l .imei) (c .imei)) in
+      let start : 15 + length imei + length time ≡ 15 + heading l = omega (arith, length-packed (l .imei) (c .imei), length-digits 256 (l .time) (c .time)) in
       sym (
-      sets-append out 10 type (size ++ (imei ++ c .text))
-      ∙ sets-append out₁ 11 size (imei ++ c .text)
-      ∙ sets-append out₂ 15 imei (c .text)
-      ∙ ap (λ (k : ℕ). sets (sets out₂ 15 imei) (15 + k) (c .text)) (length-packed (l .imei) (c .imei))
+      sets-append out 10 type (size ++ (imei ++ (time ++ c .text)))
+      ∙ sets-append out₁ 11 size (imei ++ (time ++ c .text))
+      ∙ sets-append out₂ 15 imei (time ++ c .text)
+      ∙ sets-append out₃ (15 + length imei) time (c .text)
+      ∙ ap₂ (λ (j k : ℕ). sets (sets out₃ j time) k (c .text)) at start
       )
 
   pub field-stored : (out : List ℕ)
-      → sets (sets (sets (sets out 8 (be 1 (c .codec))) 9 (be 1 1)) 10 (bodyBytes l c)) (15 + l .imei + length (c .text)) (be 1 1) ≡ sets out 8 (commandField l c)
+      → sets (sets (sets (sets out 8 (be 1 (c .codec))) 9 (be 1 1)) 10 (bodyBytes l c)) (15 + heading l + length (c .text)) (be 1 1) ≡ sets out 8 (commandField l c)
   unfolding commandField enclosed digits
   field-stored out =
       let codec = be 1 (c .codec) in
@@ -86,7 +95,7 @@ module _ (l : Layout) (c : Command) where
       let body = bodyBytes l c in
       let out₁ = sets out 8 codec in
       let out₂ = sets out₁ 9 one in
-      let end : 10 + length body ≡ 15 + l .imei + length (c .text) = omega (arith, length-body) in
+      let end : 10 + length body ≡ 15 + heading l + length (c .text) = omega (arith, length-body) in
       sym (
       sets-append out 8 codec (one ++ (body ++ one))
       ∙ sets-append out₁ 9 one (body ++ one)

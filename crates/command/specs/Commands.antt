@@ -1,4 +1,4 @@
--- Command packets: codec, quantity 1, type, size, IMEI, text, quantity 1.
+-- Command packets: codec, quantity 1, type, size, IMEI (codec 14), time (codec 13, the papers' timestamp), text, quantity 1.
 use Prim.Native.Nat.{ℕ, _+_, _-_, _*_, _^_, _<_}
 use mathlib.Core.Path.{_≡_}
 use mathlib.Core.Bool.{Bool, true}
@@ -13,7 +13,7 @@ use Rattle.wire.specs.Reading.{Reader, _>>=_, _>>_, pure, here, require, number
 use Rattle.wire.specs.Answers.{Answer, accepted, refused, checkAt, from, told, onAccepted}
 use Rattle.wire.specs.Imei.{packed, readPacked}
 use Rattle.frame.specs.Frame.{framed, FrameRules, unframe}
-use Rattle.command.specs.Layouts.{types, layoutOf, member}
+use Rattle.command.specs.Layouts.{types, layoutOf, heading, member}
 use Rattle.command.specs.declared.Layout.{Layout}
 use Rattle.command.specs.declared.CommandFields.{CommandFields}
 use Rattle.command.specs.declared.CommandAnswer.{CommandAnswer}
@@ -23,13 +23,14 @@ pub record Command : Type 0 where
   pub codec : ℕ
   pub type : ℕ
   pub imei : ℕ
+  pub time : ℕ
   pub text : List ℕ
 
 -- ---- the rules
 
 -- what stands between the quantities
 abbrev pub bodyBytes : Layout → Command → List ℕ
-bodyBytes l c = fields (be 1 (c .type) ∷ be 4 (l .imei + length (c .text)) ∷ packed (l .imei) (c .imei) ∷ c .text ∷ [])
+bodyBytes l c = fields (be 1 (c .type) ∷ be 4 (heading l + length (c .text)) ∷ packed (l .imei) (c .imei) ∷ be (l .time) (c .time) ∷ c .text ∷ [])
 
 unfoldable pub commandField : Layout → Command → List ℕ
 commandField l c = enclosed (c .codec) 1 (bodyBytes l c)
@@ -38,6 +39,7 @@ pub record CommandRules (l : Layout) (c : Command) : Type 0 where
   pub layout : layoutOf (c .codec) ≡ accepted l
   pub typeAllowed : member (c .type) (types l) ≡ true
   pub imeiRange : c .imei < 10 ^ (2 * l .imei - 1)
+  pub timeRange : c .time < 256 ^ l .time
   pub textBytes : Bytes (c .text)
   pub mismatchEmpty : c .type ≡ 0x11 → c .text ≡ []
 
@@ -54,7 +56,7 @@ pub record CommandPacket (limits : Limits) (c : Command) (p : List ℕ) : Type 0
 abbrev pub mismatch : ℕ → List ℕ → Bool
 mismatch type text = pick (eqb type 0x11) (eqb (length text) 0) true
 
--- type (8, 13), size (8, 14), IMEI (15), text with type 11 (14)
+-- type (8, 13), size (8, 14), IMEI (15), time, text with type 11 (14)
 unfoldable pub commandBody : Layout → ℕ → Reader Command
 commandBody l space = do
   typeAt ← here
@@ -64,12 +66,13 @@ commandBody l space = do
   size ← number 4
   start ← here
   require (eqb (start + size) space) 14 sizeAt
-  require (leb (l .imei) size) 14 sizeAt
+  require (leb (heading l) size) 14 sizeAt
   imei ← readPacked (l .imei)
+  time ← number (l .time)
   textAt ← here
-  text ← bytes (size - l .imei)
+  text ← bytes (size - heading l)
   require (mismatch type text) 14 textAt
-  pure (record { codec = l .codec; type = type; imei = imei; text = text })
+  pure (record { codec = l .codec; type = type; imei = imei; time = time; text = text })
 
 -- a data field, places from its start: 6 at the codec; 7 at the first quantity if that is not 1, else at the second; then the walk
 unfoldable pub readField : List ℕ → Answer Command
@@ -83,13 +86,13 @@ readField d =
 unfoldable pub readCommand : Limits → List ℕ → Answer Command
 readCommand limits p = onAccepted (unframe (limits .largest) p) (λ d. from 8 (readField d))
 
--- ---- the result: codec, type, IMEI, and the text's offset from the input's start and length
+-- ---- the result: codec, type, IMEI, time, and the text's offset from the input's start and length
 
 unfoldable pub answered : Answer Command → Answer CommandFields
 answered r =
     onAccepted r
     (λ c. onAccepted (layoutOf (c .codec))
-    (λ l. accepted (record { codec = c .codec; kind = c .type; imei = c .imei; offset = 15 + l .imei; size = length (c .text) })))
+    (λ l. accepted (record { codec = c .codec; kind = c .type; imei = c .imei; time = c .time; offset = 15 + heading l; size = length (c .text) })))
 
 unfoldable pub answerCommand : Limits → List ℕ → Answer CommandFields
 answerCommand limits p = answered (readCommand limits p)

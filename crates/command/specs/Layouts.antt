@@ -1,5 +1,5 @@
 -- The command codecs: one row for each.
-use Prim.Native.Nat.{ℕ}
+use Prim.Native.Nat.{ℕ, _+_}
 use mathlib.Core.Bool.{Bool, true, false}
 use mathlib.Core.List.{List, [], _∷_}
 use lib.ListN.{getD}
@@ -15,7 +15,15 @@ unfoldable pub types : Layout → List ℕ
 types l = 0x05 ∷ 0x06 ∷ pick (l .mismatch) (0x11 ∷ []) []
 
 unfoldable pub layouts : List Layout
-layouts = record { codec = 0x0C; mismatch = false; imei = 0 } ∷ record { codec = 0x0E; mismatch = true; imei = 8 } ∷ []
+layouts =
+    record { codec = 0x0C; mismatch = false; imei = 0; time = 0 }
+    ∷ record { codec = 0x0D; mismatch = false; imei = 0; time = 4 }
+    ∷ record { codec = 0x0E; mismatch = true; imei = 8; time = 0 }
+    ∷ []
+
+-- the bytes of IMEI and time before the text, which the size counts
+abbrev pub heading : Layout → ℕ
+heading l = l .imei + l .time
 
 -- the first row with this codec, else 6
 unfoldable pub findLayout : ℕ → List Layout → Answer Layout

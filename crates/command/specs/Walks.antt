@@ -11,10 +11,11 @@ use Rattle.command.specs.declared.Given.{Given}
 use Rattle.command.specs.declared.Given.the-variants.{Imei, Refused}
 use Rattle.command.specs.declared.Layout.{Layout}
 use Rattle.command.specs.Commands.{Command, commandField}
+use Rattle.command.specs.Writing.{givenTime}
 
--- the type, the IMEI and the text's length
+-- the type, the IMEI, the time and the text's length
 unfoldable pub bodyAs : Read Command → BodyWalk
-bodyAs (got c next) = Of (c .type) (c .imei) (length (c .text))
+bodyAs (got c next) = Of (c .type) (c .imei) (c .time) (length (c .text))
 bodyAs (bad x) = Stopped x
 
 -- the IMEI that is given
@@ -23,5 +24,6 @@ givenAs (Imei n) = accepted n
 givenAs (Refused r) = refused r
 
 -- the packet with this IMEI
-unfoldable pub planned : Layout → ℕ → List ℕ → Given → Answer (List ℕ)
-planned l type text r = onAccepted (givenAs r) (λ n. accepted (framed (commandField l (record { codec = l .codec; type = type; imei = n; text = text }))))
+unfoldable pub planned : Layout → ℕ → ℕ → List ℕ → Given → Answer (List ℕ)
+planned l type time text r =
+    onAccepted (givenAs r) (λ n. accepted (framed (commandField l (record { codec = l .codec; type = type; imei = n; time = givenTime l time; text = text }))))

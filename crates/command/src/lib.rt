@@ -1,29 +1,32 @@
-// Command packets of codecs 12 and 14: read and written.
+// Command packets of codecs 12, 13 and 14: read and written.
 use frame::Framed;
 use wire::Decimal;
 use wire::Limits;
 use wire::Refusal;
 use wire::Written;
 ghost use mathlib.Core.Path.{_≡_};
-ghost use Prim.Native.Nat.{_+_, _-_, _*_, _≤_};
+ghost use Prim.Native.Nat.{ℕ, _+_, _-_, _*_, _≤_};
+ghost use lib.Dec.{eqb};
 ghost use lib.ListN.{length};
 ghost use lib.Seq.{sets};
 ghost use Rattle.wire.specs.Answers.{accepted, from};
+ghost use Rattle.wire.specs.Numbers.{numberAt, pick, valueFrom};
+ghost use Rattle.wire.specs.Reading.{_>>=_ as bind, pure, repeat};
 ghost use Rattle.wire.specs.Buffers.{writing, leaving, writtenAs};
-ghost use Rattle.wire.specs.Imei.{packed};
-ghost use Rattle.frame.specs.Frame.{framed};
-ghost use Rattle.command.specs.Layouts.{layoutOf, rowAs, isCommand, types, member};
+ghost use Rattle.wire.specs.Imei.{packed, textDigit, imeiOf};
+ghost use Rattle.command.specs.Layouts.{layoutOf, rowAs, isCommand, heading, types, member};
 ghost use Rattle.command.specs.Commands.{bodyBytes, commandField, mismatch, commandBody, readField, readCommand, answerCommand, textView, textOffset, commandAs, answered};
-ghost use Rattle.command.specs.Writing.{givenImei, bytesWithin, commandBytes};
+ghost use Rattle.command.specs.Writing.{givenImei, givenTime, bytesWithin, commandBytes};
 ghost use Rattle.wire.specs.Limits.{limitsOf};
 ghost use Rattle.wire.specs.Places.{behind};
 ghost use Rattle.command.specs.Walks.{bodyAs, givenAs, planned};
 
-// A row of the table of command layouts: the codec, whether it has type 11 besides 05 and 06, and how many bytes of IMEI stand before the text.
+// A row of the table of command layouts: the codec, whether it has type 11 besides 05 and 06, and how many bytes of IMEI and of time stand before the text.
 pub struct Layout {
     pub codec: u8,
     pub mismatch: bool,
     pub imei: usize,
+    pub time: usize,
 }
 
 pub enum Row {
@@ -31,11 +34,12 @@ pub enum Row {
     Unknown,
 }
 
-// A command's codec, type, IMEI (0 in codec 12), and its text's offset from the input's start and length. Words first: they stand where a refusal's words do, and bytes there would be read as a word just after they were written, which stalls.
+// A command's codec, type, IMEI (0 but in codec 14), time (0 but in codec 13), and its text's offset from the input's start and length. Words first: they stand where a refusal's words do, and bytes there would be read as a word just after they were written, which stalls.
 pub struct CommandFields {
     pub imei: u64,
     pub offset: usize,
     pub size: usize,
+    pub time: u32,
     pub codec: u8,
     pub kind: u8,
 }
@@ -45,25 +49,34 @@ pub enum CommandAnswer {
     Refused(Refusal),
 }
 
-// The table: one row for each codec.
+fn imei_bytes(codec: u8) -> usize
+    ensures { λ r. ⌜ r ≡ pick (eqb codec 0x0E) 8 0 ⌝ }
+{
+    if codec == 0x0E { 8 } else { 0 }
+}
+
+fn time_bytes(codec: u8) -> usize
+    ensures { λ r. ⌜ r ≡ pick (eqb codec 0x0D) 4 0 ⌝ }
+{
+    if codec == 0x0D { 4 } else { 0 }
+}
+
+// The table: codecs 12 to 14. By tests of the codec: behind one of them the compiler knows the widths.
 pub fn layout_of(codec: u8) -> Row
     ensures { λ r. ⌜ rowAs r ≡ layoutOf codec ⌝ }
 {
-    if codec == 0x0C {
-        return Row::Of(Layout {
-            codec: 0x0C,
-            mismatch: false,
-            imei: 0,
-        });
+    if codec < 0x0C {
+        return Row::Unknown;
     }
-    if codec == 0x0E {
-        return Row::Of(Layout {
-            codec: 0x0E,
-            mismatch: true,
-            imei: 8,
-        });
+    if 0x0E < codec {
+        return Row::Unknown;
     }
-    Row::Unknown
+    Row::Of(Layout {
+        codec,
+        mismatch: codec == 0x0E,
+        imei: imei_bytes(codec),
+        time: time_bytes(codec),
+    })
 }
 
 // A packet of one of these codecs.
@@ -89,8 +102,8 @@ fn allows(l: Layout, kind: u8) -> bool
     if kind == 0x06 {
         return true;
     }
-    if l.mismatch {
-        return kind == 0x11;
+    if kind == 0x11 {
+        return l.mismatch;
     }
     false
 }
@@ -105,9 +118,17 @@ fn allows_text(kind: u8, text: &[u8]) -> bool
     true
 }
 
-// What stands between the quantities: the type, the IMEI and how long the text is, or why the walk stopped.
+// The time: a number of `w` bytes, 0 where there are none.
+fn read_time(s: &[u8], at: usize, w: usize) -> u32
+    requires { ⌜ (at + w ≤ length (now s)) × (w ≤ 4) ⌝ }
+    ensures { λ r. ⌜ r ≡ numberAt (now (s .entry)) at w ⌝ }
+{
+    wire::number(s, at, w) as u32
+}
+
+// What stands between the quantities: the type, the IMEI, the time and how long the text is, or why the walk stopped.
 pub enum BodyWalk {
-    Of(u8, u64, usize),
+    Of(u8, u64, u32, usize),
     Stopped(Refusal),
 }
 
@@ -122,7 +143,7 @@ fn stopped(number: usize, place: usize) -> BodyWalk
 }
 
 fn read_body(l: Layout, s: &[u8]) -> BodyWalk
-    requires { ⌜ l .imei ≤ 8 ⌝ }
+    requires { ⌜ (l .imei ≤ 8) × (l .time ≤ 4) ⌝ }
     ensures { λ r. ⌜ r ≡ bodyAs (commandBody l (length (now (s .entry))) (now (s .entry)) 0) ⌝ }
 {
     if s.len() < 1 {
@@ -140,16 +161,17 @@ fn read_body(l: Layout, s: &[u8]) -> BodyWalk
     if end != s.len() {
         return stopped(14, 1);
     }
-    let width = l.imei;
-    if size < width {
+    if size < l.imei + l.time {
         return stopped(14, 1);
     }
-    match wire::read_packed(s, 5, width) {
+    match wire::read_packed(s, 5, l.imei) {
         Decimal::Of(imei, at) => {
-            if !allows_text(kind, &s[at..end]) {
-                return stopped(14, at);
+            let time = read_time(s, at, l.time);
+            let start = at + l.time;
+            if !allows_text(kind, &s[start..end]) {
+                return stopped(14, start);
             }
-            BodyWalk::Of(kind, imei, size - width)
+            BodyWalk::Of(kind, imei, time, end - start)
         }
         Decimal::Unread(x) => BodyWalk::Stopped(x),
     }
@@ -165,7 +187,7 @@ fn refused(number: usize, place: usize) -> CommandAnswer
     })
 }
 
-// The data field, which starts at 8 in the packet.
+// The data field, which starts at 8 in the packet. The text ends where the second quantity stands.
 fn read_field(d: &[u8]) -> CommandAnswer
     requires { ⌜ 3 ≤ length (now d) ⌝ }
     ensures { λ r. ⌜ commandAs r ≡ answered (from 8 (readField (now (d .entry)))) ⌝ }
@@ -182,11 +204,12 @@ fn read_field(d: &[u8]) -> CommandAnswer
                 return refused(7, 8 + last);
             }
             match read_body(l, &d[2..last]) {
-                BodyWalk::Of(kind, imei, size) => CommandAnswer::Accepted(CommandFields {
+                BodyWalk::Of(kind, imei, time, size) => CommandAnswer::Accepted(CommandFields {
                     codec,
                     kind,
                     imei,
-                    offset: 15 + l.imei,
+                    time,
+                    offset: 8 + (last - size),
                     size,
                 }),
                 BodyWalk::Stopped(x) => CommandAnswer::Refused(Refusal {
@@ -259,6 +282,18 @@ fn digit_count(w: usize) -> usize
     2 * w - 1
 }
 
+// The number of digits, at most 15. Fifteen by themselves: a count that is known compiles to no loop.
+fn digits_of(s: &[u8]) -> u64
+    requires { ⌜ length (now s) ≤ 15 ⌝ }
+    ensures { λ r. ⌜ imeiOf 0 (length (now (s .entry))) r ≡ bind (repeat (length (now (s .entry))) textDigit) (λ ds. pure (valueFrom 10 0 ds)) (now (s .entry)) 0 ⌝ }
+{
+    let n = s.len();
+    if n == 15 {
+        return wire::text_number(15, s, 0, 0);
+    }
+    wire::text_number(n, s, 0, 0)
+}
+
 fn given_imei(l: Layout, s: &[u8]) -> Given
     requires { ⌜ l .imei ≤ 8 ⌝ }
     ensures { λ r. ⌜ givenAs r ≡ givenImei l (now (s .entry)) ⌝ }
@@ -267,25 +302,35 @@ fn given_imei(l: Layout, s: &[u8]) -> Given
     if n != digit_count(l.imei) {
         return not_given(15);
     }
-    let imei = wire::text_number(n, s, 0, 0);
+    let imei = digits_of(s);
     if imei < wire::NO_IMEI {
         return Given::Imei(imei);
     }
     not_given(15)
 }
 
+// The time as the caller gives it, ignored where the codec has none.
+fn given_time(l: Layout, time: u32) -> u32
+    ensures { λ r. ⌜ r ≡ givenTime l time ⌝ }
+{
+    if l.time == 0 {
+        return 0;
+    }
+    time
+}
+
 // The length of the data field.
 fn field_size(l: Layout, text: &[u8]) -> usize
-    requires { ⌜ l .imei ≤ 8 ⌝ }
-    ensures { λ r. ⌜ r ≡ 8 + l .imei + length (now (text .entry)) ⌝ }
+    requires { ⌜ (l .imei ≤ 8) × (l .time ≤ 4) ⌝ }
+    ensures { λ r. ⌜ r ≡ 8 + heading l + length (now (text .entry)) ⌝ }
 {
-    8 + l.imei + text.len()
+    8 + (l.imei + l.time) + text.len()
 }
 
 // Decides everything before a byte is written.
 fn plan(limits: Limits, l: Layout, kind: u8, imei: &[u8], text: &[u8]) -> Given
     requires { ⌜ layoutOf (l .codec) ≡ accepted l ⌝ }
-    ensures { λ r. ⌜ planned l kind (now (text .entry)) r ≡ bytesWithin limits (l .codec) kind (now (imei .entry)) (now (text .entry)) ⌝ }
+    ensures { λ r. ⌜ ((time : ℕ) → planned l kind time (now (text .entry)) r ≡ bytesWithin limits (l .codec) kind (now (imei .entry)) time (now (text .entry))) ⌝ }
 {
     if !allows(l, kind) {
         return not_given(13);
@@ -320,28 +365,30 @@ fn put_packed(out: &mut [u8], at: usize, w: usize, imei: u64)
     }
 }
 
-fn put_body(out: &mut [u8], l: Layout, kind: u8, imei: u64, text: &[u8])
-    requires { ⌜ 15 + l .imei + length (now text) ≤ length (now out) ⌝ }
-    ensures { λ r. ⌜ now (out .exit) ≡ sets (now (out .entry)) 10 (bodyBytes l (record { codec = l .codec; type = kind; imei = imei; text = now (text .entry) })) ⌝ }
+fn put_body(out: &mut [u8], l: Layout, kind: u8, imei: u64, time: u32, text: &[u8])
+    requires { ⌜ 15 + heading l + length (now text) ≤ length (now out) ⌝ }
+    ensures { λ r. ⌜ now (out .exit) ≡ sets (now (out .entry)) 10 (bodyBytes l (record { codec = l .codec; type = kind; imei = imei; time = time; text = now (text .entry) })) ⌝ }
 {
-    let w = l.imei;
-    let size = w + text.len();
-    let start = 15 + w;
+    let ahead = l.imei + l.time;
+    let size = ahead + text.len();
+    let at = 15 + l.imei;
+    let start = 15 + ahead;
     wire::put_be(out, 10, 1, kind as u64);
     wire::put_be(out, 11, 4, size as u64);
-    put_packed(out, 15, w, imei);
+    put_packed(out, 15, l.imei, imei);
+    wire::put_be(out, at, l.time, time as u64);
     wire::put_bytes(out, start, text);
 }
 
 // The data field, at 8.
-fn put_field(out: &mut [u8], l: Layout, kind: u8, imei: u64, text: &[u8])
-    requires { ⌜ 16 + l .imei + length (now text) ≤ length (now out) ⌝ }
-    ensures { λ r. ⌜ now (out .exit) ≡ sets (now (out .entry)) 8 (commandField l (record { codec = l .codec; type = kind; imei = imei; text = now (text .entry) })) ⌝ }
+fn put_field(out: &mut [u8], l: Layout, kind: u8, imei: u64, time: u32, text: &[u8])
+    requires { ⌜ 16 + heading l + length (now text) ≤ length (now out) ⌝ }
+    ensures { λ r. ⌜ now (out .exit) ≡ sets (now (out .entry)) 8 (commandField l (record { codec = l .codec; type = kind; imei = imei; time = time; text = now (text .entry) })) ⌝ }
 {
-    let last = 15 + l.imei + text.len();
+    let last = 15 + (l.imei + l.time) + text.len();
     wire::put_be(out, 8, 1, l.codec as u64);
     wire::put_be(out, 9, 1, 1);
-    put_body(out, l, kind, imei, text);
+    put_body(out, l, kind, imei, time, text);
     wire::put_be(out, last, 1, 1);
 }
 
@@ -356,17 +403,17 @@ fn not_written(number: usize) -> Written
 }
 
 // The field, then the frame around it.
-fn write_planned(l: Layout, kind: u8, imei: u64, text: &[u8], out: &mut [u8]) -> Written
-    requires { ⌜ l .imei ≤ 8 ⌝ }
-    ensures { λ r. ⌜ writtenAs r ≡ writing (planned l kind (now (text .entry)) (Given.Imei imei)) (now (out .entry)) ⌝ }
-    ensures { λ r. ⌜ now (out .exit) ≡ leaving (planned l kind (now (text .entry)) (Given.Imei imei)) (now (out .entry)) ⌝ }
+fn write_planned(l: Layout, kind: u8, imei: u64, time: u32, text: &[u8], out: &mut [u8]) -> Written
+    requires { ⌜ (l .imei ≤ 8) × (l .time ≤ 4) ⌝ }
+    ensures { λ r. ⌜ writtenAs r ≡ writing (planned l kind time (now (text .entry)) (Given.Imei imei)) (now (out .entry)) ⌝ }
+    ensures { λ r. ⌜ now (out .exit) ≡ leaving (planned l kind time (now (text .entry)) (Given.Imei imei)) (now (out .entry)) ⌝ }
 {
     let size = field_size(l, text);
     let whole = size + 12;
     if out.len() < whole {
         return not_written(18);
     }
-    put_field(out, l, kind, imei, text);
+    put_field(out, l, kind, imei, given_time(l, time), text);
     frame::put_frame(out, size);
     Written::Bytes(whole)
 }
@@ -377,16 +424,17 @@ fn write_within(
     codec: u8,
     kind: u8,
     imei: &[u8],
+    time: u32,
     text: &[u8],
     out: &mut [u8],
 ) -> Written
-    ensures { λ r. ⌜ writtenAs r ≡ writing (bytesWithin limits codec kind (now (imei .entry)) (now (text .entry))) (now (out .entry)) ⌝ }
-    ensures { λ r. ⌜ now (out .exit) ≡ leaving (bytesWithin limits codec kind (now (imei .entry)) (now (text .entry))) (now (out .entry)) ⌝ }
+    ensures { λ r. ⌜ writtenAs r ≡ writing (bytesWithin limits codec kind (now (imei .entry)) time (now (text .entry))) (now (out .entry)) ⌝ }
+    ensures { λ r. ⌜ now (out .exit) ≡ leaving (bytesWithin limits codec kind (now (imei .entry)) time (now (text .entry))) (now (out .entry)) ⌝ }
 {
     match layout_of(codec) {
         Row::Unknown => not_written(6),
         Row::Of(l) => match plan(limits, l, kind, imei, text) {
-            Given::Imei(n) => write_planned(l, kind, n, text, out),
+            Given::Imei(n) => write_planned(l, kind, n, time, text, out),
             Given::Refused(r) => Written::Refused(r),
         },
     }
@@ -398,15 +446,16 @@ pub fn write_command(
     codec: u8,
     kind: u8,
     imei: &[u8],
+    time: u32,
     text: &[u8],
     out: &mut [u8],
 ) -> Written
-    ensures { λ r. ⌜ writtenAs r ≡ writing (commandBytes (limitsOf family) codec kind (now (imei .entry)) (now (text .entry))) (now (out .entry)) ⌝ }
-    ensures { λ r. ⌜ now (out .exit) ≡ leaving (commandBytes (limitsOf family) codec kind (now (imei .entry)) (now (text .entry))) (now (out .entry)) ⌝ }
+    ensures { λ r. ⌜ writtenAs r ≡ writing (commandBytes (limitsOf family) codec kind (now (imei .entry)) time (now (text .entry))) (now (out .entry)) ⌝ }
+    ensures { λ r. ⌜ now (out .exit) ≡ leaving (commandBytes (limitsOf family) codec kind (now (imei .entry)) time (now (text .entry))) (now (out .entry)) ⌝ }
 {
     let limits = wire::limits_of(family);
     if limits.largest < 1 {
         return not_written(21);
     }
-    write_within(limits, codec, kind, imei, text, out)
+    write_within(limits, codec, kind, imei, time, text, out)
 }

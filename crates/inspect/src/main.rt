@@ -11,6 +11,7 @@ use input::Input;
 use libc::STDERR_FILENO;
 use libc::STDOUT_FILENO;
 use text::Kind;
+use text::Read;
 
 // What the first word asks for, behind those that name a family.
 pub enum Task {
@@ -38,6 +39,7 @@ inspect form-of [FILE]           the TLV form of a TCP data packet or a datagram
 inspect packet-of [FILE]         the TCP data packet of a TLV form, as hex text\n\
 inspect lines [FILE]             the billing lines of a TCP data packet or a datagram, one for each record\n\
 inspect write MESSAGE TEXT       a command packet of codec 12, as hex text\n\
+inspect write MESSAGE TIME TEXT  the same of codec 13; TIME is a whole number below 4294967296\n\
 inspect write MESSAGE IMEI TEXT  the same of codec 14\n\
 inspect help                     this text\n\
 inspect family N ..              any of these by the limits of family N, 1 or 2; of family 2 if left out\n\
@@ -46,7 +48,7 @@ connection: a login and packets one behind another, item by item; bytes count fr
 line: billing lines, shown one by one; taken as they are, never as hex text; lines and bytes count from 0\n\
 family 1: units of the 640 family, at most 512 bytes a packet and 255 a record; 2: all others, 1,280 bytes\n\
 FILE: at most 65536 bytes, hex text or as they are; standard input if left out or -\n\
-MESSAGE: 12 or 14 (a command), 12-response, 14-response, 14-mismatch (IMEI doesn't match)\n\
+MESSAGE: 12, 13 or 14 (a command), 12-response, 13-response, 14-response, 14-mismatch (IMEI doesn't match)\n\
 A refusal is a line 'refused: NUMBER ..' on standard output. At 'byte N' the offending field starts; the next line shows\n\
 this byte in brackets, among those around it. The exit status says nothing.\n",
     );
@@ -193,13 +195,30 @@ fn inspect(family: usize, task: Task, i: usize) {
     }
 }
 
+fn wrong_time() {
+    fail(b"inspect: TIME is not a whole number below 4294967296\n");
+}
+
 // The number of a word that is never there.
 const NONE: usize = usize::MAX;
 
-// Writes a command with the IMEI of word `i` and the text of word `j`, the last of the words.
-fn write_words(family: usize, codec: u8, kind: u8, i: usize, j: usize, words: usize) {
+// The number of word `i`, none for one that is missing or has over 20 digits.
+fn number_of_word(i: usize) -> Read {
+    let mut w = [0u8; 20];
+    let n = os::arg(i, &mut w);
+    text::number_of(&w[..n], usize::MAX)
+}
+
+// Writes a command with the IMEI of word `i`, a time, and the text of word `j`, the last of the words.
+fn write_words(family: usize, codec: u8, kind: u8, i: usize, time: Read, j: usize, words: usize) {
     if words == 0 || words - 1 != j {
         return wrong();
+    }
+    let Read::Of(t) = time else {
+        return wrong_time();
+    };
+    if 0xFFFF_FFFF < t {
+        return wrong_time();
     }
     let mut imei = [0u8; 16];
     let mut text = [0u8; 4096];
@@ -208,20 +227,24 @@ fn write_words(family: usize, codec: u8, kind: u8, i: usize, j: usize, words: us
     if os::errno() != 0 {
         return fail(b"inspect: the text is longer than 4096 bytes\n");
     }
-    report::say_command(family, codec, kind, &imei[..n], &text[..m]);
+    report::say_command(family, codec, kind, &imei[..n], t as u32, &text[..m]);
 }
 
 // The same with the message of word `i`.
 fn write_task(family: usize, i: usize, words: usize)
     requires { ⌜ i ≤ 4 ⌝ }
 {
-    let messages = b"12 12-response 14 14-response 14-mismatch ";
+    let messages = b"12 12-response 13 13-response 14 14-response 14-mismatch ";
+    let time = number_of_word(i + 1);
+    let none = Read::Of(0);
     match input::place_of_word(i, messages) {
-        0 => write_words(family, 0x0C, 0x05, NONE, i + 1, words),
-        1 => write_words(family, 0x0C, 0x06, NONE, i + 1, words),
-        2 => write_words(family, 0x0E, 0x05, i + 1, i + 2, words),
-        3 => write_words(family, 0x0E, 0x06, i + 1, i + 2, words),
-        4 => write_words(family, 0x0E, 0x11, i + 1, i + 2, words),
+        0 => write_words(family, 0x0C, 0x05, NONE, none, i + 1, words),
+        1 => write_words(family, 0x0C, 0x06, NONE, none, i + 1, words),
+        2 => write_words(family, 0x0D, 0x05, NONE, time, i + 2, words),
+        3 => write_words(family, 0x0D, 0x06, NONE, time, i + 2, words),
+        4 => write_words(family, 0x0E, 0x05, i + 1, none, i + 2, words),
+        5 => write_words(family, 0x0E, 0x06, i + 1, none, i + 2, words),
+        6 => write_words(family, 0x0E, 0x11, i + 1, none, i + 2, words),
         _ => wrong(),
     }
 }

@@ -96,8 +96,8 @@ linesOfDatagramRefusal family p = writtenRefusal (4 * largestOfAll) (linesOfData
 unfoldable pub packetOfFormRefusal : ℕ → List ℕ → ℕ
 packetOfFormRefusal family f = writtenRefusal largestOfAll (packetOfForm (limitsOf family) f)
 
-unfoldable pub writeRefusal : ℕ → ℕ → ℕ → List ℕ → List ℕ → ℕ
-writeRefusal family codec kind imei text = writtenRefusal largestOfAll (commandBytes (limitsOf family) codec kind imei text)
+unfoldable pub writeRefusal : ℕ → ℕ → ℕ → List ℕ → ℕ → List ℕ → ℕ
+writeRefusal family codec kind imei time text = writtenRefusal largestOfAll (commandBytes (limitsOf family) codec kind imei time text)
 
 -- ---- the records of a datagram or a TCP data packet
 

@@ -221,7 +221,15 @@ fn line_of(kind: u8) -> usize {
     }
 }
 
-// Codec, type and, in codec 14 alone, the IMEI.
+// A message's time. The maker's pages do not agree on its unit, so the date is only what it may be.
+fn say_message_time(time: u64) {
+    let d = text::date_of(time / 86_400);
+    say(b"time %1 (%4-%2-%2 ", &[time, d.year, d.month, d.day]);
+    let clock = [time / 3600 % 24, time / 60 % 60, time % 60];
+    say(b"%2:%2:%2 UTC if it counts seconds)\n", &clock);
+}
+
+// Codec and type; in codec 14 alone the IMEI, in codec 13 alone the time.
 fn say_message(f: CommandFields) {
     say(b", codec %1, type ", &[f.codec as u64]);
     say_line(
@@ -230,6 +238,9 @@ fn say_message(f: CommandFields) {
     );
     if f.codec == 0x0E {
         say(b"IMEI %F\n", &[f.imei]);
+    }
+    if f.codec == 0x0D {
+        say_message_time(f.time as u64);
     }
 }
 
@@ -426,10 +437,10 @@ pub fn say_packet_of(family: usize, f: &[u8]) -> usize
 }
 
 // A command packet.
-pub fn say_command(family: usize, codec: u8, kind: u8, imei: &[u8], text: &[u8]) -> usize
-    ensures { λ r. ⌜ r ≡ writeRefusal family codec kind (now (imei .entry)) (now (text .entry)) ⌝ }
+pub fn say_command(family: usize, codec: u8, kind: u8, imei: &[u8], time: u32, text: &[u8]) -> usize
+    ensures { λ r. ⌜ r ≡ writeRefusal family codec kind (now (imei .entry)) time (now (text .entry)) ⌝ }
 {
     let mut out = [0u8; wire::LARGEST];
-    let answer = command::write_command(family, codec, kind, imei, text, &mut out);
+    let answer = command::write_command(family, codec, kind, imei, time, text, &mut out);
     say_written(Judged::Other, text, answer, &out)
 }

@@ -6,6 +6,7 @@ use Rattle.wire.proofs.ImeiWord.{word-imei, word-none}
 use Rattle.wire.proofs.Accepting.{check-passed, told-got, unplaced-passed}
 use Rattle.wire.specs.Answers.{checkAt, told, unplaced}
 use Rattle.wire.specs.Imei.{textDigit}
+use native.Mathlib.Omega.{arith}
 use borrow.Author.Tests.{eq-eqb, ne-eqb}
 use mathlib.Core.Path.{sym, ap, _∙_}
 use borrow.Author.Needs.{needs}
@@ -22,19 +23,19 @@ returns : tie.Need-returns
 unfolding givenAs givenImei checkAt
 returns c = simp (c .not-given .ensures, ne-eqb _ _ (λ e. c .before .if1 .taken (e ∙ sym (c .before .before .digit-count .ensures))))
 
-text-number-requires : tie.Need-text-number-requires
-text-number-requires c κs = search needs
+digits-of-requires : tie.Need-digits-of-requires
+digits-of-requires c κs = omega (arith, c .if1 .left, c .before .digit-count .ensures, c .before .before .before .pre)
 
 returns-2 : tie.Need-returns-2
 unfolding givenAs givenImei
-returns-2 c = sym (check-passed _ 15 _ _ (eq-eqb _ _ (c .before .before .if1 .left ∙ c .before .before .before .digit-count .ensures)) ∙ sym (told-value 10 _ textDigit (c .before .before .before .before .before .args .s .now) 0) ∙ unplaced-passed _ (told-got _ _ (sym (c .before .text-number .ensures) ∙ word-imei _ _ _ (c .if2 .taken))))
+returns-2 c = sym (check-passed _ 15 _ _ (eq-eqb _ _ (c .before .before .if1 .left ∙ c .before .before .before .digit-count .ensures)) ∙ sym (told-value 10 _ textDigit (c .before .before .before .before .before .args .s .now) 0) ∙ unplaced-passed _ (told-got _ _ (sym (c .before .digits-of .ensures) ∙ word-imei _ _ _ (c .if2 .taken))))
 
 not-given-requires-2 : tie.Need-not-given-requires-2
 not-given-requires-2 c κs = search needs
 
 returns-3 : tie.Need-returns-3
 unfolding givenAs givenImei told unplaced
-returns-3 c = ap givenAs (c .not-given2 .ensures) ∙ sym (check-passed _ 15 _ _ (eq-eqb _ _ (c .before .before .before .if1 .left ∙ c .before .before .before .before .digit-count .ensures)) ∙ sym (told-value 10 _ textDigit (c .before .before .before .before .before .before .args .s .now) 0) ∙ ap (λ r. unplaced (told 0 r)) (sym (c .before .before .text-number .ensures) ∙ word-none _ _ _ (c .before .if2 .left)))
+returns-3 c = ap givenAs (c .not-given2 .ensures) ∙ sym (check-passed _ 15 _ _ (eq-eqb _ _ (c .before .before .before .if1 .left ∙ c .before .before .before .before .digit-count .ensures)) ∙ sym (told-value 10 _ textDigit (c .before .before .before .before .before .before .args .s .now) 0) ∙ ap (λ r. unplaced (told 0 r)) (sym (c .before .before .digits-of .ensures) ∙ word-none _ _ _ (c .before .if2 .left)))
 
 pub given-imei-spec : {M : Type 1} → statement M
 given-imei-spec =
@@ -43,7 +44,7 @@ given-imei-spec =
     digit-count-requires
     not-given-requires
     returns
-    text-number-requires
+    digits-of-requires
     returns-2
     not-given-requires-2
     returns-3)

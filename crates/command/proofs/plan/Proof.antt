@@ -19,10 +19,10 @@ not-given-requires c κs = search needs
 
 returns : tie.Need-returns
 unfolding planned givenAs onAccepted bytesWithin checkAt
-returns c = simp (c .not-given .ensures, c .before .before .before .before .before .pre, sym (c .before .before .allows .ensures) ∙ not-true _ (c .before .if1 .taken))
+returns c time = simp (c .not-given .ensures, c .before .before .before .before .before .pre, sym (c .before .before .allows .ensures) ∙ not-true _ (c .before .if1 .taken))
 
 given-imei-requires : tie.Need-given-imei-requires
-given-imei-requires c κs = layout-narrow _ (c .before .before .before .before .pre)
+given-imei-requires c κs = layout-narrow _ (c .before .before .before .before .pre) .0
 
 enum-known-n : tie.Need-enum-known-n
 enum-known-n c = search needs
@@ -35,7 +35,7 @@ not-given-requires-2 c κs = search needs
 
 returns-2 : tie.Need-returns-2
 unfolding planned givenAs onAccepted bytesWithin checkAt packetOf
-returns-2 c = simp (c .not-given2 .ensures, c .before .before .before .before .before .before .before .before .before .before .before .pre, sym (c .before .before .before .before .before .before .before .before .allows .ensures) ∙ not-false _ (c .before .before .before .before .before .before .before .if1 .left), sym (c .before .before .before .before .before .before .given-imei .ensures) ∙ ap givenAs (c .before .before .before .before .n .given .1), sym (c .before .before .allows-text .ensures) ∙ not-true _ (c .before .if2 .taken))
+returns-2 c time = simp (c .not-given2 .ensures, c .before .before .before .before .before .before .before .before .before .before .before .pre, sym (c .before .before .before .before .before .before .before .before .allows .ensures) ∙ not-false _ (c .before .before .before .before .before .before .before .if1 .left), sym (c .before .before .before .before .before .before .given-imei .ensures) ∙ ap givenAs (c .before .before .before .before .n .given .1), sym (c .before .before .allows-text .ensures) ∙ not-true _ (c .before .if2 .taken))
 
 field-size-requires : tie.Need-field-size-requires
 field-size-requires c κs = layout-narrow _ (c .before .before .before .before .before .before .before .before .before .before .pre)
@@ -48,18 +48,18 @@ not-given-requires-3 c κs = search needs
 
 returns-3 : tie.Need-returns-3
 unfolding planned givenAs onAccepted bytesWithin checkAt packetOf
-returns-3 c = simp (c .not-given3 .ensures, c .before .before .before .before .before .before .before .before .before .before .before .before .before .before .pre, sym (c .before .before .before .before .before .before .before .before .before .before .before .allows .ensures) ∙ not-false _ (c .before .before .before .before .before .before .before .before .before .before .if1 .left), sym (c .before .before .before .before .before .before .before .before .before .given-imei .ensures) ∙ ap givenAs (c .before .before .before .before .before .before .before .n .given .1), sym (c .before .before .before .before .before .allows-text .ensures) ∙ not-false _ (c .before .before .before .before .if2 .left), length-field, ← c .before .before .before .field-size .ensures, lt-leb _ _ (c .before .if3 .taken))
+returns-3 c time = simp (c .not-given3 .ensures, c .before .before .before .before .before .before .before .before .before .before .before .before .before .before .pre, sym (c .before .before .before .before .before .before .before .before .before .before .before .allows .ensures) ∙ not-false _ (c .before .before .before .before .before .before .before .before .before .before .if1 .left), sym (c .before .before .before .before .before .before .before .before .before .given-imei .ensures) ∙ ap givenAs (c .before .before .before .before .before .before .before .n .given .1), sym (c .before .before .before .before .before .allows-text .ensures) ∙ not-false _ (c .before .before .before .before .if2 .left), length-field, ← c .before .before .before .field-size .ensures, lt-leb _ _ (c .before .if3 .taken))
 
 enum-known-r : tie.Need-enum-known-r
 enum-known-r c = search needs
 
 returns-4 : tie.Need-returns-4
 unfolding planned givenAs onAccepted bytesWithin checkAt packetOf
-returns-4 c = simp (c .before .before .before .before .before .before .before .before .before .before .before .before .before .pre, sym (c .before .before .before .before .before .before .before .before .before .before .allows .ensures) ∙ not-false _ (c .before .before .before .before .before .before .before .before .before .if1 .left), sym (c .before .before .before .before .before .before .before .before .given-imei .ensures) ∙ ap givenAs (c .before .before .before .before .before .before .n .given .1), sym (c .before .before .before .before .allows-text .ensures) ∙ not-false _ (c .before .before .before .if2 .left), length-field, ← c .before .before .field-size .ensures, le-leb _ _ (c .if3 .left))
+returns-4 c time = simp (c .before .before .before .before .before .before .before .before .before .before .before .before .before .pre, sym (c .before .before .before .before .before .before .before .before .before .before .allows .ensures) ∙ not-false _ (c .before .before .before .before .before .before .before .before .before .if1 .left), sym (c .before .before .before .before .before .before .before .before .given-imei .ensures) ∙ ap givenAs (c .before .before .before .before .before .before .n .given .1), sym (c .before .before .before .before .allows-text .ensures) ∙ not-false _ (c .before .before .before .if2 .left), length-field, ← c .before .before .field-size .ensures, le-leb _ _ (c .if3 .left))
 
 returns-5 : tie.Need-returns-5
 unfolding planned givenAs onAccepted bytesWithin checkAt
-returns-5 c = simp (c .before .before .before .before .before .before .before .before .pre, sym (c .before .before .before .before .before .allows .ensures) ∙ not-false _ (c .before .before .before .before .if1 .left), sym (c .before .before .before .given-imei .ensures) ∙ ap givenAs (c .before .r .given .1))
+returns-5 c time = simp (c .before .before .before .before .before .before .before .before .pre, sym (c .before .before .before .before .before .allows .ensures) ∙ not-false _ (c .before .before .before .before .if1 .left), sym (c .before .before .before .given-imei .ensures) ∙ ap givenAs (c .before .r .given .1))
 
 pub plan-spec : {M : Type 1} → statement M
 plan-spec =

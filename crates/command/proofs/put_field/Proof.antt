@@ -7,6 +7,7 @@ use lib.ListN.{length}
 use borrow.Author.Needs.{needs}
 use Rattle.wire.specs.Numbers.{be}
 use Rattle.command.specs.Commands.{Command, bodyBytes}
+use Rattle.command.specs.Layouts.{heading}
 use Rattle.command.proofs.WriterLaws.{field-stored}
 use Rattle.command.proofs.put_field.Statement.{statement}
 use Rattle.command.proofs.put_field.Tie as tie
@@ -16,6 +17,9 @@ add-last c = search needs
 
 add-last-2 : tie.Need-add-last-2
 add-last-2 c = search needs
+
+add-last-3 : tie.Need-add-last-3
+add-last-3 c = search needs
 
 cast-put-be : tie.Need-cast-put-be
 cast-put-be c = search needs
@@ -37,12 +41,13 @@ same-length c = search needs
 
 returns : tie.Need-returns
 returns c =
-    let l = c .before .before .before .before .before .before .before .before .before .before .before .before .before .before .before .before .before .before .before .before .args .l in
-    let text = c .before .before .before .before .before .before .before .before .before .before .before .before .before .before .before .before .before .before .before .before .args .text .now in
-    let command : Command = record { codec = l .codec; type = c .before .before .before .before .before .before .before .before .before .before .before .before .before .before .before .before .before .before .before .before .args .kind; imei = c .before .before .before .before .before .before .before .before .before .before .before .before .before .before .before .before .before .before .before .before .args .imei; text = text } in
+    let a = c .before .before .before .before .before .before .before .before .before .before .before .before .before .before .before .before .before .before .before .before .args in
+    let l = a .l in
+    let text = a .text .now in
+    let command : Command = record { codec = l .codec; type = a .kind; imei = a .imei; time = a .time; text = text } in
     let head = c .before .before .before .before .before .before .before .before .before .before .put-be2 .ensures ∙ ap (λ (m : List ℕ). sets m 9 (be 1 1)) (c .before .before .before .before .before .before .before .before .before .before .before .before .before .before .put-be .ensures) in
     let body = c .before .before .before .before .before .before .put-body .ensures ∙ ap (λ (m : List ℕ). sets m 10 (bodyBytes l command)) head in
-    c .before .before .put-be3 .ensures ∙ ap (λ (m : List ℕ). sets m (15 + l .imei + length text) (be 1 1)) body ∙ field-stored l command (c .before .before .before .before .before .before .before .before .before .before .before .before .before .before .before .before .before .before .before .before .args .out .now)
+    c .before .before .put-be3 .ensures ∙ ap (λ (m : List ℕ). sets m (15 + heading l + length text) (be 1 1)) body ∙ field-stored l command (a .out .now)
 
 pub put-field-spec : {M : Type 1} → statement M
 put-field-spec =
@@ -50,6 +55,7 @@ put-field-spec =
     (tie.spec
     add-last
     add-last-2
+    add-last-3
     cast-put-be
     put-be-requires
     put-be-requires-2

@@ -13,7 +13,7 @@ use Rattle.command.specs.declared.Layout.{Layout}
 use Rattle.command.specs.Walks.{bodyAs}
 use Rattle.command.specs.Commands.{answered, commandBody, commandAs}
 use Rattle.command.specs.Layouts.{layoutOf, rowAs}
-use Rattle.command.proofs.FieldLaws.{codec-unknown, first-wrong, last-wrong, field-taken, field-stopped, stopped-inside}
+use Rattle.command.proofs.FieldLaws.{codec-unknown, text-last, first-wrong, last-wrong, field-taken, field-stopped, stopped-inside}
 use Rattle.command.proofs.CommandLaws.{layout-narrow}
 use Rattle.command.proofs.read_field.Statement.{statement}
 use Rattle.command.proofs.read_field.Tie as tie
@@ -87,18 +87,22 @@ read-body-requires c κs = layout-narrow _ (found (c .before .before .before .be
 enum-known-kind : tie.Need-enum-known-kind
 enum-known-kind c = search needs
 
-add-t24 : tie.Need-add-t24
-add-t24 c = omega (arith, layout-narrow _ (found (c .before .before .before .before .before .before .before .before .before .before)))
+sub-t25 : tie.Need-sub-t25
+sub-t25 c = omega (arith, text-last (c .before .before .before .before .before .before .before .before .before .before .before .before .before .before .before .args .d .now) (found (c .before .before .before .before .before .before .before .before .before)) (getD-bytes (c .before .before .before .before .before .before .before .before .before .before .before .before .before .before .before .args .d .now) (λ i. c .before .before .before .before .before .before .before .before .before .before .before .before .before .before .shared-slice-known .given i .fits)) (c .before .before .before .before .before .before .before .before .before .before .before .before .before .before .before .pre) (sym (lent _ (c .before .before .before .before .before .before .before .before .before .before .before .before .before .before .before .args .d .now)) ∙ sym (c .before .before .before .read-body .ensures) ∙ c .before .kind .given .1))
+
+-- the fault's place lies in the data field
+add-t26 : tie.Need-add-t26
+add-t26 c = omega (arith, text-last (c .before .before .before .before .before .before .before .before .before .before .before .before .before .before .before .args .d .now) (found (c .before .before .before .before .before .before .before .before .before)) (getD-bytes (c .before .before .before .before .before .before .before .before .before .before .before .before .before .before .before .args .d .now) (λ i. c .before .before .before .before .before .before .before .before .before .before .before .before .before .before .shared-slice-known .given i .fits)) (c .before .before .before .before .before .before .before .before .before .before .before .before .before .before .before .pre) (sym (lent _ (c .before .before .before .before .before .before .before .before .before .before .before .before .before .before .before .args .d .now)) ∙ sym (c .before .before .before .read-body .ensures) ∙ c .before .kind .given .1))
 
 enum-known-x : tie.Need-enum-known-x
 enum-known-x c = search needs
 
 -- the fault's place lies in the data field
-add-t26 : tie.Need-add-t26
-add-t26 c = omega (arith, stopped-inside _ (c .before .before .before .before .before .before .before .before .before .before .before .before .before .before .before .before .args .d .now) (c .before .before .before .before .before .before .before .before .before .before .before .before .before .before .before .before .pre) (sym (lent _ (c .before .before .before .before .before .before .before .before .before .before .before .before .before .before .before .before .args .d .now)) ∙ sym (c .before .before .before .before .read-body .ensures) ∙ c .before .before .x .given .1))
+add-t28 : tie.Need-add-t28
+add-t28 c = omega (arith, stopped-inside _ (c .before .before .before .before .before .before .before .before .before .before .before .before .before .before .before .before .args .d .now) (c .before .before .before .before .before .before .before .before .before .before .before .before .before .before .before .before .pre) (sym (lent _ (c .before .before .before .before .before .before .before .before .before .before .before .before .before .before .before .before .args .d .now)) ∙ sym (c .before .before .before .before .read-body .ensures) ∙ c .before .before .x .given .1))
 
-add-t27 : tie.Need-add-t27
-add-t27 c = omega (arith, stopped-inside _ (c .before .before .before .before .before .before .before .before .before .before .before .before .before .before .before .before .args .d .now) (c .before .before .before .before .before .before .before .before .before .before .before .before .before .before .before .before .pre) (sym (lent _ (c .before .before .before .before .before .before .before .before .before .before .before .before .before .before .before .before .args .d .now)) ∙ sym (c .before .before .before .before .read-body .ensures) ∙ c .before .before .x .given .1))
+add-t29 : tie.Need-add-t29
+add-t29 c = omega (arith, stopped-inside _ (c .before .before .before .before .before .before .before .before .before .before .before .before .before .before .before .before .args .d .now) (c .before .before .before .before .before .before .before .before .before .before .before .before .before .before .before .before .pre) (sym (lent _ (c .before .before .before .before .before .before .before .before .before .before .before .before .before .before .before .before .args .d .now)) ∙ sym (c .before .before .before .before .read-body .ensures) ∙ c .before .before .x .given .1))
 
 returns-3 : tie.Need-returns-3
 unfolding commandAs answered onAccepted codecOf rowAs
@@ -106,7 +110,7 @@ returns-3 c = simp (c .refused .ensures, from-refused 8 _ (codec-unknown (c .bef
 
 returns-4 : tie.Need-returns-4
 unfolding commandAs codecOf firstCount lastCount
-returns-4 c = sym (field-taken (c .before .before .before .before .before .before .before .before .before .before .before .before .before .before .before .before .args .d .now) (found (c .before .before .before .before .before .before .before .before .before .before)) (c .before .before .before .before .before .before .before .before .if1 .left) (c .before .before .before .before .before .before .if2 .left) (getD-bytes (c .before .before .before .before .before .before .before .before .before .before .before .before .before .before .before .before .args .d .now) (λ i. c .before .before .before .before .before .before .before .before .before .before .before .before .before .before .before .shared-slice-known .given i .fits)) (sym (lent _ (c .before .before .before .before .before .before .before .before .before .before .before .before .before .before .before .before .args .d .now)) ∙ sym (c .before .before .before .before .read-body .ensures) ∙ c .before .before .kind .given .1))
+returns-4 c = sym (field-taken (c .before .before .before .before .before .before .before .before .before .before .before .before .before .before .before .args .d .now) (found (c .before .before .before .before .before .before .before .before .before)) (c .before .before .before .before .before .before .before .if1 .left) (c .before .before .before .before .before .if2 .left) (getD-bytes (c .before .before .before .before .before .before .before .before .before .before .before .before .before .before .before .args .d .now) (λ i. c .before .before .before .before .before .before .before .before .before .before .before .before .before .before .shared-slice-known .given i .fits)) (c .before .before .before .before .before .before .before .before .before .before .before .before .before .before .before .pre) (sym (lent _ (c .before .before .before .before .before .before .before .before .before .before .before .before .before .before .before .args .d .now)) ∙ sym (c .before .before .before .read-body .ensures) ∙ c .before .kind .given .1))
 
 returns-5 : tie.Need-returns-5
 unfolding commandAs firstCount lastCount
@@ -134,10 +138,11 @@ read-field-spec =
     part-read-body-end
     read-body-requires
     enum-known-kind
-    add-t24
-    enum-known-x
+    sub-t25
     add-t26
-    add-t27
+    enum-known-x
+    add-t28
+    add-t29
     returns-3
     returns-4
     returns-5)

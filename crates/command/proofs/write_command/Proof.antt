@@ -16,7 +16,7 @@ not-written-requires c κs = search needs
 
 returns : tie.Need-returns
 unfolding commandBytes writtenAs writing leaving onAccepted
-returns c = rw (← (c .before .before .before .limits-of .ensures)) (rw (check-failed _ 21 _ (bytesWithin (c .before .before .before .limits-of .result) (c .before .before .before .before .before .before .before .args .codec) (c .before .before .before .before .before .before .before .args .kind) (c .before .before .before .before .before .before .before .args .imei .now) (c .before .before .before .before .before .before .before .args .text .now)) (lt-leb _ _ (c .before .if1 .taken))) (ap writtenAs (c .not-written .ensures), refl))
+returns c = rw (← (c .before .before .before .limits-of .ensures)) (rw (check-failed _ 21 _ (bytesWithin (c .before .before .before .limits-of .result) (c .before .before .before .before .before .before .before .args .codec) (c .before .before .before .before .before .before .before .args .kind) (c .before .before .before .before .before .before .before .args .imei .now) (c .before .before .before .before .before .before .before .args .time) (c .before .before .before .before .before .before .before .args .text .now)) (lt-leb _ _ (c .before .if1 .taken))) (ap writtenAs (c .not-written .ensures), refl))
 
 write-within-requires : tie.Need-write-within-requires
 write-within-requires c κs = search needs
@@ -26,7 +26,7 @@ same-length c = search needs
 
 returns-2 : tie.Need-returns-2
 unfolding commandBytes
-returns-2 c = rw (← (c .before .before .before .before .before .before .limits-of .ensures)) (rw (check-passed _ 21 _ (bytesWithin (c .before .before .before .before .before .before .limits-of .result) (c .before .before .before .before .before .before .before .before .before .before .args .codec) (c .before .before .before .before .before .before .before .before .before .before .args .kind) (c .before .before .before .before .before .before .before .before .before .before .args .imei .now) (c .before .before .before .before .before .before .before .before .before .before .args .text .now)) (le-leb _ _ (c .before .before .before .before .if1 .left))) (c .before .before .write-within .ensures))
+returns-2 c = rw (← (c .before .before .before .before .before .before .limits-of .ensures)) (rw (check-passed _ 21 _ (bytesWithin (c .before .before .before .before .before .before .limits-of .result) (c .before .before .before .before .before .before .before .before .before .before .args .codec) (c .before .before .before .before .before .before .before .before .before .before .args .kind) (c .before .before .before .before .before .before .before .before .before .before .args .imei .now) (c .before .before .before .before .before .before .before .before .before .before .args .time) (c .before .before .before .before .before .before .before .before .before .before .args .text .now)) (le-leb _ _ (c .before .before .before .before .if1 .left))) (c .before .before .write-within .ensures))
 
 pub write-command-spec : {M : Type 1} → statement M
 write-command-spec =

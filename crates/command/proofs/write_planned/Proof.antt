@@ -12,6 +12,7 @@ use Rattle.wire.proofs.BufferLaws.{writing-done, writing-short, leaving-done, l
 use Rattle.frame.specs.Frame.{framed}
 use Rattle.frame.proofs.FrameLaws.{length-framed}
 use Rattle.command.specs.Walks.{givenAs, planned}
+use Rattle.command.specs.Writing.{givenTime}
 use Rattle.command.specs.Commands.{Command, commandField}
 use Rattle.command.proofs.WriterLaws.{length-field, frame-stored}
 use Rattle.command.proofs.write_planned.Statement.{statement}
@@ -20,7 +21,7 @@ use Rattle.command.proofs.write_planned.Tie as tie
 abbrev command : tie.After-field-size → Command
 command c =
     let a = c .before .before .before .args in
-    record { codec = a .l .codec; type = a .kind; imei = a .imei; text = a .text .now }
+    record { codec = a .l .codec; type = a .kind; imei = a .imei; time = givenTime (a .l) (a .time); text = a .text .now }
 
 abbrev field : tie.After-field-size → List ℕ
 field c = commandField (c .before .before .before .args .l) (command c)
@@ -49,6 +50,9 @@ returns c =
     let short : length (c .before .before .before .before .before .args .out .now) < length (packet (c .before .before)) = omega (arith, long (c .before .before)) in
     (ap writtenAs (c .not-written .ensures) ∙ sym (writing-short (packet (c .before .before)) (c .before .before .before .before .before .args .out .now) short), sym (leaving-short (packet (c .before .before)) (c .before .before .before .before .before .args .out .now) short))
 
+given-time-requires : tie.Need-given-time-requires
+given-time-requires c κs = search needs
+
 put-field-requires : tie.Need-put-field-requires
 put-field-requires c κs = search needs
 
@@ -61,11 +65,13 @@ same-length c = search needs
 returns-2 : tie.Need-returns-2
 unfolding planned givenAs onAccepted writtenAs
 returns-2 c =
-    let out = c .before .before .before .before .before .before .before .before .before .before .before .before .args .out .now in
-    let k = c .before .before .before .before .before .before .before .before .before in
-    let n = c .before .before .before .before .before .before .before .before .before .field-size .result in
+    let a = c .before .before .before .before .before .before .before .before .before .before .before .before .before .args in
+    let out = a .out .now in
+    let k = (c .before .before .before .before .before .before .before .before .before .before) in
+    let n = c .before .before .before .before .before .before .before .before .before .before .field-size .result in
     let room : length (packet k) ≤ length out = omega (arith, long k) in
-    let stored = c .before .before .put-frame .ensures ∙ ap (λ (m : List ℕ). sets m 0 (framed (take n (drop 8 m)))) (c .before .before .before .before .before .before .put-field .ensures) ∙ frame-stored out (field k) n (counted k) (omega arith) in
+    let field-put = c .before .before .before .before .before .before .put-field .ensures ∙ ap (λ (t : ℕ). sets out 8 (commandField (a .l) (record { codec = a .l .codec; type = a .kind; imei = a .imei; time = t; text = a .text .now }))) (c .before .before .before .before .before .before .before .given-time .ensures) in
+    let stored = c .before .before .put-frame .ensures ∙ ap (λ (m : List ℕ). sets m 0 (framed (take n (drop 8 m)))) field-put ∙ frame-stored out (field k) n (counted k) (omega arith) in
     (ap accepted (sym (long k)) ∙ sym (writing-done (packet k) out room), stored ∙ sym (leaving-done (packet k) out room))
 
 pub write-planned-spec : {M : Type 1} → statement M
@@ -76,6 +82,7 @@ write-planned-spec =
     add-whole
     not-written-requires
     returns
+    given-time-requires
     put-field-requires
     put-frame-requires
     same-length

@@ -20,10 +20,10 @@ own : (c : tie.After-known-told) → layoutOf (c .before .l .given .0 .0 .codec)
 own c = ap layoutOf (layout-codec _ (found c)) ∙ found c
 
 bytes : (c : tie.After-plan) → let a = c .before .before .before .before .before .before .before .before .args in
-    planned (c .before .before .l .given .0 .0) (a .kind) (a .text .now) (c .plan .result) ≡ bytesWithin (a .limits) (a .codec) (a .kind) (a .imei .now) (a .text .now)
+    planned (c .before .before .l .given .0 .0) (a .kind) (a .time) (a .text .now) (c .plan .result) ≡ bytesWithin (a .limits) (a .codec) (a .kind) (a .imei .now) (a .time) (a .text .now)
 bytes c =
     let a = c .before .before .before .before .before .before .before .before .args in
-    c .plan .ensures ∙ ap (λ (k : ℕ). bytesWithin (a .limits) k (a .kind) (a .imei .now) (a .text .now)) (layout-codec _ (found (c .before)))
+    c .plan .ensures (a .time) ∙ ap (λ (k : ℕ). bytesWithin (a .limits) k (a .kind) (a .imei .now) (a .time) (a .text .now)) (layout-codec _ (found (c .before)))
 
 layout-of-requires : tie.Need-layout-of-requires
 layout-of-requires c κs = search needs
@@ -60,13 +60,13 @@ same-length c = search needs
 
 returns-2 : tie.Need-returns-2
 returns-2 c =
-    let same = ap (planned _ _ _) (sym (c .before .before .before .before .before .n .given .1)) ∙ bytes (c .before .before .before .before .before .before .before) in
+    let same = ap (planned _ _ _ _) (sym (c .before .before .before .before .before .n .given .1)) ∙ bytes (c .before .before .before .before .before .before .before) in
     (c .before .before .write-planned .ensures .0 ∙ ap (λ r. writing r (c .before .before .before .before .before .before .before .before .before .before .before .before .before .before .before .args .out .now)) same, c .before .before .write-planned .ensures .1 ∙ ap (λ r. leaving r (c .before .before .before .before .before .before .before .before .before .before .before .before .before .before .before .args .out .now)) same)
 
 returns-3 : tie.Need-returns-3
 unfolding planned givenAs onAccepted writtenAs writing leaving
 returns-3 c =
-    let refused = sym (bytes (c .before .before .before)) ∙ ap (planned _ _ _) (c .before .r .given .1) in
+    let refused = sym (bytes (c .before .before .before)) ∙ ap (planned _ _ _ _) (c .before .r .given .1) in
     (simp refused, simp refused)
 
 pub write-within-spec : {M : Type 1} → statement M
