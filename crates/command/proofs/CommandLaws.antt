@@ -73,6 +73,7 @@ row-within codec low high = first (eqb codec 0x0C) refl
     second : (b : Bool) → eqb codec 0x0D ≡ b → (codec ≡ 0x0C → ⊥) → RowOf codec
     second true e other = subst RowOf (sym (eqb-true codec 0x0D e)) refl
     second false e other = let last : 0x0E ≡ codec = omega (arith, low, high, other, eqb-false codec 0x0D e) in subst RowOf last refl
+
     first : (b : Bool) → eqb codec 0x0C ≡ b → RowOf codec
     first true e = subst RowOf (sym (eqb-true codec 0x0C e)) refl
     first false e = second (eqb codec 0x0D) refl (eqb-false codec 0x0C e)

@@ -49,16 +49,11 @@ pub enum CommandAnswer {
     Refused(Refusal),
 }
 
-fn imei_bytes(codec: u8) -> usize
-    ensures { λ r. ⌜ r ≡ pick (eqb codec 0x0E) 8 0 ⌝ }
+// So many bytes in one codec, none in the others.
+fn width_in(codec: u8, one: u8, width: usize) -> usize
+    ensures { λ r. ⌜ r ≡ pick (eqb codec one) width 0 ⌝ }
 {
-    if codec == 0x0E { 8 } else { 0 }
-}
-
-fn time_bytes(codec: u8) -> usize
-    ensures { λ r. ⌜ r ≡ pick (eqb codec 0x0D) 4 0 ⌝ }
-{
-    if codec == 0x0D { 4 } else { 0 }
+    if codec == one { width } else { 0 }
 }
 
 // The table: codecs 12 to 14. By tests of the codec: behind one of them the compiler knows the widths.
@@ -74,8 +69,8 @@ pub fn layout_of(codec: u8) -> Row
     Row::Of(Layout {
         codec,
         mismatch: codec == 0x0E,
-        imei: imei_bytes(codec),
-        time: time_bytes(codec),
+        imei: width_in(codec, 0x0E, 8),
+        time: width_in(codec, 0x0D, 4),
     })
 }
 

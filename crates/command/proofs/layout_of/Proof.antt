@@ -14,16 +14,16 @@ returns-2 : tie.Need-returns-2
 unfolding rowAs
 returns-2 c = sym (row-above _ (c .if2 .taken))
 
-imei-bytes-requires : tie.Need-imei-bytes-requires
-imei-bytes-requires c κs = search needs
+width-in-requires : tie.Need-width-in-requires
+width-in-requires c κs = search needs
 
-time-bytes-requires : tie.Need-time-bytes-requires
-time-bytes-requires c κs = search needs
+width-in-requires-2 : tie.Need-width-in-requires-2
+width-in-requires-2 c κs = search needs
 
 returns-3 : tie.Need-returns-3
 unfolding rowAs
-returns-3 c = simp (c .before .imei-bytes .ensures, c .time-bytes .ensures) (sym (row-within _ (c .before .before .before .if1 .left) (c .before .before .if2 .left)))
+returns-3 c = simp (c .before .width-in .ensures, c .width-in2 .ensures) (sym (row-within _ (c .before .before .before .if1 .left) (c .before .before .if2 .left)))
 
 pub layout-of-spec : {M : Type 1} → statement M
 layout-of-spec =
-    tie.close (tie.spec returns returns-2 imei-bytes-requires time-bytes-requires returns-3)
+    tie.close (tie.spec returns returns-2 width-in-requires width-in-requires-2 returns-3)
