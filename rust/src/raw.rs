@@ -272,7 +272,16 @@ pub fn write_command(
     // `&mut`; the call writes only within `out` and keeps none of them.
     unsafe {
         brundilope_write_command(
-            family, codec, message_type, imei_at, imei_len, time, text_at, text_len, out_at, out_len,
+            family,
+            codec,
+            message_type,
+            imei_at,
+            imei_len,
+            time,
+            text_at,
+            text_len,
+            out_at,
+            out_len,
         )
     }
 }

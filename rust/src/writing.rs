@@ -1,6 +1,7 @@
 //! Answers to units, commands, TLV forms and billing lines, written into a lent buffer.
 use crate::family::Family;
 use crate::raw;
+use crate::reading::Heading;
 use crate::refusal::{data_judged, judged, Refusal};
 
 fn written(a: raw::Written) -> Result<usize, Refusal> {

@@ -11,7 +11,9 @@ const FAMILIES: [Family; 2] = [Family::Fmx640, Family::Standard];
 /// What a unit might send, item by item.
 fn sent() -> Vec<Vec<u8>> {
     use samples::*;
-    [LOGIN, CODEC8, CODEC12_RESPONSE, &packet(&DATA), CODEC14_RESPONSE, CODEC16].map(<[u8]>::to_vec).into()
+    [LOGIN, CODEC8, CODEC12_RESPONSE, &packet(&DATA), CODEC13_MESSAGE, CODEC14_RESPONSE, CODEC16]
+        .map(<[u8]>::to_vec)
+        .into()
 }
 
 /// All items of bytes that come in these pieces; every feed uses all of its bytes.
@@ -120,7 +122,10 @@ fn packets_are_read_as_by_themselves() {
     for (family, largest, counts) in [(Family::Fmx640, 512, &LONGEST_640[..]), (Family::Standard, LARGEST, &LONGEST)] {
         let (mut longest, mut long_command) = (vec![0; largest], vec![0; largest]);
         assert_eq!(packet_of_form(family, &form_of_counts(counts), &mut longest), Ok(largest));
-        assert_eq!(write_command(family, Heading::Codec12, 0x06, &vec![b'x'; largest - 20], &mut long_command), Ok(largest));
+        assert_eq!(
+            write_command(family, Heading::Codec12, 0x06, &vec![b'x'; largest - 20], &mut long_command),
+            Ok(largest)
+        );
         let mut connection = logged_in(family);
         for input in [longest, long_command].iter().chain(&sent()[1..]) {
             read_as_by_itself(&connection.feed(input).item, family, input);
@@ -201,7 +206,7 @@ fn refusals_close() {
     let crc = with(samples::CODEC8, 65, 0);
     refused(&open, &crc, 66, no(5, 62));
     let fields = [
-        (no(6, 8), vec![0x0D, 1, 1]),
+        (no(6, 8), vec![0x0F, 1, 1]),
         (no(7, 9), vec![0x08, 0, 0]),
         (Refusal { record: Some(0), ..no(8, 10) }, vec![0x08, 1, 1]),
         (Refusal { record: Some(1), ..no(10, 56) }, with(&DATA, 48, 3)),
@@ -262,7 +267,7 @@ fn items_not_asked_for_are_not_fed() {
     assert_eq!(items.by_ref().take(2).count(), 2);
     let used = items.used();
     assert_eq!((used, connection.held()), (17 + 66, &[][..]));
-    assert_eq!(connection.items(&stream[used..]).count(), 4);
+    assert_eq!(connection.items(&stream[used..]).count(), 5);
 }
 
 #[test]

@@ -15,13 +15,8 @@ mod gateway;
 const KNOWN: &[u64] = &[356_307_042_441_013];
 
 /// What a unit sends, and what is answered to each.
-const SENT: [(&[u8], &[u8]); 5] = [
-    (LOGIN, &[1]),
-    (CODEC8, &[0, 0, 0, 1]),
-    (CODEC12_RESPONSE, &[]),
-    (CODEC13_MESSAGE, &[]),
-    (CODEC16, &[0, 0, 0, 2]),
-];
+const SENT: [(&[u8], &[u8]); 5] =
+    [(LOGIN, &[1]), (CODEC8, &[0, 0, 0, 1]), (CODEC12_RESPONSE, &[]), (CODEC13_MESSAGE, &[]), (CODEC16, &[0, 0, 0, 2])];
 
 /// A gateway in this process. What it keeps goes to `keep`.
 fn start(keep: impl Fn(&str) -> Result<()> + Send + Sync + 'static) -> SocketAddr {

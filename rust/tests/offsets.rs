@@ -35,7 +35,7 @@ fn data_fields_are_refused_at_their_byte() {
     let counts = |first, second| with(&with(&DATA, 1, first), 112, second);
     let over_255_bytes = [&DATA[..103], &[0, 203], &[0; 203], &DATA[108..]].concat();
     let rows = [
-        (6, None, 0, with(&DATA, 0, 0x0D)),
+        (6, None, 0, with(&DATA, 0, 0x0F)),
         (7, None, 1, counts(0, 2)),
         (7, None, 1, counts(0, 0)),
         (7, None, 112, counts(2, 0)),
