@@ -364,13 +364,14 @@ fn put_body(out: &mut [u8], l: Layout, kind: u8, imei: u64, time: u32, text: &[u
     requires { ⌜ 15 + heading l + length (now text) ≤ length (now out) ⌝ }
     ensures { λ r. ⌜ now (out .exit) ≡ sets (now (out .entry)) 10 (bodyBytes l (record { codec = l .codec; type = kind; imei = imei; time = time; text = now (text .entry) })) ⌝ }
 {
-    let ahead = l.imei + l.time;
+    let w = l.imei;
+    let ahead = w + l.time;
     let size = ahead + text.len();
-    let at = 15 + l.imei;
+    let at = 15 + w;
     let start = 15 + ahead;
     wire::put_be(out, 10, 1, kind as u64);
     wire::put_be(out, 11, 4, size as u64);
-    put_packed(out, 15, l.imei, imei);
+    put_packed(out, 15, w, imei);
     wire::put_be(out, at, l.time, time as u64);
     wire::put_bytes(out, start, text);
 }

@@ -44,7 +44,7 @@ same-length c = search needs
 
 returns : tie.Need-returns
 returns c =
-    let a = c .before .before .before .before .before .before .before .before .before .before .before .before .before .before .before .before .before .before .before .before .before .before .before .before .args in
+    let a = c .before .before .before .before .before .before .before .before .before .before .before .before .before .before .before .before .before .before .before .before .before .before .before .args in
     let l = a .l in
     let text = a .text .now in
     let head = c .before .before .before .before .before .before .before .before .before .before .before .before .before .before .put-be2 .ensures ∙ ap (λ (m : List ℕ). sets m 11 (be 4 (heading l + length text))) (c .before .before .before .before .before .before .before .before .before .before .before .before .before .before .before .before .before .before .put-be .ensures) in
