@@ -131,7 +131,7 @@ struct brundilope_command {
     size_t place;
     uint8_t codec; /* 0x0C, 0x0D or 0x0E */
     uint8_t type;  /* 0x05 command, 0x06 response, 0x11 IMEI doesn't match (0x0E only) */
-    uint32_t time; /* of a message of 0x0D, as the unit gives it: its unit is not judged; 0 in 0x0C and 0x0E */
+    uint32_t time; /* of a message of 0x0D, as it was sent: seconds or milliseconds is not judged; 0 in the others */
     uint64_t imei; /* below 10^15, in 0x0E; 0 in 0x0C and 0x0D */
     size_t offset;
     size_t size;

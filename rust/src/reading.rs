@@ -61,7 +61,7 @@ pub struct Command<'a> {
     pub message_type: u8,
     /// The IMEI, below 10^15, in codec 0x0E; 0 in 0x0C and 0x0D.
     pub imei: u64,
-    /// The time of a message of codec 0x0D, as the unit gives it: its unit is not judged. 0 in 0x0C and 0x0E.
+    /// The time of a message of codec 0x0D, as it was sent: seconds or milliseconds is not judged. 0 in 0x0C and 0x0E.
     pub time: u32,
     /// Where the text starts in the input.
     pub offset: usize,
@@ -117,7 +117,8 @@ impl Display for Command<'_> {
 pub enum Heading {
     /// Codec 0x0C: nothing.
     Codec12,
-    /// Codec 0x0D, from unit to server only: the message's time. Any number; the maker's pages do not agree on its unit.
+    /// Codec 0x0D, from unit to server only: the message's time. Any number: by one of the maker's pages it counts
+    /// seconds, by another milliseconds.
     Codec13 {
         /// The time.
         time: u32,

@@ -277,7 +277,7 @@ fn digit_count(w: usize) -> usize
     2 * w - 1
 }
 
-// The number of digits, at most 15. Fifteen by themselves: a count that is known compiles to no loop.
+// The number that at most 15 digits give. Fifteen by themselves: a count that is known compiles to no loop.
 fn digits_of(s: &[u8]) -> u64
     requires { ⌜ length (now s) ≤ 15 ⌝ }
     ensures { λ r. ⌜ imeiOf 0 (length (now (s .entry))) r ≡ bind (repeat (length (now (s .entry))) textDigit) (λ ds. pure (valueFrom 10 0 ds)) (now (s .entry)) 0 ⌝ }
