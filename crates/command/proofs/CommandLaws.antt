@@ -19,7 +19,7 @@ use Rattle.wire.proofs.Enclosed.{enclosed-parts, length-enclosed, codec-enclose
 use Rattle.wire.proofs.Accepting.{pick-either, check-accepted, check-passed, onAccepted-accepted, onAccepted-passed, told-accepted, told-got}
 use Rattle.wire.proofs.Widths.{length-digits}
 use Rattle.wire.proofs.ImeiPacked.{length-packed, packed-exact}
-use Rattle.command.specs.Layouts.{types, layouts, findLayout, layoutOf, heading, member}
+use Rattle.command.specs.Layouts.{types, layouts, findLayout, layoutOf, heading, Narrow, member}
 use Rattle.command.specs.declared.Layout.{Layout}
 use Rattle.command.specs.Commands.{Command, bodyBytes, mismatch, commandField, CommandRules, commandBody, readField}
 use Rattle.command.specs.Writing.{givenTime}
@@ -47,7 +47,7 @@ rows-fit : All (λ l. l .codec < 256) layouts
 unfolding layouts
 rows-fit = search (lit<, tt)
 
-rows-narrow : All (λ l. (l .imei ≤ 8) × (l .time ≤ 4)) layouts
+rows-narrow : All Narrow layouts
 unfolding layouts
 rows-narrow = search (lit≤, tt)
 
@@ -78,13 +78,11 @@ row-within codec low high = first (eqb codec 0x0C) refl
     first true e = subst RowOf (sym (eqb-true codec 0x0C e)) refl
     first false e = second (eqb codec 0x0D) refl (eqb-false codec 0x0C e)
 
-pub row-below : (codec : ℕ) → codec < 0x0C → layoutOf codec ≡ refused (refusal 6)
+pub row-outside : (codec : ℕ) → (0x0C ≤ codec → codec ≤ 0x0E → ⊥) → layoutOf codec ≡ refused (refusal 6)
 unfolding layouts findLayout layoutOf
-row-below codec h = simp (ne-eqb codec 0x0C (λ e. omega (arith, h, e)), ne-eqb codec 0x0D (λ e. omega (arith, h, e)), ne-eqb codec 0x0E (λ e. omega (arith, h, e)))
-
-pub row-above : (codec : ℕ) → 0x0E < codec → layoutOf codec ≡ refused (refusal 6)
-unfolding layouts findLayout layoutOf
-row-above codec h = simp (ne-eqb codec 0x0C (λ e. omega (arith, h, e)), ne-eqb codec 0x0D (λ e. omega (arith, h, e)), ne-eqb codec 0x0E (λ e. omega (arith, h, e)))
+row-outside codec h =
+    let other : (n : ℕ) → 0x0C ≤ n → n ≤ 0x0E → codec ≡ n → ⊥ = λ n low high e. h (omega (arith, low, e)) (omega (arith, high, e)) in
+    simp (ne-eqb codec 0x0C (other 0x0C (lit≤ tt) (lit≤ tt)), ne-eqb codec 0x0D (other 0x0D (lit≤ tt) (lit≤ tt)), ne-eqb codec 0x0E (other 0x0E (lit≤ tt) (lit≤ tt)))
 
 module _ (codec : ℕ) {l : Layout} (row : layoutOf codec ≡ accepted l) where
   pub layout-codec : l .codec ≡ codec
@@ -95,9 +93,9 @@ module _ (codec : ℕ) {l : Layout} (row : layoutOf codec ≡ accepted l) where
   unfolding layoutOf
   codec-fits = subst (λ (x : ℕ). x < 256) layout-codec (found-row (λ l. l .codec < 256) codec layouts rows-fit row .1)
 
-  pub layout-narrow : (l .imei ≤ 8) × (l .time ≤ 4)
+  pub layout-narrow : Narrow l
   unfolding layoutOf
-  layout-narrow = found-row (λ l. (l .imei ≤ 8) × (l .time ≤ 4)) codec layouts rows-narrow row .1
+  layout-narrow = found-row Narrow codec layouts rows-narrow row .1
 
   pub time-fits : {time : ℕ} → time < 256 ^ 4 → givenTime l time < 256 ^ l .time
   unfolding layoutOf
@@ -108,6 +106,10 @@ module _ (codec : ℕ) {l : Layout} (row : layoutOf codec ≡ accepted l) where
   layout-unique other = cc
 
 -- ---- the body
+
+-- what stands before the text has as many bytes as the row says
+pub length-heading : (l : Layout) (imei time : ℕ) → length (packed (l .imei) imei) + length (be (l .time) time) ≡ heading l
+length-heading l imei time = omega (arith, length-packed (l .imei) imei, length-digits 256 (l .time) time)
 
 empty : (text : List ℕ) → length text ≡ 0 → text ≡ []
 empty [] e = refl
@@ -142,7 +144,7 @@ body-sound l s row h =
     meets-next (require (mismatch type text) 14 textAt) _ s n₁₁ (meets-require _ _ _ s n₁₁) (λ u₁₂ n₁₂ k₁₂.
     let counted : size ≡ heading l + length text = omega (arith, leb-true (heading l) size (k₇ .0), k₁₁ .1 .0) in
     let end : n₁₁ ≡ length s =
-    omega (arith, eqb-true (start + size) (length s) (k₆ .0), k₅, k₆ .1, k₇ .1, k₁₀ .1, k₈ .0 .size, k₉ .0 .size, k₁₁ .0 .size, length-packed (l .imei) imei, length-digits 256 (l .time) time) in
+    omega (arith, eqb-true (start + size) (length s) (k₆ .0), k₅, k₆ .1, k₇ .1, k₁₀ .1, k₈ .0 .size, k₉ .0 .size, k₁₁ .0 .size, length-heading l imei time) in
     meets-pure _ s n₁₂ (
       refl,
       record {
@@ -173,7 +175,7 @@ body-complete l c h fits =
     let f₃ = between-split (packed (l .imei) (c .imei)) (f₂ .1) in
     let f₄ = between-split (be (l .time) (c .time)) (f₃ .1) in
     let start = 0 + length (be 1 (c .type)) + length (be 4 size) in
-    let filled : start + size ≡ n = omega (arith, f₄ .1 .size, length-packed (l .imei) (c .imei), length-digits 256 (l .time) (c .time)) in
+    let filled : start + size ≡ n = omega (arith, f₄ .1 .size, length-heading l (c .imei) (c .time)) in
     here-got _ s 0
     ∙ then-got (number 1) _ s 0 (number-exact 1 .complete s 0 _ _ (type-fits l (c .type) (h .typeAllowed)) (f₁ .0))
     ∙ require-got (member (c .type) (types l)) 13 0 _ s _ (h .typeAllowed)

@@ -12,14 +12,12 @@ use Rattle.wire.specs.Answers.{Answer, accepted, refused, onAccepted}
 use Rattle.wire.specs.Imei.{packed}
 use Rattle.wire.proofs.Placed.{Between, between-split, between-moved, between-bytes, between-is, between-whole}
 use Rattle.wire.proofs.Accepting.{onAccepted-accepted, onAccepted-passed}
-use Rattle.wire.proofs.Widths.{length-digits}
-use Rattle.wire.proofs.ImeiPacked.{length-packed}
 use Rattle.frame.specs.Frame.{framed}
 use Rattle.command.specs.declared.Layout.{Layout}
 use Rattle.command.specs.declared.CommandFields.{CommandFields}
 use Rattle.command.specs.Layouts.{layoutOf, heading}
 use Rattle.command.specs.Commands.{Command, bodyBytes, commandField, readCommand, answerCommand, answered, textView}
-use Rattle.command.proofs.CommandLaws.{layout-unique}
+use Rattle.command.proofs.CommandLaws.{layout-unique, length-heading}
 use Rattle.command.proofs.PacketLaws.{command-exact}
 
 text-between : (l : Layout) (c : Command) (p : List ℕ) → p ≡ framed (commandField l c)
@@ -38,7 +36,7 @@ text-between l c p e =
     let h₃ = between-split (packed (l .imei) (c .imei)) (h₂ .1) in
     let h₄ = between-split (be (l .time) (c .time)) (h₃ .1) in
     let start : 15 + length (packed (l .imei) (c .imei)) + length (be (l .time) (c .time)) ≡ 15 + heading l =
-    omega (arith, length-packed (l .imei) (c .imei), length-digits 256 (l .time) (c .time)) in
+    omega (arith, length-heading l (c .imei) (c .time)) in
     between-moved start (h₄ .1 .size ∙ ap (λ (n : ℕ). n + length (c .text)) start) (h₄ .1)
 
 pub text-stands : (limits : Limits) (p : List ℕ) (f : CommandFields) → Bytes p → answerCommand limits p ≡ accepted f

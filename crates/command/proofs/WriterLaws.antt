@@ -14,7 +14,6 @@ use Rattle.wire.specs.Envelope.{enclosed}
 use Rattle.wire.specs.Imei.{packedPair, packed}
 use Rattle.wire.proofs.BufferLaws.{sets-front}
 use Rattle.wire.proofs.Storing.{sets-append, sets-snoc, drop-sets, drop-at-sets}
-use Rattle.wire.proofs.Widths.{length-digits}
 use Rattle.wire.proofs.ImeiPacked.{length-packed}
 use Rattle.wire.proofs.Enclosed.{length-enclosed}
 use Rattle.frame.specs.Frame.{framed}
@@ -22,6 +21,7 @@ use Rattle.frame.proofs.FrameLaws.{length-framed}
 use Rattle.command.specs.declared.Layout.{Layout}
 use Rattle.command.specs.Layouts.{heading}
 use Rattle.command.specs.Commands.{Command, bodyBytes, commandField}
+use Rattle.command.proofs.CommandLaws.{length-heading}
 
 -- ---- the IMEI
 
@@ -58,7 +58,7 @@ module _ (l : Layout) (c : Command) where
   unfolding digits
   length-body =
       let time = be (l .time) (c .time) in
-      omega (arith, length-append (packed (l .imei) (c .imei)) (time ++ c .text), length-append time (c .text), length-packed (l .imei) (c .imei), length-digits 256 (l .time) (c .time))
+      omega (arith, length-append (packed (l .imei) (c .imei)) (time ++ c .text), length-append time (c .text), length-heading l (c .imei) (c .time))
 
   pub length-field : length (commandField l c) ≡ 8 + heading l + length (c .text)
   unfolding commandField
@@ -77,7 +77,7 @@ module _ (l : Layout) (c : Command) where
       let out₂ = sets out₁ 11 size in
       let out₃ = sets out₂ 15 imei in
       let at : 15 + length imei ≡ 15 + l .imei = omega (arith, length-packed (l .imei) (c .imei)) in
-      let start : 15 + length imei + length time ≡ 15 + heading l = omega (arith, length-packed (l .imei) (c .imei), length-digits 256 (l .time) (c .time)) in
+      let start : 15 + length imei + length time ≡ 15 + heading l = omega (arith, length-heading l (c .imei) (c .time)) in
       sym (
       sets-append out 10 type (size ++ (imei ++ (time ++ c .text)))
       ∙ sets-append out₁ 11 size (imei ++ (time ++ c .text))

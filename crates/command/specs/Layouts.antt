@@ -1,5 +1,5 @@
 -- The command codecs: one row for each.
-use Prim.Native.Nat.{ℕ, _+_}
+use Prim.Native.Nat.{ℕ, _+_, _≤_}
 use mathlib.Core.Bool.{Bool, true, false}
 use mathlib.Core.List.{List, [], _∷_}
 use lib.ListN.{getD}
@@ -24,6 +24,10 @@ layouts =
 -- the bytes of IMEI and time before the text, which the size counts
 abbrev pub heading : Layout → ℕ
 heading l = l .imei + l .time
+
+-- an IMEI of at most eight bytes, a time of at most four
+abbrev pub Narrow : Layout → Type 0
+Narrow l = (l .imei ≤ 8) × (l .time ≤ 4)
 
 -- the first row with this codec, else 6
 unfoldable pub findLayout : ℕ → List Layout → Answer Layout

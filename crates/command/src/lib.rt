@@ -14,7 +14,7 @@ ghost use Rattle.wire.specs.Numbers.{numberAt, pick, valueFrom};
 ghost use Rattle.wire.specs.Reading.{_>>=_ as bind, pure, repeat};
 ghost use Rattle.wire.specs.Buffers.{writing, leaving, writtenAs};
 ghost use Rattle.wire.specs.Imei.{packed, textDigit, imeiOf};
-ghost use Rattle.command.specs.Layouts.{layoutOf, rowAs, isCommand, heading, types, member};
+ghost use Rattle.command.specs.Layouts.{layoutOf, rowAs, isCommand, heading, Narrow, types, member};
 ghost use Rattle.command.specs.Commands.{bodyBytes, commandField, mismatch, commandBody, readField, readCommand, answerCommand, textView, textOffset, commandAs, answered};
 ghost use Rattle.command.specs.Writing.{givenImei, givenTime, bytesWithin, commandBytes};
 ghost use Rattle.wire.specs.Limits.{limitsOf};
@@ -138,7 +138,7 @@ fn stopped(number: usize, place: usize) -> BodyWalk
 }
 
 fn read_body(l: Layout, s: &[u8]) -> BodyWalk
-    requires { ⌜ (l .imei ≤ 8) × (l .time ≤ 4) ⌝ }
+    requires { ⌜ Narrow l ⌝ }
     ensures { λ r. ⌜ r ≡ bodyAs (commandBody l (length (now (s .entry))) (now (s .entry)) 0) ⌝ }
 {
     if s.len() < 1 {
@@ -316,7 +316,7 @@ fn given_time(l: Layout, time: u32) -> u32
 
 // The length of the data field.
 fn field_size(l: Layout, text: &[u8]) -> usize
-    requires { ⌜ (l .imei ≤ 8) × (l .time ≤ 4) ⌝ }
+    requires { ⌜ Narrow l ⌝ }
     ensures { λ r. ⌜ r ≡ 8 + heading l + length (now (text .entry)) ⌝ }
 {
     8 + (l.imei + l.time) + text.len()
@@ -400,7 +400,7 @@ fn not_written(number: usize) -> Written
 
 // The field, then the frame around it.
 fn write_planned(l: Layout, kind: u8, imei: u64, time: u32, text: &[u8], out: &mut [u8]) -> Written
-    requires { ⌜ (l .imei ≤ 8) × (l .time ≤ 4) ⌝ }
+    requires { ⌜ Narrow l ⌝ }
     ensures { λ r. ⌜ writtenAs r ≡ writing (planned l kind time (now (text .entry)) (Given.Imei imei)) (now (out .entry)) ⌝ }
     ensures { λ r. ⌜ now (out .exit) ≡ leaving (planned l kind time (now (text .entry)) (Given.Imei imei)) (now (out .entry)) ⌝ }
 {

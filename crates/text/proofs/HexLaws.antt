@@ -69,7 +69,7 @@ unfolding kindFrom isHex digits
 kind-done n i s h = rw (drop-of-length-le s {i = i} h) (ap Hex (add-zero n))
 
 module _ (s : List ℕ) (i : ℕ) (inside : i < length s) where
-  next : drop i s ≡ getD s i 0 ∷ drop (i + 1) s
+  pub next : drop i s ≡ getD s i 0 ∷ drop (i + 1) s
   next = rw (add-one i) (drop-cons s i 0 inside)
 
   pub kind-digit : (n : ℕ) {d : ℕ} → markOf (getD s i 0) ≡ Digit d → kindFrom (n + 1) (drop (i + 1) s) ≡ kindFrom n (drop i s)

@@ -1,48 +1,44 @@
 -- What a loop over a line has left to read.
 use Prim.Native.Nat.{ℕ, zero, suc, _+_, _-_, _≤_, _<_}
-use native.Mathlib.Numerals.{add-one}
 use native.Mathlib.Omega.{arith}
 use mathlib.Core.Path.{_≡_, refl, sym, ap, _∙_}
 use mathlib.Core.Bool.{Bool, true, false}
 use mathlib.Core.List.{List, [], _∷_}
 use lib.ListN.{length, take, drop, getD, drop-of-length-le}
-use lib.Seq.{drop-cons}
 use lib.Dec.{eqb}
 use borrow.Author.Tests.{eq-eqb, ne-eqb}
 use Rattle.wire.specs.Numbers.{pick}
 use Rattle.views.specs.Words.{spaces, firstWord, behindWord, wordAt}
+use Rattle.text.proofs.HexLaws.{next}
 
 module _ (s : List ℕ) (i : ℕ) (inside : i < length s) where
-  next : drop i s ≡ getD s i 0 ∷ drop (i + 1) s
-  next = rw (add-one i) (drop-cons s i 0 inside)
-
   -- ---- spaces
 
   pub spaces-more : getD s i 0 ≡ 32 → spaces (drop i s) ≡ 1 + spaces (drop (i + 1) s)
   unfolding spaces
-  spaces-more e = rw next (simp (eq-eqb _ _ e))
+  spaces-more e = rw (next s i inside) (simp (eq-eqb _ _ e))
 
   pub spaces-same : (getD s i 0 ≡ 32 → ⊥) → spaces (drop i s) ≡ spaces (drop (i + 1) s)
   unfolding spaces
-  spaces-same e = rw next (simp (ne-eqb _ _ e))
+  spaces-same e = rw (next s i inside) (simp (ne-eqb _ _ e))
 
   -- ---- the first word, and what is behind it
 
   first-space : getD s i 0 ≡ 32 → firstWord (drop i s) ≡ []
   unfolding firstWord
-  first-space e = rw next (simp (eq-eqb _ _ e))
+  first-space e = rw (next s i inside) (simp (eq-eqb _ _ e))
 
   first-on : (getD s i 0 ≡ 32 → ⊥) → firstWord (drop i s) ≡ getD s i 0 ∷ firstWord (drop (i + 1) s)
   unfolding firstWord
-  first-on e = rw next (simp (ne-eqb _ _ e))
+  first-on e = rw (next s i inside) (simp (ne-eqb _ _ e))
 
   behind-space : getD s i 0 ≡ 32 → behindWord (drop i s) ≡ drop (i + 1) s
   unfolding behindWord
-  behind-space e = rw next (simp (eq-eqb _ _ e))
+  behind-space e = rw (next s i inside) (simp (eq-eqb _ _ e))
 
   behind-on : (getD s i 0 ≡ 32 → ⊥) → behindWord (drop i s) ≡ behindWord (drop (i + 1) s)
   unfolding behindWord
-  behind-on e = rw next (simp (ne-eqb _ _ e))
+  behind-on e = rw (next s i inside) (simp (ne-eqb _ _ e))
 
 pub spaces-done : (s : List ℕ) (i : ℕ) → length s ≤ i → spaces (drop i s) ≡ 0
 unfolding spaces

@@ -2,17 +2,18 @@
 use mathlib.Core.Path.{sym}
 use borrow.Author.Needs.{needs}
 use Rattle.command.specs.Layouts.{rowAs}
-use Rattle.command.proofs.CommandLaws.{row-below, row-above, row-within}
+use native.Mathlib.Omega.{arith}
+use Rattle.command.proofs.CommandLaws.{row-outside, row-within}
 use Rattle.command.proofs.layout_of.Statement.{statement}
 use Rattle.command.proofs.layout_of.Tie as tie
 
 returns : tie.Need-returns
 unfolding rowAs
-returns c = sym (row-below _ (c .if1 .taken))
+returns c = sym (row-outside _ (λ low high. omega (arith, c .if1 .taken, low)))
 
 returns-2 : tie.Need-returns-2
 unfolding rowAs
-returns-2 c = sym (row-above _ (c .if2 .taken))
+returns-2 c = sym (row-outside _ (λ low high. omega (arith, c .if2 .taken, high)))
 
 width-in-requires : tie.Need-width-in-requires
 width-in-requires c κs = search needs
