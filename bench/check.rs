@@ -201,17 +201,46 @@ fn check_forms(c: &mut Check, random: &mut Random, packet: &[u8]) {
     }
 }
 
-fn check_last_known(c: &mut Check, random: &mut Random, newer: &[u8], codec: u8) {
-    let mut older = input::tcp(&input::data(random, codec, 60, 600, 160).bytes);
-    for _ in 0..30 {
-        let (family, id) = (any_family(random), random.below(260) as u16);
-        same!(c, last_known(family, newer, &older, id));
-        same!(c, last_known(family, &older, newer, id));
+/// The IDs of a record in a whole packet, in their order.
+fn ids_of(p: &[u8], record: usize) -> impl Iterator<Item = u16> + '_ {
+    (0..).map_while(move |n| hand::value_in_packet(FAMILY, p, record, n).ok()).map(|v| v.id)
+}
+
+/// Every ID of a data field, and some that it lacks, in each record and in one that is not there; and with it damaged.
+fn check_ids(c: &mut Check, random: &mut Random, data: &[u8]) {
+    let (whole, gram) = (input::tcp(data), input::udp(random, data));
+    let mut damaged = data.to_vec();
+    input::damage_data(random, &mut damaged);
+    let damaged = input::tcp(&damaged);
+    let records = usize::from(data[1]);
+    for id in (0..records).flat_map(|record| ids_of(&whole, record)).chain(300..310) {
+        for record in 0..=records {
+            let family = any_family(random);
+            same!(c, id_in_packet(family, &whole, record, id));
+            same!(c, id_in_datagram(family, &gram, record, id));
+            same!(c, id_in_packet(family, &damaged, record, id));
+        }
     }
-    input::damage(random, &mut older);
-    let family = any_family(random);
-    same!(c, last_known(family, newer, &older, 300));
-    same!(c, last_known(family, &older, newer, 300));
+}
+
+/// Every ID in the last records of two packets, and some that are in neither; each also with one packet damaged.
+fn check_last_known(c: &mut Check, random: &mut Random, newer: &[u8], older: &[u8]) {
+    let [in_newer, in_older] = [newer, older].map(|p| ids_of(p, usize::from(p[9]) - 1));
+    let mut damaged = older.to_vec();
+    input::damage(random, &mut damaged);
+    for id in in_newer.chain(in_older).chain(300..310) {
+        for older in [older, &damaged] {
+            let family = any_family(random);
+            same!(c, last_known(family, newer, older, id));
+            same!(c, last_known(family, older, newer, id));
+        }
+    }
+}
+
+/// The look-ups by ID on two data fields.
+fn check_two(c: &mut Check, random: &mut Random, newer: &[u8], older: &[u8]) {
+    check_ids(c, random, newer);
+    check_last_known(c, random, &input::tcp(newer), &input::tcp(older));
 }
 
 /// A data field as packet and datagram, whole and damaged; records of up to `most` bytes.
@@ -237,7 +266,8 @@ fn check_data(c: &mut Check, random: &mut Random, codec: u8, (from, to): (usize,
         check_udp(c, random, &p);
     }
     let other = CODECS[random.below(3)].0;
-    check_last_known(c, random, &whole, other);
+    let older = input::tcp(&input::data(random, other, 60, 600, 160).bytes);
+    check_last_known(c, random, &whole, &older);
     check_read(c, random, &whole);
     check_forms(c, random, &whole);
 }
@@ -403,6 +433,16 @@ pub fn check(random: &mut Random) -> Check {
                 check_data(&mut c, random, codec, size, [160, 255, 270, 600][round % 4]);
             }
         }
+    }
+    for (codec, _) in CODECS {
+        for round in 0..180 {
+            let [newer, older] = [codec, CODECS[round % 3].0].map(|codec| input::few_ids(random, codec));
+            check_two(&mut c, random, &newer, &older);
+        }
+        // as many elements as a total of one byte can say, or more where it has two
+        let kinds = if codec == 0x8E { &[1; 400][..] } else { &[1; 255] };
+        let [newer, older] = [(); 2].map(|()| input::of_kinds(random, codec, 1, kinds));
+        check_two(&mut c, random, &newer, &older);
     }
     for codec in [0x0C, 0x0D, 0x0E] {
         for round in 0..300 {

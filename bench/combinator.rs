@@ -4,7 +4,8 @@
 
 use crate::hand::{
     crc, fixed_entries, limits_of, no, record_entry, sum_of_bytes, sum_of_fields, variable_entry, write_packet, Answer,
-    Codec, Codec16, Codec8, Codec8E, Command, Datagram, FormSums, Limits, Packet, Record, Refusal, Value,
+    Codec, Codec16, Codec8, Codec8E, Command, Counted, Datagram, FormSums, Limits, Lookup, Packet, Record, Refusal,
+    Value,
 };
 use nom::bytes::complete::{tag, take};
 use nom::combinator::{all_consuming, iterator, map, recognize, verify};
@@ -32,6 +33,12 @@ impl From<Err<Refusal>> for Refusal {
             Err::Error(r) | Err::Failure(r) => r,
             Err::Incomplete(_) => no(8),
         }
+    }
+}
+
+impl From<Err<Refusal>> for Counted<Refusal> {
+    fn from(e: Err<Refusal>) -> Self {
+        Refusal::from(e).into()
     }
 }
 
@@ -309,21 +316,27 @@ fn by_number<'a>(r: &Judged<'a>, mut n: usize) -> Answer<Element<'a>> {
     Ok((id, 9, value))
 }
 
-fn by_id<'a>(r: &Judged<'a>, wanted: u16) -> Answer<Element<'a>> {
-    for (size, group) in [1usize, 2, 4, 8].into_iter().zip(r.fixed) {
-        let mut elements = iterator(group.bytes, pair(number(r.id), take(size)));
-        if let Some((id, value)) = (&mut elements).find(|&(id, _)| id == wanted) {
-            return Ok((id, size as u8, value));
-        }
-    }
-    let mut elements = iterator(r.variable.bytes, variable_element(r.id));
-    let found = (&mut elements).find(|&(id, _)| id == wanted);
-    found.map(|(id, value)| (id, 9, value)).ok_or(no(16))
-}
-
 /// An element as an answer, with its value's offset in the input.
 fn placed(p: &[u8], (id, kind, value): Element) -> Value {
     Value { id, kind, offset: p.offset(value), size: value.len() }
+}
+
+/// The first element of this ID; each is counted as it is parsed.
+fn by_id(p: &[u8], r: &Judged, wanted: u16) -> Lookup<Value> {
+    let mut passed = 0;
+    for (size, group) in [1usize, 2, 4, 8].into_iter().zip(r.fixed) {
+        let mut elements = iterator(group.bytes, pair(number(r.id), take(size)));
+        let found = (&mut elements).inspect(|_| passed += 1).find(|&(id, _)| id == wanted);
+        if let Some((id, value)) = found {
+            return Ok(Counted { answer: placed(p, (id, size as u8, value)), passed });
+        }
+    }
+    let mut elements = iterator(r.variable.bytes, variable_element(r.id));
+    let found = (&mut elements).inspect(|_| passed += 1).find(|&(id, _)| id == wanted);
+    match found {
+        Some((id, value)) => Ok(Counted { answer: placed(p, (id, 9, value)), passed }),
+        None => Err(Counted { answer: no(16), passed }),
+    }
 }
 
 #[inline(never)]
@@ -351,15 +364,15 @@ pub fn value_in_datagram(family: usize, p: &[u8], record: usize, element: usize)
 }
 
 #[inline(never)]
-pub fn id_in_packet(family: usize, p: &[u8], record: usize, id: u16) -> Answer<Value> {
+pub fn id_in_packet(family: usize, p: &[u8], record: usize, id: u16) -> Lookup<Value> {
     let limits = limits_of(family)?;
-    Ok(placed(p, by_id(&find(limits, frame(limits, p)?.1, record)?, id)?))
+    by_id(p, &find(limits, frame(limits, p)?.1, record)?, id)
 }
 
 #[inline(never)]
-pub fn id_in_datagram(family: usize, p: &[u8], record: usize, id: u16) -> Answer<Value> {
+pub fn id_in_datagram(family: usize, p: &[u8], record: usize, id: u16) -> Lookup<Value> {
     let limits = limits_of(family)?;
-    Ok(placed(p, by_id(&find(limits, datagram(limits, p)?.0, record)?, id)?))
+    by_id(p, &find(limits, datagram(limits, p)?.0, record)?, id)
 }
 
 /// The last record of a TCP data packet.
@@ -370,12 +383,17 @@ fn last(limits: Limits, p: &[u8]) -> Answer<Judged<'_>> {
 }
 
 #[inline(never)]
-pub fn last_known(family: usize, newer: &[u8], older: &[u8], id: u16) -> Answer<(bool, Value)> {
+pub fn last_known(family: usize, newer: &[u8], older: &[u8], id: u16) -> Lookup<(bool, Value)> {
     let limits = limits_of(family)?;
-    if let Ok(element) = by_id(&last(limits, newer)?, id) {
-        return Ok((false, placed(newer, element)));
+    let mut before = 0;
+    for (older, p) in [(false, newer), (true, older)] {
+        let judged = last(limits, p).map_err(|answer| Counted { answer, passed: before })?;
+        match by_id(p, &judged, id) {
+            Ok(f) => return Ok(Counted { answer: (older, f.answer), passed: before + f.passed }),
+            Err(missed) => before += missed.passed,
+        }
     }
-    Ok((true, placed(older, by_id(&last(limits, older)?, id)?)))
+    Err(Counted { answer: no(16), passed: before })
 }
 
 // ---- all values, in owned records

@@ -75,6 +75,15 @@ fn elements(random: &mut Random, codec: u8, id: usize, mut room: usize) -> Vec<E
     all
 }
 
+/// The bytes of an ID, of a count, and of a record without elements.
+fn widths(codec: u8) -> (usize, usize, usize) {
+    match codec {
+        0x08 => (1, 1, 30),
+        0x8E => (2, 2, 38),
+        _ => (2, 1, 32),
+    }
+}
+
 /// A number of one or two bytes.
 fn put(b: &mut Vec<u8>, width: usize, n: usize) {
     b.extend(&(n as u16).to_be_bytes()[2 - width..]);
@@ -107,11 +116,7 @@ fn record(random: &mut Random, b: &mut Vec<u8>, codec: u8, id: usize, count: usi
 /// A data field of `from` to `to` bytes, or a few fewer; its records have 60 to `most` bytes.
 pub fn data(random: &mut Random, codec: u8, from: usize, to: usize, most: usize) -> Data {
     let size = random.range(from, to);
-    let (id, count, least) = match codec {
-        0x08 => (1, 1, 30),
-        0x8E => (2, 2, 38),
-        _ => (2, 1, 32),
-    };
+    let (id, count, least) = widths(codec);
     let mut out = Data { bytes: vec![codec, 0], records: 0, elements: 0, last_id: 0 };
     loop {
         let left = size - 1 - out.bytes.len();
@@ -154,7 +159,7 @@ pub fn alike(random: &mut Random, records: usize, values: usize) -> Vec<u8> {
 /// A data field whose records have values of these kinds, in packet order, no ID twice in a record. A variable value
 /// (kind 9) is a text of 8 to 20 bytes.
 pub fn of_kinds(random: &mut Random, codec: u8, records: usize, kinds: &[usize]) -> Vec<u8> {
-    let (id, count) = if codec == 0x8E { (2, 2) } else { (1, 1) };
+    let (id, count, _) = widths(codec);
     let mut b = vec![codec, records as u8];
     for _ in 0..records {
         let mut elements: Vec<Element> = vec![];
@@ -167,6 +172,26 @@ pub fn of_kinds(random: &mut Random, codec: u8, records: usize, kinds: &[usize])
             };
             let value = if kind == 9 { text(random) } else { random.bytes(kind) };
             elements.push((kind, new, value));
+        }
+        record(random, &mut b, codec, id, count, &elements);
+    }
+    b.push(records as u8);
+    b
+}
+
+/// A data field of one to four records with up to twelve elements, or with none. There are eight IDs, so that some come
+/// twice in a record and some not at all.
+pub fn few_ids(random: &mut Random, codec: u8) -> Vec<u8> {
+    let (id, count, _) = widths(codec);
+    let kinds = if codec == 0x8E { &[1, 2, 4, 8, 9][..] } else { &[1, 2, 4, 8] };
+    let records = random.range(1, 4);
+    let mut b = vec![codec, records as u8];
+    for _ in 0..records {
+        let mut elements: Vec<Element> = vec![];
+        for _ in 0..random.below(13) {
+            let kind = kinds[random.below(kinds.len())];
+            let size = if kind == 9 { random.below(6) } else { kind };
+            elements.push((kind, random.below(8) as u16, random.bytes(size)));
         }
         record(random, &mut b, codec, id, count, &elements);
     }

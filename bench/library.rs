@@ -1,7 +1,7 @@
 //! The library's C calls, its Rust crate where everything in a packet or on a connection is asked for, and the
 //! hand-written answers in the same shape.
 
-use crate::hand::{self, sum_of_bytes, sum_of_fields, sum_of_received, Answer, Connection};
+use crate::hand::{self, sum_of_bytes, sum_of_fields, sum_of_received, Answer, Connection, Lookup};
 use brundilope::{Contents, DataDatagram, DataPacket, Family, Item, Records};
 
 /// Where an input is refused. The other sides do not work it out, so that it is not compared.
@@ -50,7 +50,9 @@ answer!(Record {
     elements: usize
 });
 answer!(Value { id: u16, kind: u8, offset: usize, size: usize });
-answer!(Known { older: bool, id: u16, kind: u8, offset: usize, size: usize });
+// flat: in C the fields before the last are a value of their own, in the same places
+answer!(Found { id: u16, kind: u8, offset: usize, size: usize, passed: usize });
+answer!(Known { older: bool, id: u16, kind: u8, offset: usize, size: usize, passed: usize });
 answer!(Line { timestamp: u64, longitude: i32, latitude: i32, speed: u16, elements: usize, start: usize });
 answer!(LineElement { id: u16, tag: bool, value: u64, size: usize, next: usize });
 answer!(Taken { used: usize, item: u8, imei: u64, size: usize, fill: usize, phase: u8 });
@@ -110,8 +112,8 @@ calls! {
     record_in_datagram = brundilope_record_in_datagram(family: usize, p: bytes, record: usize) -> Record;
     value_in_packet = brundilope_value_in_packet(family: usize, p: bytes, record: usize, element: usize) -> Value;
     value_in_datagram = brundilope_value_in_datagram(family: usize, p: bytes, record: usize, element: usize) -> Value;
-    id_in_packet = brundilope_id_in_packet(family: usize, p: bytes, record: usize, id: u16) -> Value;
-    id_in_datagram = brundilope_id_in_datagram(family: usize, p: bytes, record: usize, id: u16) -> Value;
+    id_in_packet = brundilope_id_in_packet(family: usize, p: bytes, record: usize, id: u16) -> Found;
+    id_in_datagram = brundilope_id_in_datagram(family: usize, p: bytes, record: usize, id: u16) -> Found;
     last_known = brundilope_last_known(family: usize, newer: bytes, older: bytes, id: u16) -> Known;
     form_of_packet = brundilope_form_of_packet(family: usize, p: bytes, out: buffer) -> Written;
     form_of_datagram = brundilope_form_of_datagram(family: usize, p: bytes, out: buffer) -> Written;
@@ -291,7 +293,26 @@ shape!(hand::Record, a => Record {
     elements: a.elements
 });
 shape!(hand::Value, a => Value { id: a.id, kind: a.kind, offset: a.offset, size: a.size });
-shape!((bool, hand::Value), a => Known {
+
+/// The same for a look-up by ID: with its count, a refusal too.
+macro_rules! counted {
+    ($from:ty, $value:ident => $answer:ident { $($field:ident: $e:expr),* }) => {
+        shape!($from, $value => $answer { $($field: $e),* });
+
+        impl From<Lookup<$from>> for $answer {
+            fn from(a: Lookup<$from>) -> Self {
+                let (answer, passed) = match a {
+                    Ok(found) => (Ok(found.answer), found.passed),
+                    Err(refused) => (Err(refused.answer), refused.passed),
+                };
+                $answer { passed, ..answer.into() }
+            }
+        }
+    };
+}
+
+counted!(hand::Value, a => Found { id: a.id, kind: a.kind, offset: a.offset, size: a.size });
+counted!((bool, hand::Value), a => Known {
     older: a.0, id: a.1.id, kind: a.1.kind, offset: a.1.offset, size: a.1.size
 });
 

@@ -7,9 +7,10 @@ DRIVER answers the calls for C, VIEWS those that give views. First the examples
 and the edges of the rules, with the answers the papers give, then N
 generated lines. What family 1 accepts is asked for in family 2, too, which has to
 give the same. Each program is started anew for each batch, gets its lines on its
-standard input and must answer each with one line. Exit 1 on a difference, and if
-a refusal that the papers let a call give was never reached, or only with offsets
-that tell nothing.
+standard input and must answer each with one line. Exit 1 on a difference, on a TLV
+form of more than four times the bytes of its TCP packet, and if a refusal that the
+papers let a call give, or a way in which a look-up by ID can end, was never reached,
+or only with offsets or numbers that tell nothing.
 """
 
 import argparse
@@ -31,6 +32,7 @@ SHOWN_TEXT = 6000               # characters of a line
 BATCH_LINES = 2000
 BATCH_TIME = 900                # seconds for a batch
 TOLD_LINES = 100_000            # lines between two notes on how far it is
+MOST_TIMES = 4                  # a TLV form has at most so many times the bytes of its TCP packet (request 8)
 
 
 class Comparison:
@@ -40,6 +42,7 @@ class Comparison:
         self.across = 0
         self.expected = 0
         self.differences = 0
+        self.longest = self.closest = (0, 1)    # a TLV form's bytes and its TCP packet's
         self.coverage = coverage.Coverage()
         self.begin = time.monotonic()
 
@@ -69,7 +72,20 @@ class Comparison:
         whole = reference.flat(line, own)
         if other != whole:
             self.difference(where, line, reference=whole, program=other)
+        else:
+            self.form(where, line, other)
         return refusal
+
+    def form(self, where, line, answer):
+        """Holds a TLV form to four times its packet."""
+        sizes = form_sizes(line, answer)
+        if sizes is None:
+            return
+        form, packet = sizes
+        if form > MOST_TIMES * packet:
+            self.difference(f"{where}: a form of {form} bytes, of a packet of {packet}", line, program=answer)
+        self.longest = max(self.longest, sizes)
+        self.closest = max(self.closest, sizes, key=lambda pair: pair[0] / pair[1])
 
     def in_family_2(self, program, items):
         """Items: (where, line, what family 1 was answered), in family 2."""
@@ -119,6 +135,18 @@ class Comparison:
             self.batch(items)
 
 
+def form_sizes(line, answer):
+    """How many bytes a TLV form and its TCP packet have, where one is written from the other or from a datagram, which
+    has more around the same records; else None."""
+    name, *words = line.split()
+    if name not in ("form_of_packet", "form_of_datagram", "packet_of_form") or not answer.startswith("written"):
+        return None
+    given, size = len(words[1]) // 2, int(answer.split()[4])
+    if name == "packet_of_form":
+        return given, size
+    return size, given - generate.AROUND[name.removeprefix("form_of_")] + generate.AROUND["packet"]
+
+
 def accepted_in_1(line, refusal):
     """Does family 1 accept the input of a line, if with a number or a buffer that does not fit it?"""
     name, *words = line.split(" ", 2)
@@ -163,6 +191,8 @@ def main():
         print(f"a program could not be run to its end: {error}")
         return 1
     complete = comparison.coverage.report()
+    for said, (form, packet) in (("most bytes", comparison.longest), ("most times its packet", comparison.closest)):
+        print(f"TLV form of the {said}: {form} bytes, packet {packet} bytes, {form / packet:.4f} times")
     seconds = time.monotonic() - comparison.begin
     print(f"{comparison.compared} lines compared ({options.count} generated with seed {options.seed}, "
           f"{comparison.expected} with an answer from the papers), {comparison.across} asked in family 2 again, "

@@ -6,7 +6,10 @@ where the place has the same offset in every input, with that one; else with two
 at least, since one alone could come from a fixed number. Only answers that show
 an offset count for this. A field of several bytes has to be missing as a whole
 and in part, so that its start is told from the end of the bytes. A call on
-commands has to reach all this with each codec of them by itself.
+commands has to reach all this with each codec of them by itself. A look-up by ID
+has to end in every way that decides how many elements it passes, with a number
+that tells something in the same sense. A form of more than three times its packet
+has to be written, so that it tells something if none has more than four times.
 """
 
 from collections import Counter, defaultdict
@@ -178,6 +181,31 @@ AFTER = ("no bytes", "more", "item", "item, bytes left", "refusal", "refusal, by
 FEEDS = [f"{before}: {after}" for before in BEFORE for after in AFTER]
 COMMAND_FEEDS = [f"{before}: {after}" for before in ("between packets", "in a packet") for after in AFTER[2:]]
 
+# How a look-up by ID ends, and how many elements it passes then (request 8); None where that depends on the input.
+PASSED = {"found first": 1, "found later": None, "none of some": None, "none of none": 0, "no such record": 0,
+          "refused": 0}
+NOT_THERE = ("none of some", "none of none")
+
+
+def both_passed(newer, older):
+    """The same for a last-known look-up, by how one in each packet's last record ends. The older packet is judged only
+    if the ID is not in the newer."""
+    if newer not in NOT_THERE:
+        return PASSED[newer]
+    return None if None in (PASSED[newer], PASSED[older]) else PASSED[newer] + PASSED[older]
+
+
+# The ways of a last-known look-up: all of them, those with an answer from the older packet, and the others.
+IN_LAST = tuple(way for way in PASSED if way != "no such record")
+BOTH_PASSED = {f"newer {newer}, older {older}": both_passed(newer, older) for newer in IN_LAST for older in IN_LAST}
+IN_OLDER = [f"newer {newer}, older {older}" for newer in NOT_THERE for older in IN_LAST if older not in NOT_THERE]
+IN_NEWER = [way for way in BOTH_PASSED if way not in IN_OLDER]
+WAYS = PASSED | BOTH_PASSED
+TELLING_NUMBER = "with a number that tells something"
+
+# A form that comes near the bound of request 8.
+LONG_FORM = "over three times its packet"
+
 # The item of a stream that is refused: its offsets count from its start.
 STREAMS = ["login refused", "first packet refused", "later packet refused"]
 
@@ -199,14 +227,14 @@ CALLS = {
     "record_in_datagram": ("datagram", {16: ["record"]}),
     "value_in_packet": ("packet", {16: ["record", "element"]}),
     "value_in_datagram": ("datagram", {16: ["record", "element"]}),
-    "id_in_packet": ("packet", {16: ["record", "ID"]}),
-    "id_in_datagram": ("datagram", {16: ["record", "ID"]}),
+    "id_in_packet": ("packet", {16: ["record", "ID"], None: PASSED}),
+    "id_in_datagram": ("datagram", {16: ["record", "ID"], None: PASSED}),
     "view_in_packet": ("packet", {16: ["record", "element"]}),
     "view_in_datagram": ("datagram", {16: ["record", "element"]}),
     "id_view_in_packet": ("packet", {16: ["record", "ID"]}),
     "id_view_in_datagram": ("datagram", {16: ["record", "ID"]}),
-    "last_known": ("packet", {16: ["ID"]}),
-    "last_known, older": ("packet", {}),
+    "last_known": ("packet", {16: ["ID"], None: IN_NEWER}),
+    "last_known, older": ("packet", {None: IN_OLDER}),
     "last_known_view": ("packet", {16: ["ID"]}),
     "last_known_view, older": ("packet", {}),
     "acknowledge_packet": ("packet", ROOM),
@@ -214,7 +242,7 @@ CALLS = {
     "answer_login": ("login", ROOM),
     "write_command": ("text", {}),
     **by_codec("write_command", "text", ROOM),
-    "form_of_packet": ("packet", ROOM),
+    "form_of_packet": ("packet", ROOM | {None: [*ROOM[None], LONG_FORM]}),
     "form_of_datagram": ("datagram", ROOM),
     "packet_of_form": ("form", ROOM),
     "contents_of_packet": ("packet", ROOM),
@@ -341,21 +369,53 @@ def feed_kind(words, answer):
     return f"{before}: {'item' if number == '0' else 'refusal'}{left}"
 
 
-def kind_of(name, words, answer, number):
-    """How a call's room compares with what is written, where a feed begins and ends, or which item of a stream is
-    refused; None where nothing of this is told."""
+def passed(answer):
+    """How many elements a look-up by ID has passed."""
+    return int(answer.split()[-1])
+
+
+def way_of(answer, refusal):
+    """How a look-up by ID ends, one of PASSED."""
+    if refusal is None:
+        return "found first" if passed(answer) == 1 else "found later"
+    if refusal.number != 16:
+        return "refused"
+    if refusal.place == "record":
+        return "no such record"
+    return "none of some" if passed(answer) else "none of none"
+
+
+def way_in_last(family, packet, ident):
+    """How one ends in a packet's last record."""
+    answer, refusal = reference.evaluate(f"read_packet {family} {packet}")
+    if refusal:
+        return "refused"
+    last = int(answer.split()[-1]) - 1
+    return way_of(*reference.evaluate(f"id_in_packet {family} {packet} {last} {ident}"))
+
+
+def kinds_of(name, family, words, answer, refusal):
+    """How a call's room compares with what is written, and if that is a long form; where a feed begins and ends; which
+    item of a stream is refused; or how a look-up by ID ends."""
+    number = refusal.number if refusal else None
     if answer.startswith("written"):
         _, size, lent = answer.split()
-        return "exact" if len(lent) == 2 * int(size) * reference.unit(name) else "longer"
-    if name.startswith("element_") and number is None:
+        yield "exact" if len(lent) == 2 * int(size) * reference.unit(name) else "longer"
+        if name == "form_of_packet" and 2 * int(size) > 3 * len(words[0]):
+            yield LONG_FORM
+    elif name.startswith("element_") and number is None:
         _, _, tag, _, size, _, lent = answer.split()
-        return "number" if tag == "0" else "exact" if len(lent.strip("-")) == 2 * int(size) else "longer"
-    if name == "feed" and number not in (18, 19):
-        return feed_kind(words, answer)
-    if name == "stream" and number not in (None, 21):
+        yield "number" if tag == "0" else "exact" if len(lent.strip("-")) == 2 * int(size) else "longer"
+    elif name == "feed" and number not in (18, 19):
+        yield feed_kind(words, answer)
+    elif name == "stream" and number not in (None, 21):
         items = answer.split(" lent ")[0]
-        return STREAMS[("login" in items) + ("packet" in items)]
-    return None
+        yield STREAMS[("login" in items) + ("packet" in items)]
+    elif name.startswith("id_in_") and number != 21:
+        yield way_of(answer, refusal)
+    elif name == "last_known" and number != 21:
+        newer, older, ident = words
+        yield f"newer {way_in_last(family, newer, ident)}, older {way_in_last(family, older, ident)}"
 
 
 def rows_of(source):
@@ -367,6 +427,7 @@ class Coverage:
         self.reached = Counter()        # (row of CALLS, family, codec or "kind" or None, number or None, place)
         self.offsets = defaultdict(set)         # that were shown, by the same
         self.row_offsets = defaultdict(set)     # by (row, family, number)
+        self.passed = defaultdict(set)          # numbers of elements, by (row, family, one of WAYS)
         self.indices = {number: Counter() for number in WALK}
 
     def count(self, line, answer, refusal):
@@ -388,9 +449,10 @@ class Coverage:
         if refusal and name not in HIDING:
             self.offsets[row, family, codec, number, place].add(refusal.offset)
             self.row_offsets[row, family, number].add(refusal.offset)
-        kind = kind_of(name, words, answer, number)
-        if kind:
+        for kind in kinds_of(name, family, words, answer, refusal):
             self.reached[row, family, "kind", None, kind] += 1
+            if kind in WAYS:
+                self.passed[row, family, kind].add(passed(answer))
 
     def times(self, rows, families, codec, number, place):
         return sum(self.reached[row, family, codec, number, place] for row in rows for family in families)
@@ -428,6 +490,8 @@ class Coverage:
         for number, place in pairs(more_of(row, family), family):
             if not self.times([row], (family,), None if number else "kind", number, place):
                 yield f"{number or 'a call'}, {place}"
+            elif place in WAYS and not telling(self.passed[row, family, place], {WAYS[place]}):
+                yield f"a call, {place}, {TELLING_NUMBER}"
 
     def untold_of_row(self, row, family):
         """The refusals of a row, over all their places, without an offset that tells something."""
@@ -462,6 +526,9 @@ class Coverage:
             only = fixed(CALLS[row][0], number, place)
             if only is not None and offsets - {only}:
                 yield f"{row} in family {family} with {number}, {place or 'the rule'}, at {min(offsets - {only})}"
+        for (row, family, way), numbers in self.passed.items():
+            if WAYS[way] is not None and numbers - {WAYS[way]}:
+                yield f"{row} in family {family}, {way}, with {min(numbers - {WAYS[way]})} elements passed"
 
     # ------------------------------------------------------------ tables
 
@@ -509,6 +576,15 @@ class Coverage:
         for before in BEFORE:
             cells = [f"{after}: {self.times(feeds, KNOWN, 'kind', None, f'{before}: {after}')}" for after in AFTER]
             yield f"feed, {before}, " + "; ".join(cells)
+        for row in ("id_in_packet", "id_in_datagram"):
+            yield f"{row}, " + "; ".join(f"{way}: {self.times([row], KNOWN, 'kind', None, way)}" for way in PASSED)
+        rows = [row for row in CALLS if call_of(row) == "last_known"]
+        for newer in IN_LAST:
+            cells = [f"{older}: {self.times(rows, KNOWN, 'kind', None, f'newer {newer}, older {older}')}"
+                     for older in IN_LAST]
+            yield f"last_known, newer {newer}, older " + "; ".join(cells)
+        numbers = set().union(*self.passed.values())
+        yield f"elements passed: {len(numbers)} numbers, the greatest {max(numbers, default='none')}"
         for number, indices in self.indices.items():
             yield f"refusal {number} at {len(indices)} record indices, the greatest {max(indices, default='none')}"
         cells = []

@@ -1,9 +1,10 @@
 /* Answers calls from standard input, one a line, as compare/reference.py does: the library's side of the comparison.
- * An answer has every field of its struct, on refusals too. Every input and buffer stands between two guards, and the
- * line says so if a call changed a byte of them or of an input. A call that names a family has its number as the first
- * word. A buffer of 64-bit words is given and shown as its bytes; one that is no whole number of words ends the driver.
- * The bytes of a connection's state are given and shown without the zeros at their end. `driver bare` lends blocks of
- * the exact size instead, so that a tool sees a read or a write past them. */
+ * An answer has every field of its struct, on refusals too; a look-up by ID and the last-known one end theirs with
+ * ` passed N`, the number of elements passed. Every input and buffer stands between two guards, and the line says so if
+ * a call changed a byte of them or of an input. A call that names a family has its number as the first word. A buffer
+ * of 64-bit words is given and shown as its bytes; one that is no whole number of words ends the driver. The bytes of a
+ * connection's state are given and shown without the zeros at their end. `driver bare` lends blocks of the exact size
+ * instead, so that a tool sees a read or a write past them. */
 #include <inttypes.h>
 #include <stdio.h>
 #include <stdlib.h>
@@ -139,9 +140,17 @@ static void value(struct brundilope_value v) {
     printf("%u %u %zu %zu", v.id, v.kind, v.offset, v.size);
 }
 
+static void passed(size_t elements) { printf(" passed %zu", elements); }
+
+static void found(struct brundilope_found f) {
+    value(f.value);
+    passed(f.passed);
+}
+
 static void known(struct brundilope_known k) {
     head("accepted", k.number, k.index, k.place);
     printf("%d %u %u %zu %zu", k.older, k.id, k.kind, k.offset, k.size);
+    passed(k.passed);
 }
 
 static void written(struct brundilope_written w, struct bytes out) {
@@ -192,8 +201,8 @@ static int on_input(const char *call, size_t family, struct bytes p, char **w) {
     else if (!strcmp(call, "record_in_datagram")) record(brundilope_record_in_datagram(family, p.at, p.size, number(w[2])));
     else if (!strcmp(call, "value_in_packet")) value(brundilope_value_in_packet(family, p.at, p.size, number(w[2]), number(w[3])));
     else if (!strcmp(call, "value_in_datagram")) value(brundilope_value_in_datagram(family, p.at, p.size, number(w[2]), number(w[3])));
-    else if (!strcmp(call, "id_in_packet")) value(brundilope_id_in_packet(family, p.at, p.size, number(w[2]), (uint16_t)number(w[3])));
-    else if (!strcmp(call, "id_in_datagram")) value(brundilope_id_in_datagram(family, p.at, p.size, number(w[2]), (uint16_t)number(w[3])));
+    else if (!strcmp(call, "id_in_packet")) found(brundilope_id_in_packet(family, p.at, p.size, number(w[2]), (uint16_t)number(w[3])));
+    else if (!strcmp(call, "id_in_datagram")) found(brundilope_id_in_datagram(family, p.at, p.size, number(w[2]), (uint16_t)number(w[3])));
     else return 0;
     return 1;
 }

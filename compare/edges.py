@@ -83,6 +83,12 @@ def ones_filling(family, room):
     return counts
 
 
+def with_ids(*groups):
+    """A record with elements of these IDs in its groups, variable values of three bytes."""
+    groups = [[(ident, bytes([ident & 255]) * size) for ident in group] for size, group in zip((1, 2, 4, 8, 3), groups)]
+    return Record(bytes(8), 0, bytes(15), 0, 0, groups + [[]] * (5 - len(groups)))
+
+
 def many_elements(codec):
     """A record with as many elements as a count of one byte holds, or more where a count has two; all IDs its own."""
     ones = [(item, bytes([item ^ 0x55])) for item in range(200)]
@@ -134,6 +140,16 @@ def refused(number, index=0, offset=0):
     return f"refused {number} {index} {offset}"
 
 
+def counted(answer, passed):
+    """The answer of a look-up that has passed so many elements."""
+    return f"{answer} passed {passed}"
+
+
+def absent(passed):
+    """That of one for a record or an ID that is not there."""
+    return counted(refused(16), passed)
+
+
 # The answer to an input that is too long.
 TOO_LONG = {"packet": refused(3, offset=4), "datagram": refused(3)}
 
@@ -158,6 +174,33 @@ def missing_at(codec, records, kept):
             break
         at += width
     return at
+
+
+def laid_out(side, codec, records):
+    """The elements of each record of an input, each as an answer has it: ID, kind, offset and size."""
+    event, generation, count, ident = WIDTHS[codec]
+    at = RECORDS_AT[side]
+    for each in records:
+        elements = []
+        at += 24 + event + generation + count
+        for kind, group in zip(KINDS if codec == 0x8E else KINDS[:4], each.groups):
+            at += count
+            for name, value in group:
+                at += ident + (2 if kind == 9 else 0)
+                elements.append((name, kind, at, len(value)))
+                at += len(value)
+        yield elements
+
+
+def found(element):
+    """The answer to a look-up of an element of laid_out; of a last-known one, with the packet's number before it."""
+    return "accepted " + " ".join(map(str, element))
+
+
+def known(which, codec, records, item, passed):
+    """The answer to a last-known look-up that finds an element, by its number, in the last of these records."""
+    *_, elements = laid_out("packet", codec, records)
+    return counted(found((which, *elements[item])), passed)
 
 
 def second_count(side, data):
@@ -591,18 +634,20 @@ def imeis(_):
 def lookups(family):
     """Every element by its number and by its ID; what is not there; the other record's IDs."""
     for codec, side, wrap, _ in each_side(family):
-        records = pair(codec)
+        records, total = pair(codec), 10 if codec == 0x8E else 8
         data = shown(wrap(data_field(codec, records)))
-        for place, each in enumerate(records):
+        for place, (each, laid) in enumerate(zip(records, laid_out(side, codec, records))):
             elements = [item for group in each.groups for item in group]
             for item, (ident, value) in enumerate(elements):
-                for found, other, words in (("view", "value", item), ("id_view", "id", ident)):
-                    yield "element", f"{found}_in_{side} {data} {place} {words}", f"bytes {shown(value)}"
-                    yield "element", f"{other}_in_{side} {data} {place} {words}", None
-                    yield "no such record", f"{other}_in_{side} {data} 2 {words}", refused(16)
-                absent = f"{data} {1 - place} {ident}"
-                yield "the other record's ID", f"id_in_{side} {absent}", refused(16)
-                yield "the other record's ID", f"id_view_in_{side} {absent}", "bytes -"
+                told = found(laid[item])
+                for view, other, words, right, wrong in (("view", "value", item, told, refused(16)),
+                                                         ("id_view", "id", ident, counted(told, item + 1), absent(0))):
+                    yield "element", f"{view}_in_{side} {data} {place} {words}", f"bytes {shown(value)}"
+                    yield "element", f"{other}_in_{side} {data} {place} {words}", right
+                    yield "no such record", f"{other}_in_{side} {data} 2 {words}", wrong
+                words = f"{data} {1 - place} {ident}"
+                yield "the other record's ID", f"id_in_{side} {words}", absent(total)
+                yield "the other record's ID", f"id_view_in_{side} {words}", "bytes -"
             yield "record", f"record_in_{side} {data} {place}", None
             for beyond in (len(elements), len(elements) + 1) + LARGE:
                 yield "no such element", f"value_in_{side} {data} {place} {beyond}", refused(16)
@@ -610,6 +655,7 @@ def lookups(family):
         for beyond in (2, 3) + LARGE:
             yield "no such record", f"record_in_{side} {data} {beyond}", refused(16)
             yield "no such record", f"view_in_{side} {data} {beyond} 0", "bytes -"
+            yield "no such record", f"id_in_{side} {data} {beyond} 0", absent(0)
             yield "no such record", f"id_view_in_{side} {data} {beyond} 0", "bytes -"
 
 
@@ -621,16 +667,19 @@ def long_records(family):
         each = many_elements(codec)
         records = [record(codec), each]
         data = wrap(data_field(codec, records))
+        _, laid = laid_out(side, codec, records)
         elements = [item for group in each.groups for item in group]
-        last = len(elements) - 1
-        for item in (0, 199, 200, 253, 254, last - 1, last):
+        last = 274 if codec == 0x8E else 254
+        for item in (0, 199, 200, 253, 254, *((255, 256, 273, 274) if codec == 0x8E else ())):
             ident, value = elements[item]
             yield "long record", f"view_in_{side} {shown(data)} 1 {item}", f"bytes {shown(value)}"
             yield "long record", f"id_view_in_{side} {shown(data)} 1 {ident}", f"bytes {shown(value)}"
-            yield "long record", f"value_in_{side} {shown(data)} 1 {item}", None
-            yield "long record", f"id_in_{side} {shown(data)} 1 {ident}", None
+            yield "long record", f"value_in_{side} {shown(data)} 1 {item}", found(laid[item])
+            yield "long record", f"id_in_{side} {shown(data)} 1 {ident}", counted(found(laid[item]), item + 1)
         for beyond in (last + 1, last + 257):
             yield "long record", f"value_in_{side} {shown(data)} 1 {beyond}", refused(16)
+        for ident in (300, 399, 420, 65535):
+            yield "long record", f"id_in_{side} {shown(data)} 1 {ident}", absent(last + 1)
         yield "long record", f"record_in_{side} {shown(data)} 1", f"accepted {'0 ' * 10}{len(elements)}"
         form = whole_form(codec, records)
         yield from lending("long record", f"form_of_{side} {shown(data)}", form)
@@ -646,35 +695,170 @@ def twice(family):
         each.groups[3] = [(109, bytes(8)), (106, bytes(range(8)))]
         if codec == 0x8E:
             each.groups[4] = [(106, b"no"), (104, b""), (104, b"no")]
-        data = shown(wrap(data_field(codec, [each])))
-        for ident, value in ((109, b"\x01"), (105, b"\x02"), (106, bytes(range(8))), (104, b"")):
+        data, total = shown(wrap(data_field(codec, [each]))), 12 if codec == 0x8E else 9
+        [laid] = laid_out(side, codec, [each])
+        for ident, value, place in ((109, b"\x01", 1), (105, b"\x02", 2), (106, bytes(range(8)), 9), (104, b"", 11)):
             yield "twice", f"id_view_in_{side} {data} 0 {ident}", f"bytes {shown(value)}"
-            absent = ident == 104 and codec != 0x8E
-            yield "twice", f"id_in_{side} {data} 0 {ident}", refused(16) if absent else None
+            yield ("twice", f"id_in_{side} {data} 0 {ident}",
+                   counted(found(laid[place - 1]), place) if place <= total else absent(total))
         for ident in (256 + 105, 32768 + 105, 65535):
-            yield "wide ID", f"id_in_{side} {data} 0 {ident}", refused(16)
+            yield "wide ID", f"id_in_{side} {data} 0 {ident}", absent(total)
 
 
 def last_known(_):
     """In the newer's last record, else in the older's; the older judged only when needed."""
     for codec in CODECS:
-        newer = tcp(data_field(codec, [record(codec, 0), record(codec, 1)]))
+        newer = tcp(data_field(codec, pair(codec)))
         older = tcp(data_field(0x8E, [record(0x8E, 3), record(0x8E, 2), record(0x8E, 1)]))
-        last = tcp(data_field(0x08, [record(0x08, 2)]))
-        for second, ident, expected in (
-                (older, 20, "10"), (older, 0, None), (older, 60, None), (older, 40, None),
-                (last, 40, "10"), (last, 41, "11"), (last, 0, None), (b"", 20, "10"), (newer, 20, "10")):
+        only = [record(0x08, 2)]
+        last = tcp(data_field(0x08, only))
+        # elements of the newer's last record; the older's has 10, the only one of the last packet 8
+        total = 10 if codec == 0x8E else 8
+        there = known(0, codec, pair(codec), 0, 1)
+        for second, ident, view, expected in (
+                (older, 20, "10", there), (older, 0, "-", absent(total + 10)), (older, 60, "-", absent(total + 10)),
+                (older, 40, "-", absent(total + 10)), (last, 40, "10", known(1, 0x08, only, 0, total + 1)),
+                (last, 41, "11", known(1, 0x08, only, 1, total + 2)), (last, 0, "-", absent(total + 8)),
+                (last, 47, "41" * 8, known(1, 0x08, only, 7, total + 8)), (b"", 20, "10", there),
+                (newer, 20, "10", there), (newer, 0, "-", absent(total + total))):
             words = f"{shown(newer)} {shown(second)} {ident}"
-            yield "last known", f"last_known_view {words}", "bytes " + (expected or "-")
-            yield "last known", f"last_known {words}", None if expected else refused(16)
+            yield "last known", f"last_known_view {words}", f"bytes {view}"
+            yield "last known", f"last_known {words}", expected
         # one refused for its second record's priority, one for its CRC: the newer counts before the older
         records = pair(codec)
         records[1].priority = 3
         first, second = tcp(data_field(codec, records)), changed(last, len(last) - 1, last[-1] ^ 1)
         priority, crc = refused(10, 1, 10 + record(codec).size(codec) + 8), refused(5, offset=len(last) - 4)
-        for packets, expected in (((first, second), priority), ((first, older), priority), ((newer, first), priority),
-                                  ((second, first), crc), ((second, older), crc), ((newer, second), crc)):
-            yield "last known", f"last_known {' '.join(map(shown, packets))} 500", expected
+        for packets, expected, passed in (
+                ((first, second), priority, 0), ((first, older), priority, 0), ((newer, first), priority, total),
+                ((second, first), crc, 0), ((second, older), crc, 0), ((newer, second), crc, total)):
+            yield "last known", f"last_known {' '.join(map(shown, packets))} 500", counted(expected, passed)
+
+
+# ---------------------------------------------------------------- how many elements are passed
+
+def places(family):
+    """The place of each element, the first and the last of each group among them: the IDs go from 101 on in byte order,
+    so that 100 less is the place. In the records around they go the other way, from 112 on."""
+    for codec, side, wrap, _ in each_side(family):
+        def attempt(total, *groups):
+            records = [with_ids(range(112, 100, -1)), with_ids(*groups), with_ids(range(112, 100, -1))]
+            data, laid = shown(wrap(data_field(codec, records))), list(laid_out(side, codec, records))
+            for ident in range(101, 113):
+                yield ("place", f"id_in_{side} {data} 1 {ident}",
+                       counted(found(laid[1][ident - 101]), ident - 100) if ident <= 100 + total else absent(total))
+                for around in (0, 2):
+                    yield ("place", f"id_in_{side} {data} {around} {ident}",
+                           counted(found(laid[around][112 - ident]), 113 - ident))
+            for ident in (0, 100, 113, 256 + 101, 65535):
+                for place, many in enumerate((12, total, 12, 0)):
+                    yield "no such ID", f"id_in_{side} {data} {place} {ident}", absent(many)
+
+        fixed, variable = ((101, 102, 103), (104,), (105, 106), (107, 108, 109, 110)), (111, 112)
+        yield from attempt(12, *fixed, variable) if codec == 0x8E else attempt(10, *fixed)
+        for group in range(5 if codec == 0x8E else 4):
+            yield from attempt(3, *[()] * group, (101, 102, 103))
+
+
+# IDs by group, 7 more than once in one group, in two or in all: the place of the first 7, and the number of elements.
+DOUBLES = (
+    (((7, 7),), 1, 2), (((1, 7, 2, 7),), 2, 4), (((), (1, 7, 7)), 2, 3), (((), (), (), (1, 2, 7, 7)), 3, 4),
+    (((7, 1), (7,)), 1, 3), (((1, 2, 7, 7), (7,)), 3, 5), (((1,), (2, 3, 7), (), (7, 4)), 4, 6),
+    (((), (), (1, 7), (7, 7)), 2, 4), (((7,), (7,), (7,), (7,)), 1, 4), (((7,), (), (), (), (7,)), 1, 2),
+    (((1,), (), (), (2, 7), (7, 7)), 3, 5), (((1,), (2,), (3,), (4,), (5, 7, 7)), 6, 7),
+)
+
+
+def doubles(family):
+    for codec, side, wrap, _ in each_side(family):
+        for groups, place, total in DOUBLES:
+            if codec != 0x8E and groups[4:]:
+                continue
+            records = [with_ids((7, 7, 7)), with_ids(*groups)]
+            data, [_, laid] = shown(wrap(data_field(codec, records))), laid_out(side, codec, records)
+            yield "double", f"id_in_{side} {data} 1 7", counted(found(laid[place - 1]), place)
+            yield "double", f"id_in_{side} {data} 1 8", absent(total)
+
+
+# The most elements of a record in a packet and in a datagram, worked out by hand.
+MOST_ELEMENTS = {(1, 0x08): (112, 112), (1, 0x8E): (72, 72), (1, 0x10): (74, 74),
+                 (2, 0x08): (255, 255), (2, 0x8E): (409, 405), (2, 0x10): (255, 255)}
+
+
+def totals(family):
+    """IDs that are not in their record, so that as many elements are passed as it has; and a record of the most
+    elements, whose IDs are their numbers."""
+    for codec, side, wrap, _ in each_side(family):
+        some, one, none = with_ids((1, 2), (3,), (), (4, 5, 6)), with_ids((7,)), with_ids()
+        data = shown(wrap(data_field(codec, [some, none, one, some, none])))
+        for place, total in enumerate((6, 0, 1, 6, 0, 0)):
+            for ident in (0, 10, 200, 255, 256 + 7, 65535):
+                yield "no such ID", f"id_in_{side} {data} {place} {ident}", absent(total)
+        for ident in (0, 1, 255, 65535):
+            yield "no elements", f"id_in_{side} {shown(wrap(data_field(codec, [none])))} 0 {ident}", absent(0)
+        most = MOST_ELEMENTS[family.number, codec][side == "datagram"]
+        records = [with_ids(range(most))]
+        data, [laid] = shown(wrap(data_field(codec, records))), laid_out(side, codec, records)
+        for item in (0, 1, *(many for many in (127, 128, 254, 255, 256, 257) if many < most), most - 1):
+            yield "most elements", f"id_in_{side} {data} 0 {item}", counted(found(laid[item]), item + 1)
+        for ident in (most, most + 1, 65535):
+            yield "most elements", f"id_in_{side} {data} 0 {ident}", absent(most)
+        yield "most elements", f"id_in_{side} {data} 1 0", absent(0)
+
+
+def endings(codec, many):
+    """Packets by how a look-up of ID 7 in their last record, which has so many other elements, ends: the packet, the
+    element or the refusal, None if the ID is not there, and the number of elements passed."""
+    others, before = range(10, 10 + many), with_ids((7, 8, 9))
+
+    def attempt(last):
+        records = [before, last]
+        _, laid = laid_out("packet", codec, records)
+        return tcp(data_field(codec, records)), laid
+
+    data, laid = attempt(with_ids((7, *others), (7,)))
+    yield data, laid[0], 1
+    later = with_ids(others, (7, 7))
+    data, laid = attempt(later)
+    yield data, laid[many], many + 1
+    yield changed(data, len(data) - 1, data[-1] ^ 1), refused(5, offset=len(data) - 4), 0
+    later.priority = 3
+    yield attempt(later)[0], refused(10, 1, 10 + before.size(codec) + 8), 0
+    yield attempt(with_ids(others[:2], others[2:]))[0], None, many
+    yield attempt(with_ids())[0], None, 0
+    yield b"", refused(1), 0
+
+
+def both_passed(_):
+    """The last-known look-up in each two of these packets and in the same one twice: a newer one that is refused or has
+    the ID is the only one judged, else what the older one passes is added."""
+    for codec, other, many, more in ((0x08, 0x8E, 5, 9), (0x8E, 0x10, 30, 4), (0x10, 0x08, 2, 23)):
+        for newer, first, passed in endings(codec, many):
+            for older, second, behind in (*endings(other, more), (newer, first, passed)):
+                which, told, total = (0, first, passed) if first else (1, second, passed + behind)
+                if isinstance(told, tuple):
+                    told = found((which, *told))
+                yield "passed", f"last_known {shown(newer)} {shown(older)} 7", counted(told or refused(16), total)
+
+
+def most_passed(family):
+    """The last-known look-up in two records of the most elements: how many each has, and both together."""
+    many, more, both_have = {1: (112, 72, 184), 2: (255, 409, 664)}[family.number]
+    first, second = [with_ids(range(many))], [with_ids(range(300, 300 + more))]
+    newer, older = tcp(data_field(0x08, first)), tcp(data_field(0x8E, second))
+    bad = changed(older, len(older) - 1, older[-1] ^ 1)
+    for packets, ident, expected in (
+            ((newer, older), many - 1, known(0, 0x08, first, many - 1, many)),
+            ((newer, older), 300, known(1, 0x8E, second, 0, many + 1)),
+            ((newer, older), 300 + more - 1, known(1, 0x8E, second, more - 1, both_have)),
+            ((newer, older), 299, absent(both_have)), ((older, newer), 299, absent(both_have)),
+            ((newer, newer), 299, absent(many + many)), ((older, older), 299, absent(more + more)),
+            ((older, newer), 0, known(1, 0x08, first, 0, more + 1)),
+            ((older, newer), many - 1, known(1, 0x08, first, many - 1, both_have)),
+            ((newer, bad), 299, counted(refused(5, offset=len(bad) - 4), many)),
+            ((older, bad), 299, counted(refused(5, offset=len(bad) - 4), more)),
+            ((bad, older), 299, counted(refused(5, offset=len(bad) - 4), 0))):
+        yield "most passed", f"last_known {' '.join(map(shown, packets))} {ident}", expected
 
 
 # ---------------------------------------------------------------- writing
@@ -729,23 +913,15 @@ def quarters(*numbers):
 
 def table(side, codec, records):
     """The table of contents of a packet, or of a datagram with HEAD, from the way its records are built."""
-    event, generation, count, ident = WIDTHS[codec]
     start, *head, imei = (10, 0, 0, 0) if side == "packet" else (25, 0xC0DE, 0x695A, int(IMEI))
     parts = [quarters(codec, len(records), *head), words(imei)]
-    for each in records:
-        values = []
-        at = start + 24 + event + generation + count
-        for kind, group in zip(KINDS if codec == 0x8E else KINDS[:4], each.groups):
-            at += count
-            for name, value in group:
-                at += ident + (2 if kind == 9 else 0)
-                values.append(quarters(name, kind, at, len(value)))
-                at += len(value)
+    for each, elements in zip(records, laid_out(side, codec, records)):
         # words 1 and 2: longitude to speed as in the packet from the highest bits down, which is reversed in bytes
-        last = each.priority + 16 * each.generation * generation
+        last = each.priority + 16 * each.generation * WIDTHS[codec][1]
+        size = each.size(codec)
         parts += [each.time[::-1], each.place[7::-1], each.place[:7:-1], number(last, 1),
-                  quarters(each.event, start, at - start, len(values)), *values]
-        start = at
+                  quarters(each.event, start, size, len(elements)), *(quarters(*element) for element in elements)]
+        start += size
     return b"".join(parts)
 
 
@@ -895,6 +1071,42 @@ def form_limits(family):
                 yield rebuilt("many elements", codec, records, unlimited and fits and counted)
 
 
+# By family and codec the packet whose form has the most times its bytes and the one whose form is longest, if that is
+# another: how many values of one byte and of two its records have, its bytes and those of its form. Worked out by hand:
+# an element with a value of one byte has 7 bytes in a form, and 2 in a packet of 08, 3 in the others. No other element
+# has more for each byte, nor have a record's other fields (31, and 30, 38 or 32) or what is around the records (5, and
+# 15). So the records have as many of these as they can; one of two bytes fills up the packet.
+CLOSEST = {
+    (1, 0x08): ((((112,), (106,)), 511, 1593), (((111, 1), (106,)), 512, 1594)),
+    (1, 0x8E): ((((72,), (68,)), 511, 1047), (((71, 1), (68,)), 512, 1048)),
+    (1, 0x10): ((((74,), (70,)), 511, 1075), (((73, 1), (70,)), 512, 1076)),
+    (2, 0x08): ((((255,), (255,)), 1095, 3637), (((254, 1), (255,), (77,)), 1280, 4208)),
+    (2, 0x8E): ((((409,),), 1280, 2899),),
+    (2, 0x10): ((((255,),), 812, 1821), (((254, 1), (145,)), 1280, 2868)),
+}
+
+
+def form_sizes(family):
+    """The forms that come closest to four times their packet, and those of a record with as many values of one kind as
+    it can have. Three and four times the packet's bytes are lent, too, and more, so that a longer form would show."""
+    for codec in CODECS:
+        def attempt(name, records):
+            packet, form = tcp(data_field(codec, records)), whole_form(codec, records)
+            yield from lending(name, f"form_of_packet {shown(packet)}", form,
+                               more=[times * len(packet) for times in (3, 4, 6)])
+            yield from lending(name, f"packet_of_form {shown(form)}", packet)
+
+        for counts, size, need in CLOSEST[family.number, codec]:
+            records = [of_elements(codec, *each) for each in counts]
+            assert (size, need) == (len(tcp(data_field(codec, records))), len(whole_form(codec, records)))
+            yield from attempt("closest form", records)
+        room = room_for_records(family, "packet")
+        for place, kind in enumerate(KINDS if codec == 0x8E else KINDS[:4]):
+            width = WIDTHS[codec][3] + (2 if kind == 9 else kind)
+            many = min(256 ** WIDTHS[codec][2] - 1, ((family.record or room) - LEAST[codec]) // width)
+            yield from attempt("form of one kind", [of_elements(codec, *[0] * place, many)])
+
+
 # ---------------------------------------------------------------- the order of refusals
 
 def walk_orders(family):
@@ -1029,7 +1241,8 @@ def everywhere(family):
             yield reading("everywhere", side, bytes.fromhex(data.strip("-")), answer)
             yield "everywhere", f"record_in_{side} {data} 9", answer
             yield "everywhere", f"value_in_{side} {data} 9 0", answer
-            yield "everywhere", f"id_in_{side} {data} 0 500", answer
+            for words in ("0 1", "0 500", "9 1"):
+                yield "everywhere", f"id_in_{side} {data} {words}", counted(answer, 0)
             yield "everywhere", f"view_in_{side} {data} 0 0", "bytes -"
             yield "everywhere", f"id_view_in_{side} {data} 0 0", "bytes -"
             yield "everywhere", f"form_of_{side} {data} -", answer + " -"
@@ -1045,9 +1258,10 @@ def everywhere(family):
                 continue
             yield "everywhere", f"acknowledge_packet {data} eeeeeeeeee", "written 4 00000000ee"
             good = shown(wrap(data_field(0x08, pair(0x08))))
-            yield "everywhere", f"last_known {data} {good} 20", answer
-            yield "everywhere", f"last_known {good} {data} 500", answer
-            yield "everywhere", f"last_known {good} {data} 20", None
+            yield "everywhere", f"last_known {data} {good} 20", counted(answer, 0)
+            yield "everywhere", f"last_known {good} {data} 500", counted(answer, 8)
+            yield "everywhere", f"last_known {good} {data} 20", known(0, 0x08, pair(0x08), 0, 1)
+            yield "everywhere", f"last_known {good} {data} 27", known(0, 0x08, pair(0x08), 7, 8)
             yield "everywhere", f"last_known_view {data} {good} 20", "bytes -"
             yield "everywhere", f"last_known_view {good} {data} 500", "bytes -"
 
@@ -1073,7 +1287,7 @@ def unknown_families():
 
 
 def unknown_calls(name, answered, words, lent):
-    answer = "bytes -" if answered == "view" else refused(21)
+    answer = {"view": "bytes -", "found": counted(refused(21), 0)}.get(answered, refused(21))
     for family in UNKNOWN:
         yield "unknown family", " ".join((name, str(family), *words)), answer if lent is None else f"{answer} {lent}"
 
@@ -1385,9 +1599,9 @@ def streams(family):
 
 PARTS = (beginnings, frames, checksums, codecs_and_counts, cuts, fields, later_records, counts_and_lengths,
          past_the_record, sizes, wraps, tags, command_rules, few_bytes, times, commands_as_data, imeis, lookups,
-         long_records, twice, last_known, buffers, sample_contents, contents, form_entries, form_rules, form_limits,
-         walk_orders, head_orders, command_orders, everywhere, command_texts, feeds, refused_states, starts,
-         packet_rooms, wanted, streams)
+         long_records, twice, last_known, places, doubles, totals, both_passed, most_passed, buffers, sample_contents,
+         contents, form_entries, form_rules, form_limits, form_sizes, walk_orders, head_orders, command_orders,
+         everywhere, command_texts, feeds, refused_states, starts, packet_rooms, wanted, streams)
 
 
 def in_each_family(parts):

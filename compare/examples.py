@@ -4,9 +4,9 @@ P1 to P13 are the bench sheet of document 01; compare/vectors/006.txt holds the
 streams of document 006, 010.txt the one of Codec 13, which only document 010 has,
 request-2.txt our own, for request 2 of document 02, samples/lines.txt the lines of
 samples. The expected answers are those of the papers, a refusal's offset that of
-request 6 by hand; but TLV forms and the packets behind them are made by the
-reference. The calls are written here without the word of their family;
-`example_calls` puts it in.
+request 6 and the number of elements passed that of request 8 by hand; but TLV forms
+and the packets behind them are made by the reference. The calls are written here
+without the word of their family; `example_calls` puts it in.
 """
 
 import os
@@ -60,6 +60,9 @@ def bench_calls():
         ("sample", f"record_in_datagram {SAMPLE} 0",
          "accepted 1000 1 -1 547146368 100 0 7 5 0 0 1"),
         ("sample", f"value_in_datagram {SAMPLE} 0 0", "accepted 21 1 53 1"),
+        ("sample", f"id_in_datagram {SAMPLE} 0 21", "accepted 21 1 53 1 passed 1"),
+        ("sample", f"id_in_datagram {SAMPLE} 0 3", "refused 16 0 0 passed 1"),
+        ("sample", f"id_in_datagram {SAMPLE} 1 21", "refused 16 0 0 passed 0"),
         ("sample", f"id_view_in_datagram {SAMPLE} 0 21", "bytes 03"),
         ("sample", f"line_of_datagram {SAMPLE} 0 {'ee' * 36}",
          f"written 34 {b'1000,-0.0000001,54.7146368,5,21=3'.hex()}0aeeee"),
@@ -71,9 +74,9 @@ def refused_calls(name, kind, text, refused, offset):
     answer = f"refused {refused} 0 {offset}"
     if kind == "command":
         return [(name, f"read_command {text}", answer), (name, f"command_text {text}", "bytes -")]
-    calls = [f"read_{kind} {text}", f"record_in_{kind} {text} 0", f"value_in_{kind} {text} 0 0",
-             f"id_in_{kind} {text} 0 1"]
+    calls = [f"read_{kind} {text}", f"record_in_{kind} {text} 0", f"value_in_{kind} {text} 0 0"]
     return [(name, call, answer) for call in calls] + [
+        (name, f"id_in_{kind} {text} 0 1", f"{answer} passed 0"),
         (name, f"view_in_{kind} {text} 0 0", "bytes -"), (name, f"id_view_in_{kind} {text} 0 1", "bytes -"),
         (name, f"form_of_{kind} {text} eeee", answer + " eeee"),
         (name, f"contents_of_{kind} {text} {'ee' * 64}", f"{answer} {'ee' * 64}"),
@@ -138,7 +141,8 @@ def data_calls(name, kind, text, codec, records, reply):
             (name, f"packet_of_form {form.hex()} {'ee' * len(packet)}", f"written {len(packet)} {packet.hex()}"),
             (name, f"contents_of_{kind} {text} {'ee' * 512}", None),
             packet_fed(name, packet.hex()),
-            (name, f"record_in_{kind} {text} {records}", "refused 16 0 0")]
+            (name, f"record_in_{kind} {text} {records}", "refused 16 0 0"),
+            (name, f"id_in_{kind} {text} {records} 1", "refused 16 0 0 passed 0")]
 
 
 def record_calls(name, kind, text, number, fields, elements):
@@ -146,7 +150,8 @@ def record_calls(name, kind, text, number, fields, elements):
     values = [item.lower().split("=") for item in elements]
     first = dict(reversed(values))      # of each ID
     calls = [(name, f"record_in_{kind} {text} {number}", f"accepted {' '.join(fields)} {len(values)}"),
-             (name, f"value_in_{kind} {text} {number} {len(values)}", "refused 16 0 0")]
+             (name, f"value_in_{kind} {text} {number} {len(values)}", "refused 16 0 0"),
+             (name, f"id_in_{kind} {text} {number} 65535", f"refused 16 0 0 passed {len(values)}")]
     for place, (ident, value) in enumerate(values):
         for call, word, found in (("view", place, value), ("id_view", ident, first[ident])):
             calls.append((name, f"{call}_in_{kind} {text} {number} {word}", f"bytes {found or '-'}"))

@@ -1,5 +1,5 @@
 #!/usr/bin/env python3
-"""A second implementation of the rules of document 01 and of requests 1, 2 and 4 to 7 of document 02.
+"""A second implementation of the rules of document 01 and of requests 1, 2 and 4 to 8 of document 02.
 
     python3 reference.py     answers calls from standard input, one a line
 
@@ -10,7 +10,8 @@ its wrong byte said are from include/brundilope.h. Billing lines are in lines.py
 Byte strings in a call are lower-case hexadecimal, '-' stands for none. A call
 that names a family has its number as the first word. A buffer of 64-bit words is
 given and shown as its bytes, each word's lowest first; one that is no whole
-number of words is an error. The bytes of a connection's state are given and
+number of words is an error. Look-ups by ID and the last-known one end their answer
+with the number of elements passed. The bytes of a connection's state are given and
 shown without the zeros at their end, a feed's packet buffer is given as its
 length.
 """
@@ -79,12 +80,13 @@ Item = namedtuple("Item", "kind imei packet")
 
 class Refused(Exception):
     """A refusal: its number, its record index and the offset of the offending field
-    in the input. The place, a field or a part of the rule, is no part of an answer:
-    the comparison counts the places it reached."""
+    in the input; and how many elements a look-up by ID has passed, 0 unless an ID is
+    not there. The place, a field or a part of the rule, is no part of an answer: the
+    comparison counts the places it reached."""
 
-    def __init__(self, number, index=0, place="", offset=0):
-        super().__init__(number, index, place, offset)
-        self.number, self.index, self.place, self.offset = number, index, place, offset
+    def __init__(self, number, index=0, place="", offset=0, passed=0):
+        super().__init__(number, index, place, offset, passed)
+        self.number, self.index, self.place, self.offset, self.passed = number, index, place, offset, passed
 
 
 def family_of(number):
@@ -319,27 +321,41 @@ def element_at(packet, number, place):
 
 
 def first_with(record, ident):
-    """The record's first element with this ID, or None."""
-    for element in record.elements:
+    """The record's first element with this ID and its place, from 1; or None and the number of elements. Either number
+    is that of the elements passed (request 8)."""
+    for place, element in enumerate(record.elements, 1):
         if element.id == ident:
-            return element
-    return None
+            return element, place
+    return None, len(record.elements)
+
+
+def found_with(packet, number, ident):
+    """The element, and the number of elements passed."""
+    element, passed = first_with(record_at(packet, number), ident)
+    if element is None:
+        raise Refused(16, place="ID", passed=passed)
+    return element, passed
 
 
 def element_with(packet, number, ident):
-    element = first_with(record_at(packet, number), ident)
-    if element is None:
-        raise Refused(16, place="ID")
-    return element
+    return found_with(packet, number, ident)[0]
 
 
 def last_known(family, newer, older, ident):
-    """Which packet (0 newer, 1 older) and the element in its last record."""
+    """Which packet (0 newer, 1 older), the element in its last record, and the number of elements passed in the last
+    records of the packets judged; a refused one adds none."""
+    passed = 0
     for which, data in enumerate((newer, older)):
-        element = first_with(read_packet(family, data).records[-1], ident)
+        try:
+            record = read_packet(family, data).records[-1]
+        except Refused as refusal:
+            refusal.passed = passed
+            raise
+        element, more = first_with(record, ident)
+        passed += more
         if element is not None:
-            return which, element
-    raise Refused(16, place="ID")
+            return which, element, passed
+    raise Refused(16, place="ID", passed=passed)
 
 
 def part(data, element):
@@ -722,12 +738,12 @@ def command_text(family, data):
 
 
 def last_known_words(family, newer, older, ident):
-    which, element = last_known(family, newer, older, ident)
-    return (which,) + element
+    which, element, passed = last_known(family, newer, older, ident)
+    return (which,) + element, passed
 
 
 def last_known_view(family, newer, older, ident):
-    which, element = last_known(family, newer, older, ident)
+    which, element, _ = last_known(family, newer, older, ident)
     return part((newer, older)[which], element)
 
 
@@ -851,8 +867,9 @@ def stream(number, _, data):
 
 # Each call: its sort of answer, the sorts of its words, its function. The last
 # word of a 'write', 'receipt' or 'element' call, the lent buffer, does not go to the
-# function. That of a 'receipt' call gives the refusal behind it, too, and that of a
-# 'whole' call the answer itself, and the refusal in it or behind it.
+# function. That of a 'found' call gives the number of elements passed, too, that of a
+# 'receipt' call the refusal behind it, and that of a 'whole' call the answer itself,
+# and the refusal in it or behind it.
 CALLS = {
     "read_packet": ("read", "FP", packet_words),
     "read_datagram": ("read", "FP", datagram_words),
@@ -863,13 +880,13 @@ CALLS = {
     "record_in_datagram": ("read", "FPN", record_words(read_datagram)),
     "value_in_packet": ("read", "FPNN", lookup(read_packet, element_at)),
     "value_in_datagram": ("read", "FPNN", lookup(read_datagram, element_at)),
-    "id_in_packet": ("read", "FPNI", lookup(read_packet, element_with)),
-    "id_in_datagram": ("read", "FPNI", lookup(read_datagram, element_with)),
+    "id_in_packet": ("found", "FPNI", lookup(read_packet, found_with)),
+    "id_in_datagram": ("found", "FPNI", lookup(read_datagram, found_with)),
     "view_in_packet": ("view", "FPNN", lookup_view(read_packet, element_at)),
     "view_in_datagram": ("view", "FPNN", lookup_view(read_datagram, element_at)),
     "id_view_in_packet": ("view", "FPNI", lookup_view(read_packet, element_with)),
     "id_view_in_datagram": ("view", "FPNI", lookup_view(read_datagram, element_with)),
-    "last_known": ("read", "FPPI", last_known_words),
+    "last_known": ("found", "FPPI", last_known_words),
     "last_known_view": ("view", "FPPI", last_known_view),
     "acknowledge_packet": ("receipt", "FPP", packet_acknowledgement),
     "acknowledge_datagram": ("write", "FPP", datagram_acknowledgement),
@@ -895,7 +912,8 @@ CALLS = {
     "stream": ("whole", "CSP", stream),
 }
 
-# How many fields an answer of C has besides the number, the index and the offset, all 0 on a refusal.
+# How many fields an answer of C has besides the number, the index and the offset, all 0 on a refusal. The number of
+# elements passed is not among them: a refusal can have one.
 FIELDS = {
     "read_packet": 2, "read_datagram": 6, "read_login": 1, "read_command": 6, "record_in_packet": 11,
     "record_in_datagram": 11, "value_in_packet": 4, "value_in_datagram": 4, "id_in_packet": 4, "id_in_datagram": 4,
@@ -981,6 +999,9 @@ def evaluate(line):
         result = function(*arguments)
         if answered == "read":
             return "accepted " + " ".join(map(str, result)), None
+        if answered == "found":
+            result, passed = result
+            return f"accepted {' '.join(map(str, result))} passed {passed}", None
         if answered == "view":
             return "bytes " + shown(result), None
         if answered == "element":
@@ -995,6 +1016,8 @@ def evaluate(line):
         text = f"refused {numbers_of(refusal)}"
         if answered == "view":
             text = "bytes -"
+        elif answered == "found":
+            text += f" passed {refusal.passed}"
         elif answered in ("write", "receipt", "element"):
             text += " " + shown(lent)
         return text, refusal
@@ -1002,7 +1025,8 @@ def evaluate(line):
 
 def flat(line, answer):
     """An answer as the calls for C give it, every field of it: the number, the index and the offset, all 0 for
-    an accepted input, then the others, all 0 on a refusal. Views are not for C."""
+    an accepted input, then the others, all 0 on a refusal; then the number of elements passed or the lent buffer, as it
+    is. Views are not for C."""
     name = line.split()[0] if line.strip() else ""
     said, *words = answer.split()
     if said == "error" or name not in FIELDS:

@@ -76,10 +76,16 @@
 #define BRUNDILOPE_FAMILY_640 1
 #define BRUNDILOPE_FAMILY_STANDARD 2
 
-/* The most bytes of a packet or a datagram of any family; and of a TLV form, which has at most four times as many as
- * its packet. */
+/* The most bytes of a packet or a datagram: of any family, and of the 640 family. */
 #define BRUNDILOPE_LARGEST 1280
+#define BRUNDILOPE_LARGEST_640 512
+
+/* How long a buffer is always enough for a TLV form, which has at most four times as many bytes as its packet: of a
+ * packet of so many bytes, of any packet, and of any packet of the 640 family. Three times is not enough: the packet of
+ * 1,095 bytes with 255 values of one byte in each of two records, codec 8, has a form of 3,637. */
+#define BRUNDILOPE_FORM_ROOM(packet_len) (4 * (size_t)(packet_len))
 #define BRUNDILOPE_LARGEST_FORM (4 * BRUNDILOPE_LARGEST)
+#define BRUNDILOPE_LARGEST_FORM_640 (4 * BRUNDILOPE_LARGEST_640)
 
 /* The most bytes of all lines of a packet or a datagram together, and so of any one line: at most four times as many as
  * its packet. */
@@ -166,6 +172,14 @@ struct brundilope_value {
     size_t size;
 };
 
+/* What a look-up by ID gives: the element, and how many elements of the record were passed in looking for it: its place
+ * in the record, from 1; the number of all the record's elements where none has the ID (16); 0 where the packet or
+ * datagram is refused or has no such record. */
+struct brundilope_found {
+    struct brundilope_value value;
+    size_t passed;
+};
+
 /* The last known value of an ID. */
 struct brundilope_known {
     size_t number;
@@ -176,6 +190,8 @@ struct brundilope_known {
     uint8_t kind;
     size_t offset; /* in that packet */
     size_t size;
+    size_t passed; /* elements passed in the last records of both packets, as in brundilope_found; where the older is not
+                    * judged or is refused, those of the newer */
 };
 
 /* What a writer gives: how many bytes it wrote (words, where `out` is of words), 0 on a refusal. */
@@ -237,10 +253,11 @@ struct brundilope_value brundilope_value_in_packet(size_t family, const uint8_t 
 struct brundilope_value brundilope_value_in_datagram(size_t family, const uint8_t *p, size_t p_len,
                                                      size_t record, size_t element);
 
-/* The first element of a record with this ID, in byte order. Refusals: those of reading, then 16. */
-struct brundilope_value brundilope_id_in_packet(size_t family, const uint8_t *p, size_t p_len,
+/* The first element of a record with this ID, in byte order, and how many were passed. Refusals: those of reading, then
+ * 16. */
+struct brundilope_found brundilope_id_in_packet(size_t family, const uint8_t *p, size_t p_len,
                                                 size_t record, uint16_t id);
-struct brundilope_value brundilope_id_in_datagram(size_t family, const uint8_t *p, size_t p_len,
+struct brundilope_found brundilope_id_in_datagram(size_t family, const uint8_t *p, size_t p_len,
                                                   size_t record, uint16_t id);
 
 /* The first element with this ID in the last record of the newer TCP data packet; if there is none, in the last record
@@ -454,7 +471,8 @@ struct brundilope_written brundilope_acknowledge_packet(size_t family, const uin
 struct brundilope_written brundilope_acknowledge_datagram(size_t family, const uint8_t *p, size_t p_len,
                                                           uint8_t *out, size_t out_len);
 
-/* ---- writing: BRUNDILOPE_LARGEST bytes are enough for every packet, BRUNDILOPE_LARGEST_FORM for every TLV form */
+/* ---- writing: BRUNDILOPE_LARGEST bytes are enough for every packet, BRUNDILOPE_LARGEST_FORM for every TLV form, and
+ * of the 640 family BRUNDILOPE_LARGEST_640 and BRUNDILOPE_LARGEST_FORM_640 */
 
 /* A command packet. `imei` is 15 ASCII digits for codec 0x0E and empty for 0x0C and 0x0D; `time` is any number for 0x0D
  * and ignored for 0x0C and 0x0E; `text` is any bytes, none with type 0x11. Refusals, in this order: 6, 13, 15, 14 (also
@@ -463,7 +481,8 @@ struct brundilope_written brundilope_write_command(size_t family, uint8_t codec,
                                                    const uint8_t *imei, size_t imei_len, uint32_t time,
                                                    const uint8_t *text, size_t text_len, uint8_t *out, size_t out_len);
 
-/* The TLV form of a TCP data packet or of a datagram. Refusals: those of reading it, then 18. */
+/* The TLV form of a TCP data packet or of a datagram. Refusals: those of reading it, then 18, which cannot occur with a
+ * buffer of BRUNDILOPE_FORM_ROOM(p_len) bytes. */
 struct brundilope_written brundilope_form_of_packet(size_t family, const uint8_t *p, size_t p_len,
                                                     uint8_t *out, size_t out_len);
 struct brundilope_written brundilope_form_of_datagram(size_t family, const uint8_t *p, size_t p_len,

@@ -39,6 +39,38 @@ pub enum Family {
     Standard = 2,
 }
 
+impl Family {
+    /// The most bytes of a TCP packet or datagram of the family.
+    ///
+    /// ```
+    /// use brundilope::{Family, LARGEST};
+    ///
+    /// assert_eq!((Family::Fmx640.largest(), Family::Standard.largest()), (512, LARGEST));
+    /// ```
+    pub const fn largest(self) -> usize {
+        match self {
+            Family::Fmx640 => 512,
+            Family::Standard => 1280,
+        }
+    }
+
+    /// How many bytes are always enough for a TLV form of the family: four times the most that its packet has.
+    ///
+    /// ```
+    /// use brundilope::{form_of_packet, samples, Family};
+    ///
+    /// const FAMILY: Family = Family::Fmx640;
+    /// let mut form = [0; FAMILY.largest_form()];
+    /// assert_eq!(form.len(), 2048);
+    /// let size = form_of_packet(FAMILY, samples::CODEC16, &mut form)?;
+    /// assert!(size <= brundilope::form_room(samples::CODEC16));
+    /// # Ok::<(), brundilope::Refusal>(())
+    /// ```
+    pub const fn largest_form(self) -> usize {
+        4 * self.largest()
+    }
+}
+
 impl TryFrom<u8> for Family {
     type Error = Refusal;
 

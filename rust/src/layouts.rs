@@ -2,7 +2,7 @@
 use core::mem::{offset_of, size_of};
 
 use crate::raw::{
-    Command, Connection, Datagram, Known, Line, LineElement, Login, Packet, Record, Taken, Value, Written,
+    Command, Connection, Datagram, Found, Known, Line, LineElement, Login, Packet, Record, Taken, Value, Written,
 };
 
 fn size_of_field<S, F>(_: fn(&S) -> &F) -> usize {
@@ -41,7 +41,8 @@ fn layouts_are_those_of_the_header() {
             generation, elements
         }
         Value as "value" { number, index, place, id, kind, offset, size }
-        Known as "known" { number, index, place, older, id, kind, offset, size }
+        Found as "found" { value, passed }
+        Known as "known" { number, index, place, older, id, kind, offset, size, passed }
         Written as "written" { number, index, place, written }
         Line as "line" { number, index, place, timestamp, longitude, latitude, speed, elements, start }
         LineElement as "line_element" { number, index, place, id, tag, value, size, next }

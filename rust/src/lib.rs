@@ -62,7 +62,8 @@
 //!
 //! A function that writes puts its result at the start of the lent buffer, gives the number of bytes written and
 //! changes nothing behind them. A refusal changes no byte. [`LARGEST`] bytes are enough for every packet,
-//! [`LARGEST_FORM`] for every TLV form and [`LARGEST_LINES`] for all lines of a packet.
+//! [`LARGEST_FORM`] for every TLV form (of a family [`Family::largest_form`], of a packet [`form_room`]) and
+//! [`LARGEST_LINES`] for all lines of a packet.
 //!
 //! # Building
 //!
@@ -75,8 +76,26 @@
 /// The most bytes of a packet or a datagram of any family.
 pub const LARGEST: usize = 1280;
 
-/// The most bytes of a TLV form: it has at most four times as many as its packet.
+/// How many bytes are always enough for a TLV form: it has at most four times as many as its packet. See
+/// [`form_room`] for the packet that is at hand, and [`Family::largest_form`] for the packets of a family.
 pub const LARGEST_FORM: usize = 4 * LARGEST;
+
+/// How many bytes are always enough for the TLV form of this packet or datagram: four times as many as it has.
+///
+/// Three times is not enough: the packet of 1,095 bytes with 255 values of one byte in each of two records, codec 8, has
+/// a form of 3,637.
+///
+/// ```
+/// use brundilope::{form_of_packet, form_room, samples, Family};
+///
+/// let mut form = vec![0; form_room(samples::CODEC8)];
+/// let size = form_of_packet(Family::Standard, samples::CODEC8, &mut form)?;
+/// form.truncate(size);
+/// # Ok::<(), brundilope::Refusal>(())
+/// ```
+pub const fn form_room(packet: &[u8]) -> usize {
+    4 * packet.len()
+}
 
 /// The most bytes of all billing lines of a packet or a datagram together, and so of any one line: they have at most
 /// four times as many as their packet.
@@ -106,7 +125,7 @@ pub use family::Family;
 pub use lines::{element_in_line, wrong_byte, Line, LineElement, LineElements, LineValue, Lines, RecordLine, Tag};
 pub use lookup::{
     id_in_datagram, id_in_packet, last_known, record_in_datagram, record_in_packet, value_in_datagram, value_in_packet,
-    LastKnown, Record, Source, Value,
+    Found, LastKnown, NotFound, Record, Source, Value,
 };
 pub use reading::{read_command, read_datagram, read_login, read_packet, Command, Datagram, Heading, Login, Packet};
 pub use records::{DataRecord, Records, Values};

@@ -1,4 +1,5 @@
 //! Records and values, by number and by ID.
+use std::error::Error;
 use std::fmt::{Display, Formatter, Result as Printed};
 
 use crate::family::Family;
@@ -37,9 +38,9 @@ pub struct Record {
 /// It prints its ID, and the value as a number or, where the length is variable, as hexadecimal bytes:
 ///
 /// ```
-/// use brundilope::{id_in_packet, samples, Family, Value};
+/// use brundilope::{samples, value_in_packet, Family, Value};
 ///
-/// let voltage = id_in_packet(Family::Standard, samples::CODEC8, 0, 66)?;
+/// let voltage = value_in_packet(Family::Standard, samples::CODEC8, 0, 2)?;
 /// assert_eq!(voltage, Value { id: 66, kind: 2, offset: 43, bytes: &[0x5E, 0x0F], number: Some(24_079) });
 /// assert_eq!(voltage.to_string(), "ID 66: 24079");
 ///
@@ -85,6 +86,59 @@ impl Display for Value<'_> {
     }
 }
 
+/// What a look-up by ID finds: the element, and how many elements of the record it passed.
+#[derive(Clone, Copy, Debug, PartialEq, Eq, Hash)]
+pub struct Found<'a> {
+    /// The element and its value.
+    pub value: Value<'a>,
+    /// Its place in the record, from 1.
+    pub passed: usize,
+}
+
+/// Why a look-up by ID finds nothing, and how many elements it passed.
+///
+/// It turns into its [`Refusal`] where that is wanted, with `?` too, and prints both:
+///
+/// ```
+/// use brundilope::{id_in_packet, samples, Family, Refusal};
+///
+/// fn operator(packet: &[u8]) -> Result<Option<u64>, Refusal> {
+///     Ok(id_in_packet(Family::Standard, packet, 0, 241)?.value.number)
+/// }
+/// assert_eq!(operator(samples::CODEC8), Ok(Some(24_602)));
+/// assert_eq!(operator(b"").unwrap_err().number, 1);
+///
+/// let missing = id_in_packet(Family::Standard, samples::CODEC8, 0, 67).unwrap_err();
+/// assert_eq!((missing.refusal.number, missing.passed), (16, 5));
+/// assert_eq!(missing.to_string(), "refusal 16: no such record, element or ID; elements passed: 5");
+/// ```
+#[derive(Clone, Copy, Debug, PartialEq, Eq, Hash)]
+pub struct NotFound {
+    /// The refusal: the packet's own, or 16.
+    pub refusal: Refusal,
+    /// All elements of the record, where none has the ID; 0 where the packet or datagram is refused or has no such
+    /// record. [`last_known`] adds up those of the packets that it judged.
+    pub passed: usize,
+}
+
+impl Display for NotFound {
+    fn fmt(&self, f: &mut Formatter<'_>) -> Printed {
+        write!(f, "{}; elements passed: {}", self.refusal, self.passed)
+    }
+}
+
+impl Error for NotFound {
+    fn source(&self) -> Option<&(dyn Error + 'static)> {
+        Some(&self.refusal)
+    }
+}
+
+impl From<NotFound> for Refusal {
+    fn from(missing: NotFound) -> Self {
+        missing.refusal
+    }
+}
+
 /// Which of two packets holds the last known value.
 #[derive(Clone, Copy, Debug, PartialEq, Eq, Hash)]
 pub enum Source {
@@ -101,6 +155,9 @@ pub struct LastKnown<'a> {
     pub source: Source,
     /// The value; its offset is in that packet.
     pub value: Value<'a>,
+    /// How many elements were passed: its place in the newer packet's last record, from 1; or all elements of that and
+    /// its place in the older's.
+    pub passed: usize,
 }
 
 fn record(a: raw::Record) -> Result<Record, Refusal> {
@@ -123,6 +180,13 @@ fn record(a: raw::Record) -> Result<Record, Refusal> {
 fn value(a: raw::Value, input: &[u8]) -> Result<Value<'_>, Refusal> {
     data_judged(a.number, a.index, a.place)?;
     Ok(Value::new(input, a.id, a.kind, a.offset, a.size))
+}
+
+fn found(a: raw::Found, input: &[u8]) -> Result<Found<'_>, NotFound> {
+    match value(a.value, input) {
+        Ok(value) => Ok(Found { value, passed: a.passed }),
+        Err(refusal) => Err(NotFound { refusal, passed: a.passed }),
+    }
 }
 
 /// A record of a TCP data packet by its number, from 0. Refusals 1 to 12, then 16.
@@ -183,37 +247,40 @@ pub fn value_in_datagram(family: Family, datagram: &[u8], record: usize, element
     value(raw::value_in_datagram(family, datagram, record, element), datagram)
 }
 
-/// The first value with this ID in a record of a TCP data packet. Refusals 1 to 12, then 16.
+/// The first value with this ID in a record of a TCP data packet, and how many elements were passed. Refusals 1 to 12,
+/// then 16.
 ///
 /// ```
 /// use brundilope::{id_in_packet, samples, Family};
 ///
 /// let operator = id_in_packet(Family::Standard, samples::CODEC8, 0, 241)?;
-/// assert_eq!((operator.kind, operator.bytes), (4, &[0x00, 0x00, 0x60, 0x1A][..]));
-/// # Ok::<(), brundilope::Refusal>(())
+/// assert_eq!((operator.value.kind, operator.value.bytes), (4, &[0x00, 0x00, 0x60, 0x1A][..]));
+/// assert_eq!(operator.passed, 4);
+/// # Ok::<(), brundilope::NotFound>(())
 /// ```
-pub fn id_in_packet(family: Family, packet: &[u8], record: usize, id: u16) -> Result<Value<'_>, Refusal> {
-    value(raw::id_in_packet(family, packet, record, id), packet)
+pub fn id_in_packet(family: Family, packet: &[u8], record: usize, id: u16) -> Result<Found<'_>, NotFound> {
+    found(raw::id_in_packet(family, packet, record, id), packet)
 }
 
-/// The first value with this ID in a record of a datagram. Refusals 1, 3, 4, 15, 6 to 12, then 16.
+/// The first value with this ID in a record of a datagram, and how many elements were passed. Refusals 1, 3, 4, 15, 6 to
+/// 12, then 16.
 ///
 /// ```
 /// use brundilope::{id_in_datagram, samples, Family};
 ///
 /// let voltage = id_in_datagram(Family::Standard, samples::UDP_CODEC8, 0, 66)?;
-/// assert_eq!((voltage.kind, voltage.bytes), (2, &[0x5D, 0xBC][..]));
+/// assert_eq!((voltage.value.kind, voltage.value.bytes, voltage.passed), (2, &[0x5D, 0xBC][..], 3));
 ///
-/// let refusal = id_in_datagram(Family::Standard, samples::UDP_CODEC8, 0, 67).unwrap_err();
-/// assert_eq!(refusal.to_string(), "refusal 16: no such record, element or ID");
-/// # Ok::<(), brundilope::Refusal>(())
+/// let missing = id_in_datagram(Family::Standard, samples::UDP_CODEC8, 0, 67).unwrap_err();
+/// assert_eq!((missing.refusal.number, missing.passed), (16, 3));
+/// # Ok::<(), brundilope::NotFound>(())
 /// ```
-pub fn id_in_datagram(family: Family, datagram: &[u8], record: usize, id: u16) -> Result<Value<'_>, Refusal> {
-    value(raw::id_in_datagram(family, datagram, record, id), datagram)
+pub fn id_in_datagram(family: Family, datagram: &[u8], record: usize, id: u16) -> Result<Found<'_>, NotFound> {
+    found(raw::id_in_datagram(family, datagram, record, id), datagram)
 }
 
 /// The first value with this ID in the last record of the newer TCP data packet; if there is none, in the last record
-/// of the older.
+/// of the older. With it, how many elements of both were passed.
 ///
 /// Refusals 1 to 12 of the newer; 1 to 12 of the older, which is judged only if the newer lacks the ID; then 16.
 ///
@@ -223,11 +290,14 @@ pub fn id_in_datagram(family: Family, datagram: &[u8], record: usize, id: u16) -
 /// let known = last_known(Family::Standard, samples::CODEC8E, samples::CODEC8, 241)?;
 /// assert_eq!(known.source, Source::Older);
 /// assert_eq!(known.value.bytes, [0x00, 0x00, 0x60, 0x1A]);
-/// # Ok::<(), brundilope::Refusal>(())
+/// assert_eq!(known.passed, 5 + 4); // the newer's last record has five elements
+/// # Ok::<(), brundilope::NotFound>(())
 /// ```
-pub fn last_known<'a>(family: Family, newer: &'a [u8], older: &'a [u8], id: u16) -> Result<LastKnown<'a>, Refusal> {
+pub fn last_known<'a>(family: Family, newer: &'a [u8], older: &'a [u8], id: u16) -> Result<LastKnown<'a>, NotFound> {
     let a = raw::last_known(family, newer, older, id);
-    data_judged(a.number, a.index, a.place)?;
+    if let Err(refusal) = data_judged(a.number, a.index, a.place) {
+        return Err(NotFound { refusal, passed: a.passed });
+    }
     let (source, input) = if a.older { (Source::Older, older) } else { (Source::Newer, newer) };
-    Ok(LastKnown { source, value: Value::new(input, a.id, a.kind, a.offset, a.size) })
+    Ok(LastKnown { source, value: Value::new(input, a.id, a.kind, a.offset, a.size), passed: a.passed })
 }

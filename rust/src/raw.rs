@@ -77,6 +77,12 @@ pub struct Value {
 }
 
 #[repr(C)]
+pub struct Found {
+    pub value: Value,
+    pub passed: usize,
+}
+
+#[repr(C)]
 pub struct Known {
     pub number: usize,
     pub index: usize,
@@ -86,6 +92,7 @@ pub struct Known {
     pub kind: u8,
     pub offset: usize,
     pub size: usize,
+    pub passed: usize,
 }
 
 #[repr(C)]
@@ -165,8 +172,8 @@ on_input! {
     record_in_datagram, brundilope_record_in_datagram[family](record: usize) -> Record;
     value_in_packet, brundilope_value_in_packet[family](record: usize, element: usize) -> Value;
     value_in_datagram, brundilope_value_in_datagram[family](record: usize, element: usize) -> Value;
-    id_in_packet, brundilope_id_in_packet[family](record: usize, id: u16) -> Value;
-    id_in_datagram, brundilope_id_in_datagram[family](record: usize, id: u16) -> Value;
+    id_in_packet, brundilope_id_in_packet[family](record: usize, id: u16) -> Found;
+    id_in_datagram, brundilope_id_in_datagram[family](record: usize, id: u16) -> Found;
     read_line, brundilope_read_line[]() -> Line;
     wrong_byte, brundilope_wrong_byte[]() -> usize;
 }

@@ -30,24 +30,51 @@ fn values_are_views_of_the_input() {
     for (n, value) in moved(8).into_iter().enumerate() {
         assert_eq!(packet[value.offset..][..value.bytes.len()], *value.bytes);
         assert_eq!(value_in_packet(Family::Standard, &packet, 1, n), Ok(value));
-        assert_eq!(id_in_packet(Family::Standard, &packet, 1, value.id), Ok(value));
+        assert_eq!(id_in_packet(Family::Standard, &packet, 1, value.id), Ok(Found { value, passed: n + 1 }));
     }
     for (n, value) in moved(23).into_iter().enumerate() {
         assert_eq!(value_in_datagram(Family::Standard, &datagram, 1, n), Ok(value));
-        assert_eq!(id_in_datagram(Family::Standard, &datagram, 1, value.id), Ok(value));
+        assert_eq!(id_in_datagram(Family::Standard, &datagram, 1, value.id), Ok(Found { value, passed: n + 1 }));
     }
 }
 
 #[test]
 fn the_last_known_value_says_its_packet() {
     let newer = packet(&DATA);
-    let found =
-        |source, id| last_known(Family::Standard, &newer, samples::CODEC8, id).map(|k| (k.source == source, k.value));
+    let found = |id| last_known(Family::Standard, &newer, samples::CODEC8, id);
     let tag = Value { offset: 113, ..VALUES[4] };
-    assert_eq!(found(Source::Newer, 0x0405), Ok((true, tag)));
+    assert_eq!(found(0x0405), Ok(LastKnown { source: Source::Newer, value: tag, passed: 5 }));
     let voltage = Value { id: 66, kind: 2, offset: 43, bytes: &[0x5E, 0x0F], number: Some(24_079) };
-    assert_eq!(found(Source::Older, 66), Ok((true, voltage)));
-    assert_eq!(found(Source::Older, 67), Err(Refusal { number: 16, record: None, offset: None }));
+    assert_eq!(found(66), Ok(LastKnown { source: Source::Older, value: voltage, passed: 6 + 3 }));
+    let refusal = Refusal { number: 16, record: None, offset: None };
+    assert_eq!(found(67), Err(NotFound { refusal, passed: 6 + 5 }));
+}
+
+#[test]
+fn a_look_up_by_id_counts_what_it_passed() {
+    let (packet, datagram) = (packet(&DATA), datagram(&DATA));
+    let broken = &packet[..packet.len() - 1];
+    let passed = |number, result: Result<Found, NotFound>| {
+        let missing = result.unwrap_err();
+        assert_eq!(missing.refusal.number, number);
+        missing.passed
+    };
+    assert_eq!(passed(16, id_in_packet(Family::Standard, &packet, 1, 0xFFFF)), 6);
+    assert_eq!(passed(16, id_in_packet(Family::Standard, &packet, 0, VALUES[0].id)), 0); // a record without elements
+    assert_eq!(passed(16, id_in_packet(Family::Standard, &packet, 2, VALUES[0].id)), 0);
+    assert_eq!(passed(4, id_in_packet(Family::Standard, broken, 1, VALUES[0].id)), 0);
+    assert_eq!(passed(16, id_in_datagram(Family::Standard, &datagram, 1, 0xFFFF)), 6);
+    assert_eq!(passed(16, id_in_datagram(Family::Standard, &datagram, 2, VALUES[0].id)), 0);
+    assert_eq!(passed(4, id_in_datagram(Family::Standard, &datagram[1..], 1, VALUES[0].id)), 0);
+    let known = |newer, older, id| match last_known(Family::Standard, newer, older, id) {
+        Ok(known) => (0, known.passed),
+        Err(missing) => (missing.refusal.number, missing.passed),
+    };
+    assert_eq!(known(&packet, broken, VALUES[2].id), (0, 3)); // the older is not judged
+    assert_eq!(known(&packet, broken, 0xFFFF), (4, 6)); // and where it is refused, the newer's stay
+    assert_eq!(known(broken, &packet, VALUES[2].id), (4, 0));
+    assert_eq!(known(&packet, &packet, 0xFFFF), (16, 12));
+    assert_eq!(known(samples::CODEC16, &packet, VALUES[2].id), (0, 4 + 3));
 }
 
 #[test]
@@ -62,12 +89,13 @@ fn a_refusal_says_its_record_and_byte() {
     assert_eq!(record_in_datagram(Family::Standard, d, 0).err(), Some(of_d));
     assert_eq!(value_in_packet(Family::Standard, p, 1, 0).err(), Some(of_p));
     assert_eq!(value_in_datagram(Family::Standard, d, 1, 0).err(), Some(of_d));
-    assert_eq!(id_in_packet(Family::Standard, p, 1, 21).err(), Some(of_p));
-    assert_eq!(id_in_datagram(Family::Standard, d, 1, 21).err(), Some(of_d));
+    assert_eq!(id_in_packet(Family::Standard, p, 1, 21).err(), Some(NotFound { refusal: of_p, passed: 0 }));
+    assert_eq!(id_in_datagram(Family::Standard, d, 1, 21).err(), Some(NotFound { refusal: of_d, passed: 0 }));
     assert_eq!(DataPacket::read(Family::Standard, p, &mut Contents::new()).err(), Some(of_p));
     assert_eq!(DataDatagram::read(Family::Standard, d, &mut Contents::new()).err(), Some(of_d));
-    assert_eq!(last_known(Family::Standard, p, samples::CODEC8, 21).err(), Some(of_p));
-    assert_eq!(last_known(Family::Standard, samples::CODEC8, p, 67).err(), Some(of_p));
+    let known = |newer, older, id| last_known(Family::Standard, newer, older, id).err();
+    assert_eq!(known(p, samples::CODEC8, 21), Some(NotFound { refusal: of_p, passed: 0 }));
+    assert_eq!(known(samples::CODEC8, p, 67), Some(NotFound { refusal: of_p, passed: 5 }));
     assert_eq!(form_of_packet(Family::Standard, p, out), Err(of_p));
     assert_eq!(form_of_datagram(Family::Standard, d, out), Err(of_d));
     assert_eq!(line_of_packet(Family::Standard, p, 9, out), Err(of_p));

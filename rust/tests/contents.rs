@@ -11,7 +11,7 @@ struct LookUps {
     behind: usize,
     record: fn(Family, &[u8], usize) -> Result<Record, Refusal>,
     value: fn(Family, &[u8], usize, usize) -> Result<Value<'_>, Refusal>,
-    id: fn(Family, &[u8], usize, u16) -> Result<Value<'_>, Refusal>,
+    id: fn(Family, &[u8], usize, u16) -> Result<Found<'_>, NotFound>,
 }
 
 const IN_PACKET: LookUps =
@@ -29,9 +29,16 @@ impl LookUps {
             assert_eq!(record.values().len(), fields.elements);
             for (k, value) in record.values().enumerate() {
                 assert_eq!((self.value)(Family::Standard, input, n, k), Ok(value));
-                assert_eq!((self.id)(Family::Standard, input, n, value.id).ok(), record.value(value.id));
+                let found = (self.id)(Family::Standard, input, n, value.id).unwrap();
+                assert_eq!(Some(found.value), record.value(value.id));
+                // the place, from 1, of the first with this ID
+                let first = record.values().position(|v| v.id == value.id).unwrap();
+                assert_eq!(found.passed, first + 1);
+                assert!(found.passed <= k + 1);
             }
             assert_eq!(record.value(0xFFFF), None);
+            let missing = (self.id)(Family::Standard, input, n, 0xFFFF).unwrap_err();
+            assert_eq!((missing.refusal.number, missing.passed), (16, fields.elements));
         }
     }
 }

@@ -62,8 +62,8 @@ fn of_packet(family: Family, p: &[u8]) -> [Given; 9] {
         given(read_packet(family, p)),
         given(record_in_packet(family, p, 0)),
         given(value_in_packet(family, p, 0, 0)),
-        given(id_in_packet(family, p, 0, ID)),
-        given(last_known(family, p, p, ID)),
+        given(id_in_packet(family, p, 0, ID).map_err(Refusal::from)),
+        given(last_known(family, p, p, ID).map_err(Refusal::from)),
         given(read.map(|packet| packet.records())),
         written(|out| form_of_packet(family, p, out)),
         line,
@@ -83,7 +83,7 @@ fn of_datagram(family: Family, p: &[u8]) -> [Given; 9] {
         given(read_datagram(family, p)),
         given(record_in_datagram(family, p, 0)),
         given(value_in_datagram(family, p, 0, 0)),
-        given(id_in_datagram(family, p, 0, ID)),
+        given(id_in_datagram(family, p, 0, ID).map_err(Refusal::from)),
         given(read.map(|datagram| datagram.records())),
         written(|out| form_of_datagram(family, p, out)),
         written(|out| acknowledge_datagram(family, p, out)),
@@ -175,7 +175,7 @@ fn only_records_of_the_640_are_limited() {
     let whole = packet(&data(&[LARGEST - 15]));
     assert_eq!(whole.len(), LARGEST);
     accepted(&of_packet(Family::Standard, &whole));
-    let tag = id_in_packet(Family::Standard, &whole, 0, ID).unwrap();
+    let tag = id_in_packet(Family::Standard, &whole, 0, ID).unwrap().value;
     assert_eq!((tag.bytes.len(), tag.bytes[0]), (LARGEST - 57, b','));
 }
 
@@ -228,7 +228,7 @@ fn last_known_reads_both_packets_in_one_family() {
     let (small, long) = (packet(&data(&[255])), packet(&data(&[256])));
     let known = |family, newer, older, id| match last_known(family, newer, older, id) {
         Ok(known) => Ok(known.source),
-        Err(refusal) => Err(refusal.number),
+        Err(missing) => Err(missing.refusal.number),
     };
     assert_eq!(known(Family::Fmx640, &long, &small, ID), Err(12));
     assert_eq!(known(Family::Fmx640, &small, &long, ID), Ok(Source::Newer));
@@ -285,5 +285,48 @@ fn packets_keep_the_family_of_their_connection() {
     for input in [samples::CODEC8, samples::CODEC12_RESPONSE] {
         let [of_640, of_all] = FAMILIES.map(|family| fed(family, input).item);
         assert_ne!(of_640, of_all);
+    }
+}
+
+/// A data field of codec 8: records with so many values of one byte and of two.
+fn crowded(records: &[(u8, u8)]) -> Vec<u8> {
+    let count = records.len() as u8;
+    let mut data = vec![0x08, count];
+    for &(ones, twos) in records {
+        data.extend([0; 25]);
+        data.extend([ones + twos, ones]);
+        (0..ones).for_each(|n| data.extend([n, 0]));
+        data.push(twos);
+        (0..twos).for_each(|n| data.extend([n, 0, 0]));
+        data.extend([0; 2]);
+    }
+    data.push(count);
+    data
+}
+
+#[test]
+fn four_times_the_packet_holds_its_form_and_three_times_does_not() {
+    let rows = [
+        // the closest of each family, and the longest
+        (Family::Fmx640, crowded(&[(112, 0), (106, 0)]), 511, 1593),
+        (Family::Fmx640, crowded(&[(111, 1), (106, 0)]), 512, 1594),
+        (Family::Standard, crowded(&[(255, 0), (255, 0)]), 1095, 3637),
+        (Family::Standard, crowded(&[(254, 1), (255, 0), (77, 0)]), 1280, 4208),
+        // the shortest for which three times is not enough
+        (Family::Fmx640, crowded(&[(100, 0)]), 245, 736),
+    ];
+    for (family, data, bytes, form) in rows {
+        let packet = packet(&data);
+        assert_eq!(packet.len(), bytes);
+        let mut out = [0; LARGEST_FORM];
+        assert_eq!(form_of_packet(family, &packet, &mut out[..form]), Ok(form));
+        assert!(form <= form_room(&packet) && form <= family.largest_form() && bytes <= family.largest());
+        for short in [form - 1, 3 * bytes] {
+            let refusal = Refusal { number: 18, record: None, offset: None };
+            assert_eq!(form_of_packet(family, &packet, &mut out[..short]), Err(refusal));
+        }
+        let again = &mut [0; LARGEST][..];
+        assert_eq!(packet_of_form(family, &out[..form], again), Ok(bytes));
+        assert_eq!(again[..bytes], packet);
     }
 }

@@ -180,7 +180,7 @@ fn a_writer_refuses_its_arguments_at_no_byte() {
 fn last_known_names_the_byte_of_the_packet_that_was_refused() {
     let (whole, newer) = (packet(&DATA), packet(&with(&DATA, 48, 3)));
     let older = packet(&with(&samples::CODEC16[8..103], 28, 8));
-    let of = |newer, older| last_known(FAMILY, newer, older, 67).unwrap_err();
+    let of = |newer, older| last_known(FAMILY, newer, older, 67).unwrap_err().refusal;
     assert_eq!(of(&newer, &older), Refusal { record: Some(1), ..refusal(10, Some(56)) });
     assert_eq!(of(&whole, &older), Refusal { record: Some(0), ..refusal(11, Some(36)) });
     assert_eq!(of(&whole, &whole), refusal(16, None));

@@ -22,6 +22,7 @@ use Rattle.capi.specs.declared.FedC.{FedC}
 use Rattle.capi.specs.declared.LentC.{LentC}
 use Rattle.capi.specs.declared.RecordC.{RecordC}
 use Rattle.capi.specs.declared.ValueC.{ValueC}
+use Rattle.capi.specs.declared.FoundC.{FoundC}
 use Rattle.capi.specs.declared.KnownC.{KnownC}
 use Rattle.capi.specs.declared.WrittenC.{WrittenC}
 use Rattle.capi.specs.declared.PacketC.{PacketC}
@@ -154,10 +155,24 @@ unfoldable pub flatValue : Answer Value → ValueC
 flatValue (accepted v) = record { number = 0; index = 0; place = 0; id = v .id; kind = v .kind; offset = v .offset; size = v .size }
 flatValue (refused x) = record { number = x .number; index = x .index; place = x .place; id = 0; kind = 0; offset = 0; size = 0 }
 
-unfoldable pub flatKnown : Answer KnownResult → KnownC
-flatKnown (accepted k) =
-    record { number = 0; index = 0; place = 0; older = k .older; id = k .value .id; kind = k .value .kind; offset = k .value .offset; size = k .value .size }
-flatKnown (refused x) = record { number = x .number; index = x .index; place = x .place; older = false; id = 0; kind = 0; offset = 0; size = 0 }
+-- with the number of elements passed, on a refusal too
+unfoldable pub flatFound : Answer Value → ℕ → FoundC
+flatFound found passed = record { value = flatValue found; passed = passed }
+
+unfoldable pub flatKnown : Answer KnownResult → ℕ → KnownC
+flatKnown (accepted k) passed =
+    record {
+      number = 0;
+      index = 0;
+      place = 0;
+      older = k .older;
+      id = k .value .id;
+      kind = k .value .kind;
+      offset = k .value .offset;
+      size = k .value .size;
+      passed = passed;
+    }
+flatKnown (refused x) passed = record { number = x .number; index = x .index; place = x .place; older = false; id = 0; kind = 0; offset = 0; size = 0; passed = passed }
 
 unfoldable pub flatLine : Answer LineFields → LineC
 flatLine (accepted f) =

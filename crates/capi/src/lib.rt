@@ -5,6 +5,7 @@ use connection::Item;
 use connection::Lent;
 use datagram::DatagramAnswer;
 use login::LoginAnswer;
+use lookup::CountedValue;
 use lookup::KnownAnswer;
 use lookup::RecordAnswer;
 use lookup::ValueAnswer;
@@ -21,9 +22,9 @@ ghost use Rattle.datagram.specs.Datagrams.{answerDatagram, udpAcknowledgement};
 ghost use Rattle.login.specs.Login.{readLogin, loginAnswer};
 ghost use Rattle.command.specs.Commands.{answerCommand};
 ghost use Rattle.command.specs.Writing.{commandBytes};
-ghost use Rattle.capi.specs.Flat.{flatStarted, flatFed, flatLent, flatWritten, flatPacket, flatDatagram, flatLogin, flatCommand, flatRecord, flatValue, flatKnown, flatLine, flatElement};
+ghost use Rattle.capi.specs.Flat.{flatStarted, flatFed, flatLent, flatWritten, flatPacket, flatDatagram, flatLogin, flatCommand, flatRecord, flatValue, flatFound, flatKnown, flatLine, flatElement};
 ghost use Rattle.tlv.specs.PacketOf.{formOfPacket, formOfDatagram, packetOfForm};
-ghost use Rattle.lookup.specs.Lookups.{tcpSource, udpSource, recordByNumber, valueByNumber, valueById, lastKnown};
+ghost use Rattle.lookup.specs.Lookups.{tcpSource, udpSource, recordByNumber, valueByNumber, valueById, passedById, lastKnown, passedByLast};
 ghost use Rattle.contents.specs.Contents.{contentsOfPacket, contentsOfDatagram};
 ghost use Rattle.connection.specs.State.{started, gathered, wanted};
 ghost use Rattle.connection.specs.Feeding.{fed, fedInto, packetIn, fedAs, lentAs};
@@ -286,6 +287,12 @@ pub struct ValueC {
 }
 
 #[repr(C)]
+pub struct FoundC {
+    pub value: ValueC,
+    pub passed: usize,
+}
+
+#[repr(C)]
 pub struct KnownC {
     pub number: usize,
     pub index: usize,
@@ -295,6 +302,7 @@ pub struct KnownC {
     pub kind: u8,
     pub offset: usize,
     pub size: usize,
+    pub passed: usize,
 }
 
 fn flat_record(a: RecordAnswer) -> RecordC
@@ -361,6 +369,16 @@ fn flat_value(a: ValueAnswer) -> ValueC
     }
 }
 
+fn flat_found(found: CountedValue) -> FoundC
+    ensures { λ r. ⌜ r ≡ flatFound (valueAs (found .answer)) (found .passed) ⌝ }
+{
+    let answer = found.answer;
+    FoundC {
+        value: flat_value(answer),
+        passed: found.passed,
+    }
+}
+
 #[no_mangle]
 pub extern "C" fn brundilope_record_in_packet(family: usize, p: &[u8], n: usize) -> RecordC
     ensures { λ r. ⌜ r ≡ flatRecord (recordByNumber (tcpSource (limitsOf family) (now (p .entry))) n) ⌝ }
@@ -395,17 +413,17 @@ pub extern "C" fn brundilope_value_in_datagram(
 }
 
 #[no_mangle]
-pub extern "C" fn brundilope_id_in_packet(family: usize, p: &[u8], n: usize, id: u16) -> ValueC
-    ensures { λ r. ⌜ r ≡ flatValue (answerValue (valueById (tcpSource (limitsOf family) (now (p .entry))) n id)) ⌝ }
+pub extern "C" fn brundilope_id_in_packet(family: usize, p: &[u8], n: usize, id: u16) -> FoundC
+    ensures { λ r. ⌜ r ≡ flatFound (answerValue (valueById (tcpSource (limitsOf family) (now (p .entry))) n id)) (passedById (tcpSource (limitsOf family) (now (p .entry))) n id) ⌝ }
 {
-    flat_value(lookup::id_in_packet(family, p, n, id))
+    flat_found(lookup::id_in_packet(family, p, n, id))
 }
 
 #[no_mangle]
-pub extern "C" fn brundilope_id_in_datagram(family: usize, p: &[u8], n: usize, id: u16) -> ValueC
-    ensures { λ r. ⌜ r ≡ flatValue (answerValue (valueById (udpSource (limitsOf family) (now (p .entry))) n id)) ⌝ }
+pub extern "C" fn brundilope_id_in_datagram(family: usize, p: &[u8], n: usize, id: u16) -> FoundC
+    ensures { λ r. ⌜ r ≡ flatFound (answerValue (valueById (udpSource (limitsOf family) (now (p .entry))) n id)) (passedById (udpSource (limitsOf family) (now (p .entry))) n id) ⌝ }
 {
-    flat_value(lookup::id_in_datagram(family, p, n, id))
+    flat_found(lookup::id_in_datagram(family, p, n, id))
 }
 
 #[no_mangle]
@@ -415,9 +433,11 @@ pub extern "C" fn brundilope_last_known(
     older: &[u8],
     id: u16,
 ) -> KnownC
-    ensures { λ r. ⌜ r ≡ flatKnown (answerKnown (lastKnown id (tcpSource (limitsOf family) (now (newer .entry))) (tcpSource (limitsOf family) (now (older .entry))))) ⌝ }
+    ensures { λ r. ⌜ r ≡ flatKnown (answerKnown (lastKnown id (tcpSource (limitsOf family) (now (newer .entry))) (tcpSource (limitsOf family) (now (older .entry))))) (passedByLast id (tcpSource (limitsOf family) (now (newer .entry))) (tcpSource (limitsOf family) (now (older .entry)))) ⌝ }
 {
-    match lookup::last_known(family, newer, older, id) {
+    let known = lookup::last_known(family, newer, older, id);
+    let answer = known.answer;
+    match answer {
         KnownAnswer::Found { older: past, value } => KnownC {
             number: 0,
             index: 0,
@@ -427,6 +447,7 @@ pub extern "C" fn brundilope_last_known(
             kind: value.kind,
             offset: value.offset,
             size: value.size,
+            passed: known.passed,
         },
         KnownAnswer::Refused(r) => KnownC {
             number: r.number,
@@ -437,6 +458,7 @@ pub extern "C" fn brundilope_last_known(
             kind: 0,
             offset: 0,
             size: 0,
+            passed: known.passed,
         },
     }
 }

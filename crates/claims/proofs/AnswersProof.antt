@@ -10,7 +10,7 @@ read-as-said = (refl, (refl, (refl, (refl, (refl, (refl, (refl, (refl, (refl, (r
 
 found-as-said : AsSaid lookups
 unfolding computing lookups
-found-as-said = (refl, (refl, (refl, (refl, (refl, (refl, (refl, (refl, (refl, (refl, (refl, (refl, (refl, (refl, (refl, (refl, (refl, (refl, (refl, (refl, (refl, tt)))))))))))))))))))))
+found-as-said = (refl, (refl, (refl, (refl, (refl, (refl, (refl, (refl, (refl, (refl, (refl, (refl, (refl, (refl, (refl, (refl, (refl, (refl, (refl, (refl, (refl, (refl, (refl, (refl, (refl, tt)))))))))))))))))))))))))
 
 written-as-said : AsSaid writings
 unfolding computing writings

@@ -22,10 +22,10 @@ use Rattle.tlv.specs.PacketOf.{formOfPacket, formOfDatagram, or17, readForm, pa
 use Rattle.wire.specs.Buffers.{writing, leaving, writtenAs}
 use Rattle.command.specs.Writing.{givenImei, packetOf, bytesWithin, commandBytes}
 use Rattle.tlv.specs.Decoding.{entryElement, run, behind, groupsOf, fixedOf, recordsOf, dataOf, decoded}
-use Rattle.element.specs.Elements.{leadSize, locateGroup, locateGroups, fixedSize, elements, nth, firstWith}
+use Rattle.element.specs.Elements.{leadSize, locateGroup, locateGroups, fixedSize, elements, nth, firstWith, passedFor}
 use Rattle.element.specs.Results.{recordResult}
 use Rattle.lookup.specs.Places.{placeRecords}
-use Rattle.lookup.specs.Lookups.{tcpSource, udpSource, placedRecord, recordByNumber, foundIn, valueIn, valueByNumber, valueById, view, viewOffset, valueInLast, inOlder, orElse, lastKnown, knownPlace}
+use Rattle.lookup.specs.Lookups.{tcpSource, udpSource, placedRecord, recordByNumber, foundIn, valueIn, valueByNumber, valueById, orNone, passedById, view, viewOffset, valueInLast, inOlder, orElse, lastKnown, passedInLast, ifNone, passedByLast, knownPlace}
 use Rattle.lookup.specs.Answers.{recordAs, valueResult, answerValue, valueAs, answerKnown, knownAs, knownView}
 use Rattle.contents.specs.Words.{quad, titleWords, recordWords, valueWord}
 use Rattle.contents.specs.Contents.{recordContents, contents, contentsOfPacket, contentsOfDatagram}
@@ -44,5 +44,5 @@ use Rattle.scan.specs.Walking.{lineResult}
 use Rattle.scan.specs.Answers.{answerLine, lineAs, tagBytes, elementResult, answerElement, leavingElement, elementAs}
 
 unfoldable pub computing : Unit {0}
-unfolding onAccepted from told unplaced checkAt limitsOf enclosed codecOf firstCount lastCount inner textDigit readImei packed pairUpTo readPacked numberAt digits valueFrom littleAt le signed andThen _>>=_ _>>_ pure here require span number bytes upTo repeat feedback shift shifts absorb crcFrom crc framed fieldLength fieldOf unframe lastFour widthsOf isDataCodec kinds dataBytes readData dataResult valueSize element group groups fixedFields avlRecord tagged inRecord avlRecords atEnd allRecords elementCount lengthBytes elementBytes groupBytes groupsBytes fixedBytes recordBytes packetBytes readPacket answerPacket acknowledged tcpAcknowledgement packetAs commandField commandBody readField readCommand answerCommand textView textOffset commandAs types layouts findLayout layoutOf answered readLogin isAccepted loginAnswer loginAs readHeader readDatagram answerDatagram acknowledgementBytes udpAcknowledgement datagramAs judgeHeader entryBytes entriesFrom entriesOf fixedEntry elementEntry groupEntries groupsEntries recordsEntries formEntries form formOfPacket formOfDatagram or17 readForm packetWithin packetOfForm writing leaving writtenAs givenImei packetOf bytesWithin commandBytes entryElement run behind groupsOf fixedOf recordsOf dataOf decoded leadSize locateGroup locateGroups fixedSize elements nth firstWith recordResult placeRecords tcpSource udpSource placedRecord recordByNumber foundIn valueIn valueByNumber valueById view viewOffset valueInLast inOlder orElse lastKnown knownPlace recordAs valueResult answerValue valueAs answerKnown knownAs knownView quad titleWords recordWords valueWord recordContents contents contentsOfPacket contentsOfDatagram ones differing needed itemOf judgedPacket judged verdictBy verdict next afterByte taken cons byVerdict stream padded phaseNumber kept fresh started isZero isMore phaseOf heldBy opened countOf judgedAt wanted outcome feeding fed fedInto packetIn itemAs fedAs lentAs decimalIn decimal glyphOf before behindByte onto pieces separated unsignedDegrees degrees isPlain escaped quoted printedText texts lineFields lineBytes allDigits digitsOf noSpareZero readDecimal readUnsigned readDegrees readHex readTag readValue readPrinted onField nextField isTag readElements readFields judgeLine readLine placeIn wrongAt startFrom elementOf elementAt printedOf printedAll recordLine lineOfPacket lineOfDatagram linesOfPacket linesOfDatagram lineResult answerLine lineAs tagBytes elementResult answerElement leavingElement elementAs
+unfolding onAccepted from told unplaced checkAt limitsOf enclosed codecOf firstCount lastCount inner textDigit readImei packed pairUpTo readPacked numberAt digits valueFrom littleAt le signed andThen _>>=_ _>>_ pure here require span number bytes upTo repeat feedback shift shifts absorb crcFrom crc framed fieldLength fieldOf unframe lastFour widthsOf isDataCodec kinds dataBytes readData dataResult valueSize element group groups fixedFields avlRecord tagged inRecord avlRecords atEnd allRecords elementCount lengthBytes elementBytes groupBytes groupsBytes fixedBytes recordBytes packetBytes readPacket answerPacket acknowledged tcpAcknowledgement packetAs commandField commandBody readField readCommand answerCommand textView textOffset commandAs types layouts findLayout layoutOf answered readLogin isAccepted loginAnswer loginAs readHeader readDatagram answerDatagram acknowledgementBytes udpAcknowledgement datagramAs judgeHeader entryBytes entriesFrom entriesOf fixedEntry elementEntry groupEntries groupsEntries recordsEntries formEntries form formOfPacket formOfDatagram or17 readForm packetWithin packetOfForm writing leaving writtenAs givenImei packetOf bytesWithin commandBytes entryElement run behind groupsOf fixedOf recordsOf dataOf decoded leadSize locateGroup locateGroups fixedSize elements nth firstWith passedFor recordResult placeRecords tcpSource udpSource placedRecord recordByNumber foundIn valueIn valueByNumber valueById orNone passedById view viewOffset valueInLast inOlder orElse lastKnown passedInLast ifNone passedByLast knownPlace recordAs valueResult answerValue valueAs answerKnown knownAs knownView quad titleWords recordWords valueWord recordContents contents contentsOfPacket contentsOfDatagram ones differing needed itemOf judgedPacket judged verdictBy verdict next afterByte taken cons byVerdict stream padded phaseNumber kept fresh started isZero isMore phaseOf heldBy opened countOf judgedAt wanted outcome feeding fed fedInto packetIn itemAs fedAs lentAs decimalIn decimal glyphOf before behindByte onto pieces separated unsignedDegrees degrees isPlain escaped quoted printedText texts lineFields lineBytes allDigits digitsOf noSpareZero readDecimal readUnsigned readDegrees readHex readTag readValue readPrinted onField nextField isTag readElements readFields judgeLine readLine placeIn wrongAt startFrom elementOf elementAt printedOf printedAll recordLine lineOfPacket lineOfDatagram linesOfPacket linesOfDatagram lineResult answerLine lineAs tagBytes elementResult answerElement leavingElement elementAs
 computing = tt

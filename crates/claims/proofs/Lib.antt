@@ -18,3 +18,5 @@ pub mod FamilyLimitsProof
 pub mod PlaceLaws
 pub mod PlacesProof
 pub mod FieldPlacesProof
+pub mod PassedProof
+pub mod FormSizesProof

@@ -22,7 +22,7 @@ command-refusals = (refl, (refl, (refl, (refl, (refl, (refl, (refl, (refl, (refl
 
 lookup-refusals : AsSaid lookupRefusals
 unfolding computing lookupRefusals
-lookup-refusals = (refl, (refl, (refl, (refl, (refl, (refl, (refl, (refl, (refl, (refl, (refl, (refl, (refl, (refl, (refl, (refl, (refl, (refl, tt))))))))))))))))))
+lookup-refusals = (refl, (refl, (refl, (refl, (refl, (refl, (refl, (refl, (refl, (refl, (refl, (refl, (refl, (refl, (refl, (refl, (refl, (refl, (refl, (refl, (refl, tt)))))))))))))))))))))
 
 writer-refusals : AsSaid writerRefusals
 unfolding computing writerRefusals

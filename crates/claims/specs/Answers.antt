@@ -175,7 +175,10 @@ lookups =
     ∷ value-in-packet "4 bytes" 2 newer 1 3 (ValueAnswer.Found (record { id = 0x0115; kind = 4; offset = 88; size = 4 })) (0xC1 ∷ 0xC2 ∷ 0xC3 ∷ 0xC4 ∷ [])
     ∷ value-in-packet "variable, empty" 2 older 0 1 (ValueAnswer.Found (record { id = 0x0101; kind = 9; offset = 55; size = 0 })) []
     ∷ value-in-packet "variable" 2 older 0 2 (ValueAnswer.Found (record { id = 0x0142; kind = 9; offset = 59; size = 3 })) (0x61 ∷ 0x62 ∷ 0x63 ∷ [])
-    ∷ id-in-packet "an ID that occurs twice" 2 newer 1 0x0115 (ValueAnswer.Found (record { id = 0x0115; kind = 1; offset = 76; size = 1 })) (0xA1 ∷ [])
+    ∷ id-in-packet "an ID that occurs twice" 2 newer 1 0x0115 (ValueAnswer.Found (record { id = 0x0115; kind = 1; offset = 76; size = 1 })) 1 (0xA1 ∷ [])
+    ∷ id-in-packet "the second of its group" 2 newer 1 0x0181 (ValueAnswer.Found (record { id = 0x0181; kind = 1; offset = 79; size = 1 })) 2 (0xA2 ∷ [])
+    ∷ id-in-packet "the first of the second group" 2 newer 1 0x0142 (ValueAnswer.Found (record { id = 0x0142; kind = 2; offset = 83; size = 2 })) 3 (0xB1 ∷ 0xB2 ∷ [])
+    ∷ id-in-packet "variable, the last of the record" 2 older 0 0x0142 (ValueAnswer.Found (record { id = 0x0142; kind = 9; offset = 59; size = 3 })) 3 (0x61 ∷ 0x62 ∷ 0x63 ∷ [])
     ∷ value-in-datagram "codec 8" 2 sample 0 0 (ValueAnswer.Found (record { id = 0x0015; kind = 1; offset = 53; size = 1 })) (0x03 ∷ [])
     ∷ value-in-datagram "1 byte" 2 newerUdp 1 0 (ValueAnswer.Found (record { id = 0x0115; kind = 1; offset = 91; size = 1 })) (0xA1 ∷ [])
     ∷ value-in-datagram "1 byte, the second" 2 newerUdp 1 1 (ValueAnswer.Found (record { id = 0x0181; kind = 1; offset = 94; size = 1 })) (0xA2 ∷ [])
@@ -183,11 +186,12 @@ lookups =
     ∷ value-in-datagram "4 bytes" 2 newerUdp 1 3 (ValueAnswer.Found (record { id = 0x0115; kind = 4; offset = 103; size = 4 })) (0xC1 ∷ 0xC2 ∷ 0xC3 ∷ 0xC4 ∷ [])
     ∷ value-in-datagram "8 bytes" 2 newerUdp 1 4 (ValueAnswer.Found (record { id = 0x014E; kind = 8; offset = 110; size = 8 })) (0xD1 ∷ 0xD2 ∷ 0xD3 ∷ 0xD4 ∷ 0xD5 ∷ 0xD6 ∷ 0xD7 ∷ 0xD8 ∷ [])
     ∷ value-in-datagram "the record before" 2 newerUdp 0 0 (ValueAnswer.Found (record { id = 0x0143; kind = 1; offset = 56; size = 1 })) (0x5A ∷ [])
-    ∷ id-in-datagram "an ID that occurs twice" 2 newerUdp 1 0x0115 (ValueAnswer.Found (record { id = 0x0115; kind = 1; offset = 91; size = 1 })) (0xA1 ∷ [])
-    ∷ id-in-datagram "8 bytes" 2 newerUdp 1 0x014E (ValueAnswer.Found (record { id = 0x014E; kind = 8; offset = 110; size = 8 })) (0xD1 ∷ 0xD2 ∷ 0xD3 ∷ 0xD4 ∷ 0xD5 ∷ 0xD6 ∷ 0xD7 ∷ 0xD8 ∷ [])
-    ∷ last-known "in both" 2 newer older 0x0142 (KnownAnswer.Found false (record { id = 0x0142; kind = 2; offset = 83; size = 2 })) (0xB1 ∷ 0xB2 ∷ [])
-    ∷ last-known "in the newer, older refused" 2 newer brokenTcp 0x0142 (KnownAnswer.Found false (record { id = 0x0142; kind = 2; offset = 83; size = 2 })) (0xB1 ∷ 0xB2 ∷ [])
-    ∷ last-known "in the older" 2 newer older 0x0015 (KnownAnswer.Found true (record { id = 0x0015; kind = 1; offset = 42; size = 1 })) (0x03 ∷ [])
+    ∷ id-in-datagram "an ID that occurs twice" 2 newerUdp 1 0x0115 (ValueAnswer.Found (record { id = 0x0115; kind = 1; offset = 91; size = 1 })) 1 (0xA1 ∷ [])
+    ∷ id-in-datagram "8 bytes" 2 newerUdp 1 0x014E (ValueAnswer.Found (record { id = 0x014E; kind = 8; offset = 110; size = 8 })) 5 (0xD1 ∷ 0xD2 ∷ 0xD3 ∷ 0xD4 ∷ 0xD5 ∷ 0xD6 ∷ 0xD7 ∷ 0xD8 ∷ [])
+    ∷ last-known "in both" 2 newer older 0x0142 (KnownAnswer.Found false (record { id = 0x0142; kind = 2; offset = 83; size = 2 })) 3 (0xB1 ∷ 0xB2 ∷ [])
+    ∷ last-known "in the newer, older refused" 2 newer brokenTcp 0x0142 (KnownAnswer.Found false (record { id = 0x0142; kind = 2; offset = 83; size = 2 })) 3 (0xB1 ∷ 0xB2 ∷ [])
+    ∷ last-known "in the older" 2 newer older 0x0015 (KnownAnswer.Found true (record { id = 0x0015; kind = 1; offset = 42; size = 1 })) 6 (0x03 ∷ [])
+    ∷ last-known "variable and empty, in the older" 2 newer older 0x0101 (KnownAnswer.Found true (record { id = 0x0101; kind = 9; offset = 55; size = 0 })) 7 []
     ∷ []
 
 -- what was written

@@ -23,7 +23,7 @@ use Rattle.element.specs.declared.Value.{Value}
 use Rattle.lookup.specs.declared.RecordAnswer.{RecordAnswer}
 use Rattle.lookup.specs.declared.ValueAnswer.{ValueAnswer}
 use Rattle.lookup.specs.declared.KnownAnswer.{KnownAnswer}
-use Rattle.lookup.specs.Lookups.{Found, LastKnown, tcpSource, udpSource, recordByNumber, valueByNumber, valueById, lastKnown, view, viewOffset, knownPlace}
+use Rattle.lookup.specs.Lookups.{Source, Found, LastKnown, tcpSource, udpSource, recordByNumber, valueByNumber, valueById, passedById, lastKnown, passedByLast, view, viewOffset, knownPlace}
 use Rattle.lookup.specs.Answers.{recordAs, answerValue, valueAs, KnownResult, answerKnown, knownAs, knownView}
 use Rattle.contents.specs.Contents.{contentsOfPacket, contentsOfDatagram}
 use Rattle.line.specs.RecordLines.{lineOfPacket, lineOfDatagram, linesOfPacket, linesOfDatagram}
@@ -87,11 +87,18 @@ value-in-packet label family p n k = looked-up label (valueByNumber (tcpSource (
 abbrev pub value-in-datagram : String → ℕ → List ℕ → ℕ → ℕ → ValueAnswer → List ℕ → Row
 value-in-datagram label family p n k = looked-up label (valueByNumber (udpSource (limitsOf family) p) n k)
 
-abbrev pub id-in-packet : String → ℕ → List ℕ → ℕ → ℕ → ValueAnswer → List ℕ → Row
-id-in-packet label family p n id = looked-up label (valueById (tcpSource (limitsOf family) p) n id)
+-- by ID: the answer, the number of elements passed, and the view
+abbrev pub looked-for : String → Answer Source → ℕ → ℕ → ValueAnswer → ℕ → List ℕ → Row
+looked-for label source n id r passed bytes =
+    row {A = Answer Value × ℕ × List ℕ × ℕ} label
+    (answerValue (valueById source n id), passedById source n id, view (valueById source n id), viewOffset (valueById source n id))
+    (valueAs r, passed, bytes, valueAt r)
 
-abbrev pub id-in-datagram : String → ℕ → List ℕ → ℕ → ℕ → ValueAnswer → List ℕ → Row
-id-in-datagram label family p n id = looked-up label (valueById (udpSource (limitsOf family) p) n id)
+abbrev pub id-in-packet : String → ℕ → List ℕ → ℕ → ℕ → ValueAnswer → ℕ → List ℕ → Row
+id-in-packet label family p = looked-for label (tcpSource (limitsOf family) p)
+
+abbrev pub id-in-datagram : String → ℕ → List ℕ → ℕ → ℕ → ValueAnswer → ℕ → List ℕ → Row
+id-in-datagram label family p = looked-for label (udpSource (limitsOf family) p)
 
 -- in the newer packet, which stands in block 1 here, or in the older, which stands in block 2
 abbrev pub knownAt : KnownAnswer → ℕ × ℕ
@@ -99,11 +106,14 @@ knownAt (KnownAnswer.Found true v) = (2, v .offset)
 knownAt (KnownAnswer.Found false v) = (1, v .offset)
 knownAt (KnownAnswer.Refused r) = (1, 0)
 
-abbrev pub known : String → Answer LastKnown → KnownAnswer → List ℕ → Row
-known label k r bytes = row {A = Answer KnownResult × List ℕ × (ℕ × ℕ)} label (answerKnown k, knownView k, knownPlace k (1, 0) (2, 0)) (knownAs r, bytes, knownAt r)
+abbrev pub known : String → Answer LastKnown → ℕ → KnownAnswer → ℕ → List ℕ → Row
+known label k n r passed bytes =
+    row {A = Answer KnownResult × ℕ × List ℕ × (ℕ × ℕ)} label (answerKnown k, n, knownView k, knownPlace k (1, 0) (2, 0)) (knownAs r, passed, bytes, knownAt r)
 
-abbrev pub last-known : String → ℕ → List ℕ → List ℕ → ℕ → KnownAnswer → List ℕ → Row
-last-known label family newer older id = known label (lastKnown id (tcpSource (limitsOf family) newer) (tcpSource (limitsOf family) older))
+abbrev pub last-known : String → ℕ → List ℕ → List ℕ → ℕ → KnownAnswer → ℕ → List ℕ → Row
+last-known label family newer older id =
+    known label (lastKnown id (tcpSource (limitsOf family) newer) (tcpSource (limitsOf family) older))
+    (passedByLast id (tcpSource (limitsOf family) newer) (tcpSource (limitsOf family) older))
 
 -- ---- writers: the lent buffer, the answer, and the buffer afterwards
 

@@ -72,7 +72,7 @@ tagRows =
     ∷ value-in-packet "the empty value" 2 tags 0 4 (ValueAnswer.Found (record { id = 0x0196; kind = 9; offset = 81; size = 0 })) []
     ∷ value-in-packet "an ID that occurs twice" 2 tags 1 1 (ValueAnswer.Found (record { id = 0x0193; kind = 9; offset = 126; size = 3 })) (0x4F ∷ 0x6E ∷ 0x61 ∷ [])
     ∷ value-in-packet "the second time" 2 tags 1 2 (ValueAnswer.Found (record { id = 0x0193; kind = 9; offset = 133; size = 5 })) (0x4A ∷ 0x6F ∷ 0x6E ∷ 0x61 ∷ 0x73 ∷ [])
-    ∷ id-in-packet "by its ID, the first" 2 tags 1 0x0193 (ValueAnswer.Found (record { id = 0x0193; kind = 9; offset = 126; size = 3 })) (0x4F ∷ 0x6E ∷ 0x61 ∷ [])
+    ∷ id-in-packet "by its ID, the first" 2 tags 1 0x0193 (ValueAnswer.Found (record { id = 0x0193; kind = 9; offset = 126; size = 3 })) 2 (0x4F ∷ 0x6E ∷ 0x61 ∷ [])
     ∷ form-of-packet "its form" 2 tags (replicate 144 7) (Written.Bytes 143) (tagsForm ++ (7 ∷ []))
     ∷ packet-of-form "and back" 2 tagsForm (replicate 144 7) (Written.Bytes 143) (tags ++ (7 ∷ []))
     ∷ []

@@ -65,9 +65,9 @@ unknownFamilies =
     ∷ record-in-datagram "family 3" 3 twoUdp 0 (RecordAnswer.Refused (21 at 0))
     ∷ value-in-packet "family 3" 3 newer 0 0 (ValueAnswer.Refused (21 at 0)) []
     ∷ value-in-datagram "family 3, refused datagram" 3 brokenUdp 0 0 (ValueAnswer.Refused (21 at 0)) []
-    ∷ id-in-packet "family 3" 3 newer 0 0x0143 (ValueAnswer.Refused (21 at 0)) []
-    ∷ id-in-datagram "family 3" 3 sample 0 0x15 (ValueAnswer.Refused (21 at 0)) []
-    ∷ last-known "family 3" 3 newer older 0x0143 (KnownAnswer.Refused (21 at 0)) []
+    ∷ id-in-packet "family 3" 3 newer 0 0x0143 (ValueAnswer.Refused (21 at 0)) 0 []
+    ∷ id-in-datagram "family 3" 3 sample 0 0x15 (ValueAnswer.Refused (21 at 0)) 0 []
+    ∷ last-known "family 3" 3 newer older 0x0143 (KnownAnswer.Refused (21 at 0)) 0 []
     ∷ acknowledge-packet "family 3, a good packet" 3 twoTcp (replicate 5 7) (Written.Refused (21 at 0)) (replicate 5 7)
     ∷ acknowledge-packet "family 0, refused packet, none lent" 0 brokenTcp [] (Written.Refused (21 at 0)) []
     ∷ acknowledge-datagram "family 3, none lent" 3 twoUdp [] (Written.Refused (21 at 0)) []
@@ -108,7 +108,7 @@ familyLimits =
     ∷ read-packet "family 2, a record of 256 bytes" 2 longTcp (PacketAnswer.Accepted 0x8E 2)
     ∷ read-datagram "family 2, a record of 256 bytes" 2 (udp 0x01 0x42 (field 0x8E 2 (long 0 1 ++ long 214 1))) (DatagramAnswer.Accepted 0x8E 2 header)
     ∷ value-in-packet "family 2, up to byte 256 of a record" 2 longTcp 1 0 (ValueAnswer.Found (record { id = 9; kind = 9; offset = 94; size = 214 })) (replicate 214 7)
-    ∷ id-in-packet "family 1, the same" 1 longTcp 1 9 (ValueAnswer.Refused (12 at 1 byte 52)) []
+    ∷ id-in-packet "family 1, the same" 1 longTcp 1 9 (ValueAnswer.Refused (12 at 1 byte 52)) 0 []
     ∷ form-of-packet "family 1, a record of 256 bytes" 1 oneLong (replicate 3 7) (Written.Refused (12 at 0 byte 10)) (replicate 3 7)
     ∷ form-of-packet "family 2, a record of 256 bytes" 2 oneLong (replicate 256 7) (Written.Bytes 256) oneLongForm
     ∷ packet-of-form "family 1, a record of 256 bytes" 1 oneLongForm (replicate 3 7) (Written.Refused (17 at 0)) (replicate 3 7)

@@ -15,6 +15,8 @@ pub mod Totals
 pub mod Families
 pub mod Places
 pub mod FieldPlaces
+pub mod Passed
+pub mod FormSizes
 pub mod FamilyLimits
 pub mod DriverTags
 pub mod Lines

@@ -22,7 +22,7 @@ use Rattle.element.specs.declared.ElementAnswer.{ElementAnswer}
 use Rattle.element.specs.Elements.{Located, leadSize, locateGroup, locateGroups, elements, nth}
 use Rattle.element.specs.Search.{Onward, ReadableElement, locatedValue, valueAt, elementAs}
 use Rattle.element.proofs.ElementLaws.{length-element, length-group}
-use Rattle.element.proofs.ReadLaws.{element-read, repeat-parted, repeat-nothing}
+use Rattle.element.proofs.ReadLaws.{element-read, repeat-parted, repeat-nothing, repeat-size, repeat-inside}
 use Rattle.element.proofs.SearchLaws.{parts, onward-inside, present-group, later, ahead, onward-on, Ahead}
 
 -- ---- the n-th of a list
@@ -65,19 +65,6 @@ at-found r h = sym (ap elementAs (h .1) ∙ ap ElementAnswer.At (h .2))
 -- ---- within a group
 
 module _ (w : Widths) (kind : ℕ) (s : List ℕ) where
-  -- as many elements as were asked for
-  repeat-size : (n at : ℕ) (g : List Element) (end : ℕ) → repeat n (element w kind) s at ≡ got g end → length g ≡ n
-  repeat-size zero at g end h = ap length (repeat-nothing (element w kind) s at .if-got _ _ h .0)
-  repeat-size (suc n) at g end h =
-      let p = repeat-parted n (element w kind) s at .if-got _ _ h in
-      ap length (p .is) ∙ ap suc (repeat-size n (p .mid) (p .others) end (p .more))
-
-  repeat-inside : (n at : ℕ) (g : List Element) (end : ℕ) → repeat n (element w kind) s at ≡ got g end → at ≤ length s → end ≤ length s
-  repeat-inside zero at g end h i = omega (arith, repeat-nothing (element w kind) s at .if-got _ _ h .1)
-  repeat-inside (suc n) at g end h i =
-      let p = repeat-parted n (element w kind) s at .if-got _ _ h in
-      repeat-inside n (p .mid) (p .others) end (p .more) (element-read w kind s at .if-got _ _ (p .one) .inside)
-
   module _ (ne : kind ≡ 9 → ⊥) where
     -- an element of fixed size ends behind its ID and its value
     one-end : (at : ℕ) (e : Element) (next : ℕ) → element w kind s at ≡ got e next → next ≡ at + (w .id + kind)

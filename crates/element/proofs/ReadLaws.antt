@@ -1,5 +1,5 @@
 -- What was read tells of the bytes: of an element, of a group, of a record.
-use Prim.Native.Nat.{ℕ, suc, _+_, _≤_, _<_}
+use Prim.Native.Nat.{ℕ, zero, suc, _+_, _≤_, _<_}
 use native.Mathlib.Nat.{add-zero}
 use native.Mathlib.Omega.{arith}
 use mathlib.Core.Path.{_≡_, refl, sym, ap, _∙_}
@@ -105,6 +105,28 @@ repeat-parted n m s at = list-read m (repeat n m) s at
 pub repeat-nothing : {A : Type 0} (m : Reader A) (s : List ℕ) (at : ℕ) → Meets (repeat 0 m s at) (λ l next. (l ≡ []) × (next ≡ at))
 unfolding repeat
 repeat-nothing m s at = meets-pure [] s at (refl, refl)
+
+-- elements of a kind, one behind another
+module _ (w : Widths) (kind : ℕ) (s : List ℕ) where
+  -- as many as were asked for
+  pub repeat-size : (n at : ℕ) (g : List Element) (end : ℕ) → repeat n (element w kind) s at ≡ got g end → length g ≡ n
+  repeat-size zero at g end h = ap length (repeat-nothing (element w kind) s at .if-got _ _ h .0)
+  repeat-size (suc n) at g end h =
+      let p = repeat-parted n (element w kind) s at .if-got _ _ h in
+      ap length (p .is) ∙ ap suc (repeat-size n (p .mid) (p .others) end (p .more))
+
+  pub repeat-inside : (n at : ℕ) (g : List Element) (end : ℕ) → repeat n (element w kind) s at ≡ got g end → at ≤ length s → end ≤ length s
+  repeat-inside zero at g end h i = omega (arith, repeat-nothing (element w kind) s at .if-got _ _ h .1)
+  repeat-inside (suc n) at g end h i =
+      let p = repeat-parted n (element w kind) s at .if-got _ _ h in
+      repeat-inside n (p .mid) (p .others) end (p .more) (element-read w kind s at .if-got _ _ (p .one) .inside)
+
+  -- each has a byte at least
+  pub repeat-onward : 1 ≤ kind → (n at : ℕ) (g : List Element) (end : ℕ) → repeat n (element w kind) s at ≡ got g end → at + n ≤ end
+  repeat-onward k zero at g end h = omega (arith, repeat-nothing (element w kind) s at .if-got _ _ h .1)
+  repeat-onward k (suc n) at g end h =
+      let p = repeat-parted n (element w kind) s at .if-got _ _ h in
+      omega (arith, element-read w kind s at .if-got _ _ (p .one) .onward k, repeat-onward k n (p .mid) (p .others) end (p .more))
 
 pub groups-parted : (w : Widths) (k : ℕ) (ks : List ℕ) (s : List ℕ) (at : ℕ) → Meets (groups w (k ∷ ks) s at) (ListRead (group w k) (groups w ks) s at)
 unfolding groups

@@ -1,7 +1,7 @@
 -- Looking for one of a record's elements: within a group, from group to group, and what it is of the whole record.
 use Prim.Native.Nat.{ℕ, suc, _+_, _-_, _≤_, _<_}
 use native.Mathlib.Omega.{arith}
-use mathlib.Core.Path.{_≡_, refl, sym, ap, _∙_, subst}
+use mathlib.Core.Path.{_≡_, refl, sym, ap, ap₂, _∙_, subst}
 use mathlib.Core.Bool.{Bool, true, false}
 use mathlib.Core.List.{List, [], _∷_, _++_}
 use lib.ListN.{length, drop, getD, drop-of-length-le}
@@ -21,10 +21,10 @@ use Rattle.walk.proofs.KindLaws.{kind-known, next-kind}
 use Rattle.element.specs.declared.Value.{Value}
 use Rattle.element.specs.declared.Search.{Search}
 use Rattle.element.specs.declared.ElementAnswer.{ElementAnswer}
-use Rattle.element.specs.Elements.{Located, leadSize, locateGroup, locateGroups, fixedSize, elements, firstWith}
-use Rattle.element.specs.Search.{Onward, ReadableElement, ReadableGroup, locatedValue, valueAt, hitOr, searched, elementAs}
-use Rattle.element.proofs.ElementLaws.{length-element}
-use Rattle.element.proofs.ReadLaws.{got-same, element-read, repeat-parted, repeat-nothing, groups-parted, record-read}
+use Rattle.element.specs.Elements.{Located, leadSize, locateGroup, locateGroups, fixedSize, elements, firstWith, passedFor}
+use Rattle.element.specs.Search.{Onward, ReadableElement, ReadableGroup, locatedValue, valueAt, Sought, sought, hitOr, searched, elementAs}
+use Rattle.element.proofs.ElementLaws.{length-element, length-group}
+use Rattle.element.proofs.ReadLaws.{got-same, element-read, repeat-parted, repeat-nothing, repeat-size, repeat-inside, repeat-onward, groups-parted, record-read}
 
 -- ---- a run of elements of one kind
 
@@ -66,7 +66,7 @@ module _ {w : Widths} {kind : ℕ} {s : List ℕ} {at m : ℕ} {l : List Element
 -- ---- within a group
 
 -- the search in a group has passed `i` elements and stands at `next`: what is left answers as the whole; `look i` is what is looked for behind `i` elements
-pub record Searching (w : Widths) (kind : ℕ) (s : List ℕ) (at : ℕ) (look : ℕ → List Located → Answer Located) (next i : ℕ) : Type 0 where
+pub record Searching {A : Type 0} (w : Widths) (kind : ℕ) (s : List ℕ) (at : ℕ) (look : ℕ → List Located → A) (next i : ℕ) : Type 0 where
   pub members : List Element
   pub end : ℕ
   pub whole : group w kind s at ≡ got members end
@@ -74,7 +74,7 @@ pub record Searching (w : Widths) (kind : ℕ) (s : List ℕ) (at : ℕ) (look :
   pub reads : repeat (numberAt s at (w .count) - i) (element w kind) s next ≡ got rest end
   pub same : look i (locateGroup w kind next rest) ≡ look 0 (locateGroup w kind (at + w .count) members)
 
-module _ {w : Widths} {kind : ℕ} {s : List ℕ} {at : ℕ} {look : ℕ → List Located → Answer Located} where
+module _ {A : Type 0} {w : Widths} {kind : ℕ} {s : List ℕ} {at : ℕ} {look : ℕ → List Located → A} where
   pub search-start : ReadableGroup w kind s at → Searching w kind s at look (at + w .count) 0
   search-start g =
       record {
@@ -111,9 +111,9 @@ module _ {w : Widths} {kind : ℕ} {s : List ℕ} {at : ℕ} {look : ℕ → Lis
         search-within = run-within front is
 
         -- it is the one
-        pub search-hit : ((e : Located) (l : List Located) → locatedValue e ≡ v → look i (e ∷ l) ≡ accepted e) → (g : List Element) (n : ℕ) → group w kind s at ≡ got g n
-            → (e : Located) × (look 0 (locateGroup w kind (at + w .count) g) ≡ accepted e) × (locatedValue e ≡ v)
-        search-hit found g n f =
+        pub search-hit : (give : Located → A) → ((e : Located) (l : List Located) → locatedValue e ≡ v → look i (e ∷ l) ≡ give e) → (g : List Element) (n : ℕ) → group w kind s at ≡ got g n
+            → (e : Located) × (look 0 (locateGroup w kind (at + w .count) g) ≡ give e) × (locatedValue e ≡ v)
+        search-hit give found g n f =
             (present front, answers g n f ∙ ap (look i) (run-located front is) ∙ found (present front) _ (sym (run-value front is)), sym (run-value front is))
 
         -- it is not
@@ -128,6 +128,12 @@ module _ {w : Widths} {kind : ℕ} {s : List ℕ} {at : ℕ} {look : ℕ → Lis
               same = passed (present front) _ (sym (run-value front is)) ∙ ap (look i) (sym (run-located front is)) ∙ h .same;
             }
 
+-- a group ends within the input, behind as many bytes as it says elements
+pub group-room : {w : Widths} {kind : ℕ} {s : List ℕ} {at : ℕ} → 1 ≤ kind → ReadableGroup w kind s at → at + numberAt s at (w .count) ≤ length s
+group-room {w} {kind} {s} {at} named g =
+    let read = group-read w kind s at .if-got _ _ (g .reads) in
+    omega (arith, repeat-onward w kind s named _ _ _ _ (read .elements), repeat-inside w kind s _ _ _ _ (read .elements) (read .inside))
+
 -- ---- from group to group
 
 module _ {A : Type 0} {w : Widths} {k : ℕ} {ks : List ℕ} {s : List ℕ} {at : ℕ} {look : List Located → A} {answer : A} (h : Onward w (k ∷ ks) s at look answer) where
@@ -139,6 +145,12 @@ module _ {A : Type 0} {w : Widths} {k : ℕ} {ks : List ℕ} {s : List ℕ} {at 
 
   pub onward-inside : at + w .count ≤ length s
   onward-inside = group-read w k s at .if-got _ _ (parts .one) .inside
+
+  -- the first group ends behind as many bytes as it has elements
+  pub onward-length : 1 ≤ k → at + length (parts .first) ≤ parts .mid
+  onward-length named =
+      let read = group-read w k s at .if-got _ _ (parts .one) .elements in
+      omega (arith, repeat-size w k s _ _ _ _ read, repeat-onward w k s named _ _ _ _ read)
 
   -- the elements of the first group, and those behind it
   abbrev pub present-group : List Located
@@ -196,62 +208,129 @@ module _ {A : Type 0} {w : Widths} {s : List ℕ} (look : List Located → A) wh
 
 -- ---- by ID
 
--- the first answer where it found one, else the second
-unfoldable firstOf : Answer Located → Answer Located → Answer Located
-firstOf (accepted e) b = accepted e
-firstOf (refused r) b = b
+-- what was found, with so many elements passed, or else the other
+unfoldable soughtOr : Answer Located → ℕ → Sought → Sought
+soughtOr (accepted e) n other = record { found = accepted e; passed = n }
+soughtOr (refused r) n other = other
 
-first-append : (id : ℕ) (a b : List Located) → firstWith id (a ++ b) ≡ firstOf (firstWith id a) (firstWith id b)
-unfolding firstWith firstOf
-first-append id [] b = refl
-first-append id (e ∷ a) b = go (eqb (e .id) id) (first-append id a b)
+sought-append : (id before : ℕ) (a b : List Located)
+    → sought id before (a ++ b) ≡ soughtOr (firstWith id a) (before + passedFor id a) (sought id (before + passedFor id a) b)
+unfolding firstWith passedFor sought soughtOr
+sought-append id before [] b = ap (λ (n : ℕ). sought id n b) (omega arith)
+sought-append id before (e ∷ a) b = go (eqb (e .id) id) (sought-append id (before + 1) a b)
   where
-    go : (t : Bool) → firstWith id (a ++ b) ≡ firstOf (firstWith id a) (firstWith id b)
-        → pick t (accepted e) (firstWith id (a ++ b)) ≡ firstOf (pick t (accepted e) (firstWith id a)) (firstWith id b)
-    go true h = refl
-    go false h = h
+    here : (n : ℕ) → before + suc n ≡ before + 1 + n
+    here n = omega arith
 
-hit-first : (r other : Answer Located) (n : ℕ) {v : Value} → hitOr r (Search.Miss n) ≡ Search.Hit v → elementAs (firstOf r other) ≡ ElementAnswer.At v
-unfolding hitOr firstOf elementAs
-hit-first (accepted e) other n h = ap ElementAnswer.At (cc)
-hit-first (refused r) other n h = absurd (let z : _≡_ {A = ℕ} 0 1 = cc in omega arith)
-
-miss-first : (r other : Answer Located) (n : ℕ) {next : ℕ} → hitOr r (Search.Miss n) ≡ Search.Miss next → (firstOf r other ≡ other) × (n ≡ next)
-unfolding hitOr firstOf
-miss-first (accepted e) other n h = absurd (let z : _≡_ {A = ℕ} 0 1 = cc in omega arith)
-miss-first (refused r) other n h = (refl, cc)
+    go : (t : Bool) → sought id (before + 1) (a ++ b) ≡ soughtOr (firstWith id a) (before + 1 + passedFor id a) (sought id (before + 1 + passedFor id a) b)
+        → _≡_ {A = Sought} (record { found = pick t (accepted e) (firstWith id (a ++ b)); passed = before + pick t 1 (suc (passedFor id (a ++ b))) })
+        (soughtOr (pick t (accepted e) (firstWith id a)) (before + pick t 1 (suc (passedFor id a))) (sought id (before + pick t 1 (suc (passedFor id a))) b))
+    go true more = refl
+    go false more =
+        ap (λ (n : ℕ). record { found = firstWith id (a ++ b); passed = n }) (here (passedFor id (a ++ b)))
+        ∙ more
+        ∙ ap (λ (n : ℕ). soughtOr (firstWith id a) n (sought id n b)) (sym (here (passedFor id a)))
 
 module _ (id : ℕ) {v : Value} (e : Located) (l : List Located) (same : locatedValue e ≡ v) where
   id-is : v .id ≡ e .id
   unfolding locatedValue
   id-is = ap (λ (x : Value). x .id) (sym same)
 
-  pub first-here : v .id ≡ id → firstWith id (e ∷ l) ≡ accepted e
-  unfolding firstWith
-  first-here h = pick-true _ _ _ (eq-eqb (e .id) id (sym id-is ∙ h))
+  -- it has the ID, and is one more that is passed
+  pub sought-here : (i : ℕ) → v .id ≡ id → sought id i (e ∷ l) ≡ record { found = accepted e; passed = i + 1 }
+  unfolding sought firstWith passedFor
+  sought-here i h =
+      let t = eq-eqb (e .id) id (sym id-is ∙ h) in
+      ap₂ (λ (f : Answer Located) (n : ℕ). record { found = f; passed = i + n }) (pick-true _ _ _ t) (pick-true _ _ _ t)
 
-  pub first-later : (v .id ≡ id → ⊥) → firstWith id l ≡ firstWith id (e ∷ l)
-  unfolding firstWith
-  first-later h = sym (pick-false _ _ _ (ne-eqb (e .id) id (λ k. h (id-is ∙ k))))
+  pub sought-later : (i : ℕ) → (v .id ≡ id → ⊥) → sought id (i + 1) l ≡ sought id i (e ∷ l)
+  unfolding sought firstWith passedFor
+  sought-later i h =
+      let f = ne-eqb (e .id) id (λ k. h (id-is ∙ k)) in
+      let n : i + 1 + passedFor id l ≡ i + suc (passedFor id l) = omega arith in
+      ap₂ (λ (f : Answer Located) (n : ℕ). record { found = f; passed = n }) (sym (pick-false _ _ _ f)) (n ∙ ap (λ (m : ℕ). i + m) (sym (pick-false _ _ _ f)))
 
-pub searched-hit : (id n : ℕ) {v : Value} (l : List Located) → ((e : Located) × (firstWith id l ≡ accepted e) × (locatedValue e ≡ v)) → Search.Hit v ≡ searched id n l
-unfolding searched hitOr
-searched-hit id n l h = sym (ap (λ (r : Answer Located). hitOr r (Search.Miss n)) (h .1) ∙ ap Search.Hit (h .2))
+-- behind none
+pub sought-passed : (id : ℕ) (l : List Located) → sought id 0 l .passed ≡ passedFor id l
+unfolding sought
+sought-passed id l = omega arith
 
-pub searched-miss : (id n : ℕ) {next : ℕ} (l : List Located) → (firstWith id l ≡ firstWith id []) × (next ≡ n) → Search.Miss next ≡ searched id n l
-unfolding searched hitOr firstWith
-searched-miss id n l h = ap Search.Miss (h .1) ∙ sym (ap (λ (r : Answer Located). hitOr r (Search.Miss n)) (h .0))
+-- the answer of a group, of what is sought in it
+searched-as : (id before n : ℕ) (l : List Located) {r : Sought} → sought id 0 l ≡ r → hitOr (r .found) n (before + r .passed) ≡ searched id before n l
+unfolding searched sought
+searched-as id before n l h =
+    ap (λ (r : Sought). hitOr (r .found) n (before + r .passed)) (sym h) ∙ ap (λ (m : ℕ). hitOr (firstWith id l) n (before + m)) (sought-passed id l)
 
-module _ {w : Widths} {k : ℕ} {ks : List ℕ} {s : List ℕ} {at : ℕ} {answer : Answer Located} (id : ℕ) (h : Onward w (k ∷ ks) s at (firstWith id) answer)
-    {r : Search} (found : (g : List Element) (n : ℕ) → group w k s at ≡ got g n → r ≡ searched id n (locateGroup w k (at + w .count) g)) where
-  pub onward-hit : {v : Value} → r ≡ Search.Hit v → ElementAnswer.At v ≡ elementAs answer
-  unfolding searched
+pub searched-hit : (id before n i : ℕ) {v : Value} {passed : ℕ} (l : List Located)
+    → ((e : Located) × (sought id 0 l ≡ record { found = accepted e; passed = i + 1 }) × (locatedValue e ≡ v)) → passed ≡ before + (i + 1) → Search.Hit v passed ≡ searched id before n l
+unfolding hitOr
+searched-hit id before n i l h e = ap₂ Search.Hit (sym (h .2)) e ∙ searched-as id before n l (h .1)
+
+pub searched-miss : (id before n i : ℕ) {next passed : ℕ} (l : List Located) → (sought id 0 l ≡ sought id i []) × (next ≡ n) → passed ≡ before + i → Search.Miss next passed ≡ searched id before n l
+unfolding sought hitOr firstWith passedFor
+searched-miss id before n i l h e =
+    let all : i ≡ i + 0 = omega arith in
+    ap₂ Search.Miss (h .1) (e ∙ ap (λ (m : ℕ). before + m) all) ∙ searched-as id before n l (h .0)
+
+-- no element is left
+pub sought-end : (id before : ℕ) (l : List Located) → sought id before [] ≡ sought id 0 l → (ElementAnswer.Nothing ≡ elementAs (firstWith id l)) × (before ≡ passedFor id l)
+unfolding sought firstWith passedFor elementAs
+sought-end id before l h =
+    let n = ap (λ (r : Sought). r .passed) h in
+    (ap (λ (r : Sought). elementAs (r .found)) h, omega (arith, n))
+
+-- no more are passed than there are
+pub passed-most : (id : ℕ) (l : List Located) → passedFor id l ≤ length l
+unfolding passedFor
+passed-most id [] = omega arith
+passed-most id (e ∷ l) = go (eqb (e .id) id) (passed-most id l)
+  where
+    go : (t : Bool) → passedFor id l ≤ length l → pick t 1 (suc (passedFor id l)) ≤ suc (length l)
+    go true h = omega arith
+    go false h = omega arith
+
+-- what a group gives, and else the groups behind it
+hit-first : (r : Answer Located) (other : Sought) (n m : ℕ) {v : Value} {k : ℕ} → hitOr r n m ≡ Search.Hit v k
+    → (ElementAnswer.At v ≡ elementAs (soughtOr r m other .found)) × (k ≡ soughtOr r m other .passed)
+unfolding hitOr soughtOr elementAs
+hit-first (accepted e) other n m h = (ap ElementAnswer.At (cc), cc)
+hit-first (refused r) other n m h = absurd (let z : _≡_ {A = ℕ} 0 1 = cc in omega arith)
+
+miss-first : (r : Answer Located) (other : Sought) (n m : ℕ) {next k : ℕ} → hitOr r n m ≡ Search.Miss next k
+    → (soughtOr r m other ≡ other) × (n ≡ next) × (m ≡ k)
+unfolding hitOr soughtOr
+miss-first (accepted e) other n m h = absurd (let z : _≡_ {A = ℕ} 0 1 = cc in omega arith)
+miss-first (refused r) other n m h = (refl, cc, cc)
+
+module _ {w : Widths} {k : ℕ} {ks : List ℕ} {s : List ℕ} {at : ℕ} {answer : Sought} (id before : ℕ) (h : Onward w (k ∷ ks) s at (sought id before) answer)
+    {r : Search} (found : (g : List Element) (n : ℕ) → group w k s at ≡ got g n → r ≡ searched id before n (locateGroup w k (at + w .count) g)) where
+  -- how many are passed up to the group's end
+  passedHere : ℕ
+  passedHere = before + passedFor id (present-group h)
+
+  pub onward-hit : {v : Value} {n : ℕ} → r ≡ Search.Hit v n → (ElementAnswer.At v ≡ elementAs (answer .found)) × (n ≡ answer .passed)
+  unfolding searched passedHere
   onward-hit e =
-      sym (hit-first (firstWith id (present-group h)) (firstWith id (later h)) _ (sym (found _ _ (parts h .one)) ∙ e))
-      ∙ ap elementAs (sym (first-append id (present-group h) (later h)) ∙ ahead h)
+      let same = sym (sought-append id before (present-group h) (later h)) ∙ ahead h in
+      let m = hit-first (firstWith id (present-group h)) (sought id passedHere (later h)) _ passedHere (sym (found _ _ (parts h .one)) ∙ e) in
+      (m .0 ∙ ap (λ (r : Sought). elementAs (r .found)) same, m .1 ∙ ap (λ (r : Sought). r .passed) same)
 
-  pub onward-miss : {next : ℕ} → Bytes s → r ≡ Search.Miss next → Onward w ks s next (firstWith id) answer
-  unfolding searched
-  onward-miss b e =
-      let m = miss-first (firstWith id (present-group h)) (firstWith id (later h)) _ (sym (found _ _ (parts h .one)) ∙ e) in
-      onward-on h b (m .1) (firstWith id) (first-append id (present-group h) (later h) ∙ m .0)
+  module _ {next n : ℕ} (e : r ≡ Search.Miss next n) where
+    missed : (soughtOr (firstWith id (present-group h)) passedHere (sought id passedHere (later h)) ≡ sought id passedHere (later h)) × (parts h .mid ≡ next) × (passedHere ≡ n)
+    unfolding searched passedHere
+    missed = miss-first (firstWith id (present-group h)) (sought id passedHere (later h)) _ passedHere (sym (found _ _ (parts h .one)) ∙ e)
+
+    pub onward-stop : parts h .mid ≡ next
+    onward-stop = missed .1
+
+    pub onward-miss : Bytes s → Onward w ks s next (sought id n) answer
+    unfolding passedHere
+    onward-miss b =
+        onward-on h b onward-stop (sought id n)
+        (sought-append id before (present-group h) (later h) ∙ missed .0 ∙ ap (λ (n : ℕ). sought id n (later h)) (missed .2))
+
+    -- at most as many as there are bytes up to there
+    pub onward-few : 1 ≤ k → before ≤ at → n ≤ next
+    unfolding passedHere
+    onward-few named few =
+        omega (arith, few, missed .1, missed .2, passed-most id (present-group h), length-group w k (at + w .count) (parts h .first), onward-length h named)

@@ -47,3 +47,8 @@ nth (suc n) (a ∷ l) = nth n l
 unfoldable pub firstWith : ℕ → List Located → Answer Located
 firstWith id [] = refused (refusal 16)
 firstWith id (e ∷ l) = pick (eqb (e .id) id) (accepted e) (firstWith id l)
+
+-- the number of elements passed in looking for it: its place, from 1; all of them where there is none
+unfoldable pub passedFor : ℕ → List Located → ℕ
+passedFor id [] = 0
+passedFor id (e ∷ l) = pick (eqb (e .id) id) 1 (suc (passedFor id l))

@@ -12,7 +12,7 @@ use Rattle.element.specs.declared.Value.{Value}
 use Rattle.element.specs.declared.Search.{Search}
 use Rattle.element.specs.declared.ElementAnswer.{ElementAnswer}
 use Rattle.element.specs.declared.ElementAnswer.the-variants.{At, Nothing}
-use Rattle.element.specs.Elements.{Located, leadSize, locateGroups, elements, firstWith}
+use Rattle.element.specs.Elements.{Located, leadSize, locateGroups, elements, firstWith, passedFor}
 
 -- the bytes `s` begin with a record that can be read
 pub record Readable (w : Widths) (s : List ℕ) : Type 0 where
@@ -51,13 +51,22 @@ locatedValue e = record { id = e .id; kind = e .kind; offset = e .place; size = 
 unfoldable pub valueAt : Widths → ℕ → ℕ → Element → Value
 valueAt w kind at e = record { id = e .id; kind = kind; offset = at + leadSize w kind; size = length (e .value) }
 
-unfoldable pub hitOr : Answer Located → Search → Search
-hitOr (accepted e) miss = Search.Hit (locatedValue e)
-hitOr (refused r) miss = miss
+-- what a search by ID gives: the first element with the ID, and the number of elements passed
+pub record Sought : Type 0 where
+  pub found : Answer Located
+  pub passed : ℕ
 
--- the first with this ID in a group that ends at `next`
-unfoldable pub searched : ℕ → ℕ → List Located → Search
-searched id next l = hitOr (firstWith id l) (Search.Miss next)
+-- in these elements, behind so many others
+unfoldable pub sought : ℕ → ℕ → List Located → Sought
+sought id before l = record { found = firstWith id l; passed = before + passedFor id l }
+
+unfoldable pub hitOr : Answer Located → ℕ → ℕ → Search
+hitOr (accepted e) next n = Search.Hit (locatedValue e) n
+hitOr (refused r) next n = Search.Miss next n
+
+-- in a group that ends at `next`, behind so many elements
+unfoldable pub searched : ℕ → ℕ → ℕ → List Located → Search
+searched id before next l = hitOr (firstWith id l) next (before + passedFor id l)
 
 unfoldable pub elementAs : Answer Located → ElementAnswer
 elementAs (accepted e) = At (locatedValue e)
@@ -66,3 +75,7 @@ elementAs (refused r) = Nothing
 -- the answer is the element that is looked for in the record that the bytes `s` begin with
 abbrev pub Finds : Widths → List ℕ → (List Located → Answer Located) → ElementAnswer → Type 0
 Finds w s look r = (x : AvlRecord) (n : ℕ) → plainRecord w s 0 ≡ got x n → r ≡ elementAs (look (elements w x))
+
+-- so many elements of this record are passed in looking for the ID
+abbrev pub Passes : Widths → List ℕ → ℕ → ℕ → Type 0
+Passes w s id passed = (x : AvlRecord) (n : ℕ) → plainRecord w s 0 ≡ got x n → passed ≡ passedFor id (elements w x)

@@ -9,7 +9,7 @@ ghost use Rattle.avl.specs.RecordReader.{element, group, plainRecord};
 ghost use Rattle.walk.specs.Walks.{Narrow};
 ghost use Rattle.element.specs.Elements.{fixedSize, locateGroup, nth, firstWith};
 ghost use Rattle.element.specs.Results.{recordResult};
-ghost use Rattle.element.specs.Search.{Readable, HasElements, ReadableElement, ReadableGroup, Finds, valueAt, searched, elementAs};
+ghost use Rattle.element.specs.Search.{Readable, HasElements, ReadableElement, ReadableGroup, Finds, Passes, valueAt, searched, elementAs};
 
 // A record's fixed fields, and the number of its elements. Whole words first: a refusal's three words stand in their place, and they are copied as words. Latitude and longitude, which are the third, are stored as one in this order, as the packet has them byte by byte backwards.
 pub struct RecordFields {
@@ -26,11 +26,11 @@ pub struct RecordFields {
     pub generation: u8,
 }
 
-// A value: its ID, kind, offset from the input's start, and length.
+// A value: its ID, kind, offset from the input's start, and length. Offset and length apart: side by side they are read as one from where each was just written, which stalls.
 pub struct Value {
+    pub offset: usize,
     pub id: u16,
     pub kind: u8,
-    pub offset: usize,
     pub size: usize,
 }
 
@@ -40,10 +40,16 @@ pub enum ElementAnswer {
     Nothing,
 }
 
-// The value looked for in a group; or where the group ends.
+// What a look-up by ID in a record gives: the element, and the number of elements passed.
+pub struct CountedElement {
+    pub answer: ElementAnswer,
+    pub passed: usize,
+}
+
+// The value looked for in a group, or where the group ends; and how many elements of the record were passed.
 enum Search {
-    Hit(Value),
-    Miss(usize),
+    Hit { value: Value, passed: usize },
+    Miss { next: usize, passed: usize },
 }
 
 // How many bytes of a record stand before its groups.
@@ -108,45 +114,66 @@ pub fn element_value(w: Widths, kind: usize, part: &[u8], at: usize) -> Value
     }
 }
 
-// The first element of a group with this ID.
-fn find_in_group(w: Widths, kind: usize, part: &[u8], at: usize, id: u16) -> Search
+// The first element of a group with this ID, behind so many elements before the group. It counts down, as it has to for the group's end: a count upwards beside that takes time.
+fn find_in_group(w: Widths, kind: usize, part: &[u8], at: usize, id: u16, before: usize) -> Search
     requires { ⌜ Narrow w ⌝ }
+    requires { ⌜ 1 ≤ kind ⌝ }
     requires { ⌜ kind ≤ 9 ⌝ }
     requires { ⌜ ReadableGroup w kind (now part) at ⌝ }
-    ensures { λ r. ⌜ ((g : List Element) (n : ℕ) → group w kind (now (part .entry)) at ≡ got g n → r ≡ searched id n (locateGroup w kind (at + w .count) g)) ⌝ }
+    requires { ⌜ before ≤ at ⌝ }
+    ensures { λ r. ⌜ ((g : List Element) (n : ℕ) → group w kind (now (part .entry)) at ≡ got g n → r ≡ searched id before n (locateGroup w kind (at + w .count) g)) ⌝ }
 {
     let width = w.count;
-    let count = wire::short_number(part, at, width) as usize;
+    let mut left = wire::short_number(part, at, width) as usize;
+    let behind = before + left;
     let mut next = at + width;
-    let mut i: usize = 0;
-    while i < count {
+    while 0 < left {
         let v = element_value(w, kind, part, next);
+        left -= 1;
         if v.id == id {
-            return Search::Hit(v);
+            return Search::Hit {
+                value: v,
+                passed: behind - left,
+            };
         }
         next = v.offset + v.size;
-        i += 1;
     }
-    Search::Miss(next)
+    Search::Miss {
+        next,
+        passed: behind,
+    }
 }
 
-// The first element with this ID, of the record that `part` is.
-pub fn find_id(w: Widths, part: &[u8], id: u16) -> ElementAnswer
+// The first element with this ID, of the record that `part` is, and the number of elements passed.
+pub fn find_id(w: Widths, part: &[u8], id: u16) -> CountedElement
     requires { ⌜ Narrow w ⌝ }
     requires { ⌜ Readable w (now part) ⌝ }
-    ensures { λ r. ⌜ Finds w (now (part .entry)) (firstWith id) r ⌝ }
+    ensures found { λ r. ⌜ Finds w (now (part .entry)) (firstWith id) (r .answer) ⌝ }
+    ensures passed { λ r. ⌜ Passes w (now (part .entry)) id (r .passed) ⌝ }
 {
     let kinds = walk::kind_count(w);
     let mut next = fixed_size(w);
+    let mut before: usize = 0;
     let mut k: usize = 0;
     while k < kinds {
-        match find_in_group(w, walk::kind_at(k), part, next, id) {
-            Search::Hit(v) => return ElementAnswer::At(v),
-            Search::Miss(end) => next = end,
+        match find_in_group(w, walk::kind_at(k), part, next, id, before) {
+            Search::Hit { value, passed } => {
+                return CountedElement {
+                    answer: ElementAnswer::At(value),
+                    passed,
+                };
+            }
+            Search::Miss { next: end, passed } => {
+                next = end;
+                before = passed;
+            }
         }
         k += 1;
     }
-    ElementAnswer::Nothing
+    CountedElement {
+        answer: ElementAnswer::Nothing,
+        passed: before,
+    }
 }
 
 // The variable element with number `n` in the group at `at`.

@@ -1,5 +1,6 @@
 -- The last record of a packet, and the last known value.
-use Prim.Native.Nat.{ℕ, _-_, _%_, _≤_}
+use Prim.Native.Nat.{ℕ, _+_, _-_, _%_, _^_, _≤_, _<_}
+use native.Mathlib.Nat.{lt-of-lt-of-le, pow-le-pow-right}
 use native.Mathlib.Omega.{arith}
 use mathlib.Core.Path.{_≡_, refl, sym, ap, _∙_, subst}
 use mathlib.Core.Bool.{Bool, true, false}
@@ -9,23 +10,32 @@ use Rattle.wire.specs.declared.Limits.{Limits}
 use Rattle.wire.specs.declared.Refusal.{Refusal}
 use Rattle.wire.specs.Numbers.{Bytes, digits, pick}
 use Rattle.wire.specs.Places.{behind}
-use Rattle.wire.specs.Answers.{Answer, accepted, refused, onAccepted}
+use Rattle.wire.specs.Answers.{Answer, accepted, refused, onAccepted, refusal}
 use Rattle.wire.proofs.Accepting.{pick-true, pick-false, onAccepted-accepted, onAccepted-refused}
+use Rattle.wire.proofs.Widths.{byte-pos}
 use Rattle.wire.specs.Envelope.{enclosed}
+use Rattle.avl.specs.declared.Widths.{Widths}
+use Rattle.avl.specs.Codecs.{widthsOf}
+use Rattle.avl.specs.Records.{AvlRecord, elementCount, recordBytes, RecordRules}
 use Rattle.avl.specs.DataField.{dataBytes}
 use Rattle.frame.specs.Frame.{framed}
 use Rattle.frame.proofs.FrameLaws.{length-framed}
 use Rattle.packet.specs.DataPackets.{packetBytes, readPacket}
 use Rattle.packet.proofs.PacketLaws.{packet-exact}
 use Rattle.element.specs.declared.Value.{Value}
-use Rattle.element.specs.Elements.{firstWith}
+use Rattle.walk.specs.Walks.{Narrow}
+use Rattle.walk.proofs.WalkLaws.{narrow}
+use Rattle.element.specs.Elements.{Located, elements, firstWith, passedFor}
+use Rattle.element.proofs.ElementLaws.{length-elements}
+use Rattle.element.proofs.SearchLaws.{passed-most}
+use Rattle.lookup.specs.Places.{Placed}
 use Rattle.lookup.specs.declared.Part.{Part}
 use Rattle.lookup.specs.declared.ValueAnswer.{ValueAnswer}
 use Rattle.lookup.specs.declared.KnownAnswer.{KnownAnswer}
-use Rattle.lookup.specs.Lookups.{Source, tcpSource, Found, view, LastKnown, valueIn, valueInLast, inOlder, orElse, lastKnown, knownPlace}
-use Rattle.lookup.specs.Answers.{PartResult, partOf, lastPart, partAs, PartIn, ValueIn, Within, viewOf, valueResult, answerValue, valueAs, KnownResult, answerKnown, knownAs, knownView}
-use Rattle.lookup.proofs.PlaceLaws.{Stored, tcp-stored, first-member}
-use Rattle.lookup.proofs.PartLaws.{part-there, part-in, part-answer, value-view}
+use Rattle.lookup.specs.Lookups.{Source, tcpSource, placedRecord, Found, foundIn, view, LastKnown, valueIn, valueInLast, inOlder, orElse, lastKnown, orNone, passedInLast, ifNone, passedByLast, knownPlace}
+use Rattle.lookup.specs.Answers.{PartResult, partOf, lastPart, partAs, PartIn, ValueIn, PassedIn, Within, viewOf, valueResult, answerValue, valueAs, KnownResult, answerKnown, knownAs, knownView}
+use Rattle.lookup.proofs.PlaceLaws.{Stored, tcp-stored, first-member, kept}
+use Rattle.lookup.proofs.PartLaws.{part-there, part-in, part-answer, value-view, first-sixteen}
 
 -- ---- the last record of a TCP packet
 
@@ -88,6 +98,27 @@ module _ (limits : Limits) (p : List ℕ) (bytes : Bytes p) where
   unfolding valueInLast
   last-view id answer e = value-view stored lastNumber (firstWith id) (first-member id) answer e
 
+  pub last-passed : (id : ℕ) (part : Part) (passed : ℕ) → partAs part ≡ lastPart (tcpSource limits p) → PassedIn p part id passed → passed ≡ passedInLast id (tcpSource limits p)
+  unfolding lastPart passedInLast
+  last-passed id part passed e k = part-answer stored lastNumber part e k
+
+  -- no more than a total can say
+  pub last-few : (id : ℕ) → passedInLast id (tcpSource limits p) < 256 ^ 2
+  unfolding passedInLast orNone onAccepted
+  last-few id = whole (tcpSource limits p) stored
+    where
+      counted : (longest : ℕ) (w : Widths) (r : AvlRecord) → Narrow w → RecordRules longest w r → passedFor id (elements w r) < 256 ^ 2
+      counted longest w r n k = omega (arith, passed-most id (elements w r), length-elements longest w r k, lt-of-lt-of-le (k .totalFits) (pow-le-pow-right byte-pos (n .count)))
+
+      of-record : (x : Source) → Stored (limits .longest) p x → (r : Answer Placed) → placedRecord x (lastNumber x) ≡ r
+          → orNone (onAccepted r (λ r. accepted (passedFor id (elements (widthsOf (x .content .codec)) (r .content))))) < 256 ^ 2
+      of-record x h (accepted r) e = counted (limits .longest) _ (r .content) (narrow (x .content .codec)) (kept (limits .longest) p x (lastNumber x) r h e .rules)
+      of-record x h (refused y) e = omega arith
+
+      whole : (source : Answer Source) → ((x : Source) → source ≡ accepted x → Stored (limits .longest) p x) → passedInLast id source < 256 ^ 2
+      whole (accepted x) h = of-record x (h x refl) (placedRecord x (lastNumber x)) refl
+      whole (refused y) h = omega arith
+
 abbrev marked : Bool → Answer Found → Answer LastKnown
 marked older found = onAccepted found (λ f. accepted (record { older = older; found = f }))
 
@@ -142,17 +173,72 @@ known-newer id (accepted x) older v e = as-known false (ValueAnswer.Found v) (va
     go (refused x) e = absurd (let z : _≡_ {A = ℕ} 0 1 = cc in omega arith)
 
 -- else what the older packet's last record gives
-pub known-older : (id : ℕ) (newer older : Answer Source) {q : PartResult} {y : Refusal} (answer : ValueAnswer) → accepted q ≡ lastPart newer
-    → refused y ≡ answerValue (inLast id newer) → valueAs answer ≡ answerValue (inLast id older)
-    → knownAs (asKnown true answer) ≡ answerKnown (lastKnown id newer older)
+pub known-older : (id : ℕ) (newer older : Answer Source) {q : PartResult} {y : Refusal} → accepted q ≡ lastPart newer → refused y ≡ answerValue (inLast id newer)
+    → inOlder id older ≡ lastKnown id newer older
 unfolding answerValue lastKnown lastPart orElse onAccepted
-known-older id (refused x) older answer e k h = absurd (let z : _≡_ {A = ℕ} 0 1 = cc in omega arith)
-known-older id (accepted x) older {q} {y} answer e k h =
-    as-known true answer (inLast id older) h ∙ ap answerKnown (sym (in-older id older) ∙ go (valueInLast id x) k)
+known-older id (refused x) older e k = absurd (let z : _≡_ {A = ℕ} 0 1 = cc in omega arith)
+known-older id (accepted x) older {q} {y} e k = go (valueInLast id x) k
   where
     go : (found : Answer Found) → refused y ≡ answerValue found → inOlder id older ≡ orElse (marked false found) (inOlder id older)
     go (accepted f) e = absurd (let z : _≡_ {A = ℕ} 0 1 = cc in omega arith)
     go (refused x) e = refl
+
+pub known-in-older : (id : ℕ) (older : Answer Source) (answer : ValueAnswer) → valueAs answer ≡ answerValue (inLast id older)
+    → knownAs (asKnown true answer) ≡ answerKnown (inOlder id older)
+known-in-older id older answer h = as-known true answer (inLast id older) h ∙ ap answerKnown (sym (in-older id older))
+
+-- a refused packet has no value
+pub last-none : (id : ℕ) (source : Answer Source) {r : Refusal} → source ≡ refused r → (valueAs (ValueAnswer.Refused r) ≡ answerValue (inLast id source)) × (passedInLast id source ≡ 0)
+unfolding valueAs answerValue passedInLast orNone onAccepted
+last-none id source e = (ap (λ (s : Answer Source). answerValue (inLast id s)) (sym e), ap (passedInLast id) e)
+
+-- what is not in a last record is refused with 16
+pub last-sixteen : (id : ℕ) (source : Answer Source) {q : PartResult} (y : Refusal) → accepted q ≡ lastPart source → valueAs (ValueAnswer.Refused y) ≡ answerValue (inLast id source)
+    → y ≡ refusal 16
+unfolding valueAs answerValue lastPart partOf valueInLast valueIn onAccepted
+last-sixteen id (refused x) y e k = absurd (let z : _≡_ {A = ℕ} 0 1 = cc in omega arith)
+last-sixteen id (accepted x) {q} y e k = go (placedRecord x (lastNumber x)) e k
+  where
+    at : (r : Placed) (a : Answer Located) → firstWith id (elements (widthsOf (x .content .codec)) (r .content)) ≡ a → refused y ≡ answerValue (onAccepted a (λ e. accepted (foundIn r e))) → y ≡ refusal 16
+    at r (accepted a) h k = absurd (let z : _≡_ {A = ℕ} 0 1 = cc in omega arith)
+    at r (refused z) h k = let same : y ≡ z = cc in same ∙ first-sixteen id (elements (widthsOf (x .content .codec)) (r .content)) z h
+
+    go : (r : Answer Placed)
+        → accepted q ≡ onAccepted r (λ r. accepted (record { codec = x .content .codec; start = r .start; end = r .start + length (recordBytes (widthsOf (x .content .codec)) (r .content)); elements = elementCount (r .content .groups) }))
+        → refused y ≡ answerValue (onAccepted r (λ r. onAccepted (firstWith id (elements (widthsOf (x .content .codec)) (r .content))) (λ e. accepted (foundIn r e)))) → y ≡ refusal 16
+    go (accepted r) e k = at r (firstWith id (elements (widthsOf (x .content .codec)) (r .content))) refl k
+    go (refused z) e k = absurd (let z : _≡_ {A = ℕ} 0 1 = cc in omega arith)
+
+-- ---- how many elements are passed
+
+-- none where the newer packet is refused
+pub passed-refused : (id : ℕ) (newer older : Answer Source) {r : Refusal} → newer ≡ refused r → 0 ≡ passedByLast id newer older
+unfolding passedByLast orNone
+passed-refused id newer older e = sym (ap orNone (onAccepted-refused newer _ e))
+
+-- those of its last record where that has the ID
+pub passed-newer : (id : ℕ) (newer older : Answer Source) (v : Value) {n : ℕ} → valueAs (ValueAnswer.Found v) ≡ answerValue (inLast id newer) → n ≡ passedInLast id newer
+    → n ≡ passedByLast id newer older
+unfolding valueAs answerValue passedByLast orNone onAccepted ifNone
+passed-newer id (refused x) older v e h = absurd (let z : _≡_ {A = ℕ} 0 1 = cc in omega arith)
+passed-newer id (accepted x) older v {n} e h = go (valueInLast id x) e
+  where
+    go : (found : Answer Found) → valueAs (ValueAnswer.Found v) ≡ answerValue found → n ≡ passedInLast id (accepted x) + ifNone found (passedInLast id older)
+    go (accepted f) e = omega (arith, h)
+    go (refused y) e = absurd (let z : _≡_ {A = ℕ} 0 1 = cc in omega arith)
+
+-- else the older's with them
+pub passed-older : (id : ℕ) (newer older : Answer Source) {q : PartResult} {y : Refusal} {n : ℕ} → accepted q ≡ lastPart newer → refused y ≡ answerValue (inLast id newer)
+    → n ≡ passedInLast id newer → n + passedInLast id older ≡ passedByLast id newer older
+unfolding answerValue lastPart passedByLast orNone onAccepted ifNone
+passed-older id (refused x) older e k h = absurd (let z : _≡_ {A = ℕ} 0 1 = cc in omega arith)
+passed-older id (accepted x) older {q} {y} {n} e k h = go (valueInLast id x) k
+  where
+    go : (found : Answer Found) → refused y ≡ answerValue found → n + passedInLast id older ≡ passedInLast id (accepted x) + ifNone found (passedInLast id older)
+    go (accepted f) e = absurd (let z : _≡_ {A = ℕ} 0 1 = cc in omega arith)
+    go (refused r) e = ap (λ (m : ℕ). m + passedInLast id older) h
+
+-- ---- the view
 
 -- the packet and the record in which it is found
 pub known-in : (id : ℕ) (newer older : Answer Source) (past : Bool) (v : Value) → knownAs (KnownAnswer.Found past v) ≡ answerKnown (lastKnown id newer older)

@@ -33,14 +33,14 @@ use Rattle.element.specs.declared.Value.{Value}
 use Rattle.element.specs.declared.ElementAnswer.{ElementAnswer}
 use Rattle.element.specs.Elements.{Located, elements, nth, firstWith}
 use Rattle.element.specs.Places.{part, Inside}
-use Rattle.element.specs.Search.{Readable, HasElements, Finds, locatedValue, elementAs}
+use Rattle.element.specs.Search.{Readable, HasElements, Finds, Passes, locatedValue, elementAs}
 use Rattle.element.proofs.ReadLaws.{got-same}
 use Rattle.element.proofs.ElementLaws.{elements-inside}
 use Rattle.lookup.specs.declared.Part.{Part}
 use Rattle.lookup.specs.declared.ValueAnswer.{ValueAnswer}
 use Rattle.lookup.specs.Places.{Placed, placeRecords}
-use Rattle.lookup.specs.Lookups.{Source, tcpSource, udpSource, placedRecord, ofRecord, Found, foundIn, valueIn, view, viewOffset}
-use Rattle.lookup.specs.Answers.{PartResult, partOf, partAs, RecordAt, PartIn, OfPart, ValueIn, Reaches, shifted, Within, viewOf, startOf, valueResult, answerValue, valueAs}
+use Rattle.lookup.specs.Lookups.{Source, tcpSource, udpSource, placedRecord, ofRecord, Found, foundIn, valueIn, orNone, view, viewOffset}
+use Rattle.lookup.specs.Answers.{PartResult, partOf, partAs, RecordAt, PartIn, OfPart, ValueIn, PassedIn, Reaches, shifted, Within, viewOf, startOf, valueResult, answerValue, valueAs}
 use Rattle.lookup.proofs.PlaceLaws.{Stored, kept, own-part, value-in-place}
 
 -- ---- the span of a record is its place
@@ -331,6 +331,12 @@ module _ {p : List ℕ} {codec start end count : ℕ} (h : RecordAt p codec star
           let inside = at-inside (widthsOf codec) _ (r .content) (r .next) (look l) v (bytes-take (end - start) (drop start p) (bytes-drop start p b)) (r .reads) (member l) (sym e ∙ searched _ _ (r .reads)) in
           let size = length-take-le (end - start) (drop start p) (simp length-drop (omega arith)) in
           omega (arith, h .ordered, h .inside)
+
+-- the number of elements passed in such a search
+pub passed-found : {p : List ℕ} {codec start end count : ℕ} (id : ℕ) {w : Widths} {passed : ℕ} → w ≡ widthsOf codec → Passes w (part p start (end - start)) id passed
+    → {q : Part} → q ≡ Part.Of codec start count end → PassedIn p q id passed
+unfolding orNone
+passed-found {p} {codec} {start} {end} id same counts e = of-record e (λ x n k. (rw same at counts) x n k)
 
 -- ---- what the walks tell
 

@@ -20,7 +20,7 @@ use Rattle.lookup.specs.declared.Part.{Part}
 use Rattle.lookup.specs.declared.RecordAnswer.{RecordAnswer}
 use Rattle.lookup.specs.declared.ValueAnswer.{ValueAnswer}
 use Rattle.lookup.specs.declared.KnownAnswer.{KnownAnswer}
-use Rattle.lookup.specs.Lookups.{Source, placedRecord, fieldsOf, Found, chosen, LastKnown}
+use Rattle.lookup.specs.Lookups.{Source, placedRecord, fieldsOf, Found, chosen, passedIn, orNone, LastKnown}
 use Rattle.lookup.specs.Places.{Placed}
 
 unfoldable pub recordAs : RecordAnswer → Answer RecordFields
@@ -61,6 +61,10 @@ pub record RecordAt (p : List ℕ) (codec start end elements : ℕ) : Type 0 whe
   pub inside : end ≤ length p
   pub readable : Readable (widthsOf codec) (part p start (end - start))
   pub counted : HasElements (widthsOf codec) (part p start (end - start)) elements
+
+-- a record of the input, as a part
+abbrev pub recordPart : ℕ → ℕ → ℕ → ℕ → Part
+recordPart codec start elements end = Part.Of codec start elements end
 
 -- the part is a record of the input
 pub record PartIn (p : List ℕ) (q : Part) : Type 0 where
@@ -115,6 +119,10 @@ valueAs (ValueAnswer.Refused r) = refused r
 -- the answer is the value that is looked for in the record that the part is
 abbrev pub ValueIn : List ℕ → Part → (List Located → Answer Located) → ValueAnswer → Type 0
 ValueIn p q look answer = OfPart p q (chosen look) (λ found. valueAs answer ≡ answerValue found)
+
+-- so many elements of that record are passed in looking for the ID
+abbrev pub PassedIn : List ℕ → Part → ℕ → ℕ → Type 0
+PassedIn p q id passed = OfPart p q (passedIn id) (λ n. passed ≡ orNone n)
 
 -- ---- the last known value
 

@@ -12,7 +12,7 @@ use Rattle.avl.specs.DataField.{AvlData}
 use Rattle.packet.specs.DataPackets.{readPacket}
 use Rattle.datagram.specs.Datagrams.{readDatagram}
 use Rattle.element.specs.declared.RecordFields.{RecordFields}
-use Rattle.element.specs.Elements.{Located, elements, nth, firstWith}
+use Rattle.element.specs.Elements.{Located, elements, nth, firstWith, passedFor}
 use Rattle.lookup.specs.Places.{Placed, placeRecords}
 use Rattle.element.specs.Results.{recordResult}
 
@@ -76,6 +76,20 @@ unfoldable pub viewOffset : Answer Found → ℕ
 viewOffset (accepted f) = f .offset
 viewOffset (refused r) = 0
 
+-- ---- how many elements a look-up by ID passes
+
+-- in a record
+abbrev pub passedIn : ℕ → ℕ → Placed → Answer ℕ
+passedIn id codec r = accepted (passedFor id (elements (widthsOf codec) (r .content)))
+
+-- nothing is passed where there is no record to look in
+unfoldable pub orNone : Answer ℕ → ℕ
+orNone (accepted n) = n
+orNone (refused r) = 0
+
+unfoldable pub passedById : Answer Source → ℕ → ℕ → ℕ
+passedById source n id = orNone (ofRecord (passedIn id) source n)
+
 -- ---- the last known value
 
 pub record LastKnown : Type 0 where
@@ -96,6 +110,18 @@ orElse (refused r) b = b
 unfoldable pub lastKnown : ℕ → Answer Source → Answer Source → Answer LastKnown
 lastKnown id newer older =
     onAccepted newer (λ x. orElse (onAccepted (valueInLast id x) (λ f. accepted (record { older = false; found = f }))) (inOlder id older))
+
+-- how many elements are passed: those of the newer's last record; and, where that is without the ID, of the older's
+unfoldable pub passedInLast : ℕ → Answer Source → ℕ
+passedInLast id source = orNone (onAccepted source (λ x. onAccepted (placedRecord x (length (x .content .records) - 1)) (passedIn id (x .content .codec))))
+
+unfoldable pub ifNone : Answer Found → ℕ → ℕ
+ifNone (accepted f) n = 0
+ifNone (refused r) n = n
+
+unfoldable pub passedByLast : ℕ → Answer Source → Answer Source → ℕ
+passedByLast id newer older =
+    orNone (onAccepted newer (λ x. accepted (passedInLast id (accepted x) + ifNone (valueInLast id x) (passedInLast id older))))
 
 -- the place of its view: in the packet that has the value; an empty one begins with the newer
 unfoldable pub knownPlace : Answer LastKnown → ℕ × ℕ → ℕ × ℕ → ℕ × ℕ

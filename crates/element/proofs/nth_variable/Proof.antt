@@ -1,3 +1,4 @@
+use Rattle.wire.specs.Answers.{accepted}
 use Rattle.element.specs.Elements.{locateGroup}
 use Prim.Native.Nat.{_+_}
 use mathlib.Core.Path.{_≡_, ap, _∙_}
@@ -49,7 +50,7 @@ element-value-requires-2 c κs = (c .before .before .before .before .before .pre
 
 returns-2 : tie.Need-returns-2 Inv-loop μ-loop
 returns-2 c = λ g m f.
-    let hit = search-hit (c .before .before .loop .inv .1) (omega (arith, c .before .before .before .before .short-number .ensures, c .before .before .before .if1 .left, c .before .before .loop .inv .0)) (c .element-value2 .ensures) (λ e l same. nth-here (c .before .loop-test .left) e l) g m f in
+    let hit = search-hit (c .before .before .loop .inv .1) (omega (arith, c .before .before .before .before .short-number .ensures, c .before .before .before .if1 .left, c .before .before .loop .inv .0)) (c .element-value2 .ensures) accepted (λ e l same. nth-here (c .before .loop-test .left) e l) g m f in
     let whole : c .before .before .before .before .before .before .args .n ≡ c .before .before .before .before .before .before .args .n - 0 = omega arith in
     let l = locateGroup (c .before .before .before .before .before .before .args .w) 9 (c .before .before .before .before .before .before .args .at + c .before .before .before .before .before .before .args .w .count) g in
     at-found (nth (c .before .before .before .before .before .before .args .n) l) (hit .0, ap (λ (k : ℕ). nth k l) whole ∙ hit .1, hit .2)

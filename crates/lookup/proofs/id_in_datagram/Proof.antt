@@ -1,6 +1,6 @@
 use Rattle.wire.specs.Limits.{limitsOf}
 use Rattle.wire.proofs.Widths.{getD-bytes}
-use Rattle.lookup.specs.Lookups.{valueById, valueIn}
+use Rattle.lookup.specs.Lookups.{valueById, passedById, valueIn}
 use Rattle.lookup.proofs.PlaceLaws.{udp-stored}
 use Rattle.lookup.proofs.PartLaws.{record-in, record-answer}
 use borrow.Author.Needs.{needs}
@@ -14,8 +14,8 @@ id-in-requires : tie.Need-id-in-requires
 id-in-requires c κs = record-in (λ x. udp-stored (limitsOf (c .before .before .args .family)) (c .before .before .args .p .now) x (getD-bytes (c .before .before .args .p .now) (λ k. c .before .shared-slice-known .given k .fits))) (c .before .before .args .n) (c .datagram-part .ensures)
 
 returns : tie.Need-returns
-unfolding valueById valueIn
-returns c = record-answer (λ x. udp-stored (limitsOf (c .before .before .before .args .family)) (c .before .before .before .args .p .now) x (getD-bytes (c .before .before .before .args .p .now) (λ k. c .before .before .shared-slice-known .given k .fits))) (c .before .before .before .args .n) (c .before .datagram-part .ensures) (c .id-in .ensures)
+unfolding valueById passedById valueIn
+returns c = (record-answer (λ x. udp-stored (limitsOf (c .before .before .before .args .family)) (c .before .before .before .args .p .now) x (getD-bytes (c .before .before .before .args .p .now) (λ k. c .before .before .shared-slice-known .given k .fits))) (c .before .before .before .args .n) (c .before .datagram-part .ensures) (c .id-in .ensures .0), record-answer (λ x. udp-stored (limitsOf (c .before .before .before .args .family)) (c .before .before .before .args .p .now) x (getD-bytes (c .before .before .before .args .p .now) (λ k. c .before .before .shared-slice-known .given k .fits))) (c .before .before .before .args .n) (c .before .datagram-part .ensures) (c .id-in .ensures .1))
 
 pub id-in-datagram-spec : {M : Type 1} → statement M
 id-in-datagram-spec = tie.close (tie.spec datagram-part-requires id-in-requires returns)
