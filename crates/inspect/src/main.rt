@@ -1,6 +1,8 @@
 // Says what is in a packet, datagram, login, command or TLV form, or why it is refused; shows a captured
 // connection item by item; turns packets into TLV forms and back, and into billing lines, which it also reads;
 // writes commands. `usage` says with which words.
+#![tactic(auto)]
+
 mod input;
 
 ghost use Rattle.std.specs.Prelude.{◌≡◌, ◌≤◌};

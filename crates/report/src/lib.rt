@@ -1,5 +1,7 @@
 // What is in an input, in words on standard output, one function for each kind; and what it turns into.
 // Each answers the number of the refusal that it says, 0 if none.
+#![tactic(auto)]
+
 mod items;
 mod records;
 

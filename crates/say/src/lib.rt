@@ -1,6 +1,8 @@
 // Text on standard output: with numbers in it, as hex text, between quotes, as it is. What is said is put on a
 // page or found in a text by functions whose promises say it byte by byte. No contract can speak of
 // what goes to a descriptor: the functions that write answer how many of those bytes they hand over.
+#![tactic(auto)]
+
 ghost use Rattle.std.specs.Prelude.{◌≡◌, [], ◌∷◌, ◌-◌, ◌*◌, min, length, take, drop, get_or, replicate};
 ghost use Rattle.say.specs.Page.{OnPage};
 ghost use Rattle.say.specs.Rendering.{padded, width_of, shown, is_mark, rendered, is_plain, quotable, quoted, group, onward, around};

@@ -3,6 +3,8 @@
 //   id_view_in_packet FAMILY HEX RECORD ID       id_view_in_datagram FAMILY HEX RECORD ID
 //   last_known_view FAMILY NEWER OLDER ID        command_text FAMILY HEX
 // A line that cannot be read is answered with 'error', and standard error says why.
+#![tactic(auto)]
+
 mod words;
 
 ghost use Rattle.std.specs.Prelude.{◌≡◌};
