@@ -3,12 +3,8 @@ use lib.Dec.{lit≤}
 use lib.Bits.{bit_xor}
 use Rattle.checksum.proofs.ModuloLaws.{factor-8}
 use Rattle.checksum.proofs.FoldLaws.{lowered, carried, pair-alike}
-use Rattle.checksum.proofs.words.fold128.Statement.{statement}
-use Rattle.checksum.proofs.words.fold128.Tie as tie
+use Rattle.checksum.proofs.words.fold128.Goals as goal
 
-returns : tie.Need-returns
+pub returns : goal.returns
 unfolding lowered carried
 returns c = pair-alike 8 factor-8 (lit≤ tt) c.args.low c.args.high (bit_xor c.args.high (carried 64 8 c.args.low)) c.ranges.low.fits c.ranges.high.fits refl
-
-pub fold128-spec : {M : Type 1} → statement M
-fold128-spec = tie.close (tie.spec returns)
