@@ -6,6 +6,7 @@ use Rattle.wire.proofs.Widths.{get_d-bytes}
 use Rattle.checksum.specs.Fold.{joined}
 use Rattle.checksum.proofs.WordLaws.{moved, next-odd, next-two, all_words}
 use Rattle.checksum.proofs.words.to_the_end.Goals as goal
+use Rattle.checksum.proofs.words.to_the_end.Goals.{then-s-at-ge8, else-s-at-ge8}
 
 pub loop-at-init : goal.loop-at-init
 loop-at-init c =
@@ -13,19 +14,19 @@ loop-at-init c =
     let from = c.args.from in
     let now = c.if-s-at-ge8 in
     let bytes = get_d-bytes s (λ i. (c.type_inv.s i).fits) in
-    ⊎_elim
-    (λ arm. (
-      omega (arith, arm.0.taken, arm.3, c.requires.0, c.requires.1),
-      omega (arith, arm.0.taken, arm.3, c.requires.0, c.requires.1),
-      moved s now.at now.low now.high now.parity (from.at + 8) (bit_xor arm.1.result from.high) arm.2.result (bit_xor from.parity arm.2.result) arm.3 arm.4 arm.5 arm.6
-          (next-odd s from.at from.low from.high arm.1.result from.parity arm.2.result bytes (omega (arith, arm.0.taken, c.requires.0)) arm.2.ok arm.2.ensures arm.1.ensures c.requires.2),
-    ))
-    (λ arm. (
-      omega (arith, arm.1, c.requires.0),
-      omega (arith, arm.0.left, arm.1, c.requires.0, c.requires.1),
-      moved s now.at now.low now.high now.parity from.at from.low from.high from.parity arm.1 arm.2 arm.3 arm.4 c.requires.2,
-    ))
-    now.branch
+    elim now.branch [
+      | then-s-at-ge8 w ↦ (
+        omega (arith, w.if-s-at-ge8.true, w.at-is, c.requires.0, c.requires.1),
+        omega (arith, w.if-s-at-ge8.true, w.at-is, c.requires.0, c.requires.1),
+        moved s now.at now.low now.high now.parity (from.at + 8) (bit_xor w.fold64.result from.high) w.le64-high.result (bit_xor from.parity w.le64-high.result) w.at-is w.low-is w.high-is w.parity-is
+            (next-odd s from.at from.low from.high w.fold64.result from.parity w.le64-high.result bytes (omega (arith, w.if-s-at-ge8.true, c.requires.0)) w.le64-high.type_inv w.le64-high.ensures w.fold64.ensures c.requires.2),
+      )
+      | else-s-at-ge8 w ↦ (
+        omega (arith, w.at-is, c.requires.0),
+        omega (arith, w.if-s-at-ge8.false, w.at-is, c.requires.0, c.requires.1),
+        moved s now.at now.low now.high now.parity from.at from.low from.high from.parity w.at-is w.low-is w.high-is w.parity-is c.requires.2,
+      )
+    ]
 
 pub loop-at-preserved : goal.loop-at-preserved
 loop-at-preserved c =
