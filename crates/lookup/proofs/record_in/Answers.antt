@@ -17,7 +17,7 @@ slice_bounds-fields_of-end c = let h = c.requires.stands _ _ _ _ c.in-Of.is in o
 
 pub fields_of-requires : goal.fields_of-requires
 unfolding part
-fields_of-requires c = record { narrow = (part-fields (c.requires.stands _ _ _ _ c.in-Of.is) c.widths_of.ensures).0; readable = (part-fields (c.requires.stands _ _ _ _ c.in-Of.is) c.widths_of.ensures).1; has_elements = (part-fields (c.requires.stands _ _ _ _ c.in-Of.is) c.widths_of.ensures).2 }
+fields_of-requires c = record { narrow = (part-fields (c.requires.stands _ _ _ _ c.in-Of.is) c.widths_of.ensures).0; readable = (part-fields (c.requires.stands _ _ _ _ c.in-Of.is) c.widths_of.ensures).1.0; has_elements = (part-fields (c.requires.stands _ _ _ _ c.in-Of.is) c.widths_of.ensures).1.1 }
 
 pub returns-in-Refused : goal.returns-in-Refused
 unfolding record_as
