@@ -17,7 +17,7 @@ pub put_value-moved-requires : goal.put_value-moved-requires
 put_value-moved-requires c = record { narrow = c.requires.narrow; le_kind = c.requires.le_kind; s_bound = c.requires.s_bound; ready = group-first (listed_word c.args.base) c.args.w c.args.kind c.loop-left.left c.loop-left.invariant c.loop-left-test.true }
 
 pub loop-left-preserved : goal.loop-left-preserved
-loop-left-preserved c = group-on (listed_word c.args.base) c.args.w c.args.kind c.loop-left.left c.loop-left.invariant (paced-value c.args.base c.args.w c.args.kind c.requires.le_kind.0) c.loop-left-test.true c.put_value-moved.ensures c.put_value-moved.auto.out.1.1.1.1.0
+loop-left-preserved c = group-on (listed_word c.args.base) c.args.w c.args.kind c.loop-left.left c.loop-left.invariant (paced-value c.args.base c.args.w c.args.kind c.requires.le_kind.0) c.loop-left-test.true c.put_value-moved.ensures c.put_value-moved.auto.out
 
 pub shape_of-out : goal.shape_of-out
 shape_of-out c = c.loop-left.invariant.long

@@ -12,7 +12,7 @@ pub put_record-moved-requires : goal.put_record-moved-requires
 put_record-moved-requires c = record { narrow = c.requires.narrow; s_bound = c.requires.s_bound; ready = records-first (record_text (listed_word c.args.base) c.args.w (head_text c.args.base c.args.w)) c.args.w c.args.count c.loop-i.i c.loop-i.invariant c.loop-i-test.true }
 
 pub loop-i-preserved : goal.loop-i-preserved
-loop-i-preserved c = records-on (record_text (listed_word c.args.base) c.args.w (head_text c.args.base c.args.w)) c.args.w c.args.count c.loop-i.i c.loop-i.invariant (paced-words c.args.base c.args.w) c.loop-i-test.true c.put_record-moved.ensures c.put_record-moved.auto.out.1.1.1.0
+loop-i-preserved c = records-on (record_text (listed_word c.args.base) c.args.w (head_text c.args.base c.args.w)) c.args.w c.args.count c.loop-i.i c.loop-i.invariant (paced-words c.args.base c.args.w) c.loop-i-test.true c.put_record-moved.ensures c.put_record-moved.auto.out
 
 pub shape_of-out : goal.shape_of-out
 shape_of-out c = c.loop-i.invariant.long

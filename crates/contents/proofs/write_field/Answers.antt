@@ -19,10 +19,10 @@ pub put_contents-size-requires : goal.put_contents-size-requires
 put_contents-size-requires c = record { count_bound = omega (arith, c.type_inv.d 1); s_bound = body-short c.args.base c.args.d.now c.requires.d_bound; ready = field-ready c.args.d.now 2 (lit≤ tt) (get_d-bytes c.args.d.now (λ k. (c.shared_slice_known-1.given k).fits)) c.requires.field }
 
 pub returns-then-out-size : goal.returns-then-out-size
-returns-then-out-size c = writes_short (field_contents (record { packet = c.args.packet; unused = c.args.unused; avl = c.args.avl; imei = c.args.imei }) c.args.base) c.args.d.now c.put_contents-size.ensures c.put_contents-size.auto.1.1.1.1.1.1.1.1.0 c.if-out-size.true
+returns-then-out-size c = writes_short (field_contents (record { packet = c.args.packet; unused = c.args.unused; avl = c.args.avl; imei = c.args.imei }) c.args.base) c.args.d.now c.put_contents-size.ensures c.put_contents-size.auto.out c.if-out-size.true
 
 pub put_contents-requires : goal.put_contents-requires
 put_contents-requires c = record { count_bound = omega (arith, c.type_inv.d 1); s_bound = body-short c.args.base c.args.d.now c.requires.d_bound; ready = field-ready c.args.d.now 2 (lit≤ tt) (get_d-bytes c.args.d.now (λ k. (c.shared_slice_known-1.given k).fits)) c.requires.field }
 
 pub returns : goal.returns
-returns c = writes-done (field_contents (record { packet = c.args.packet; unused = c.args.unused; avl = c.args.avl; imei = c.args.imei }) c.args.base) c.args.d.now c.put_contents-size.ensures c.put_contents-size.auto.1.1.1.1.1.1.1.1.0 c.if-out-size.false c.put_contents.ensures
+returns c = writes-done (field_contents (record { packet = c.args.packet; unused = c.args.unused; avl = c.args.avl; imei = c.args.imei }) c.args.base) c.args.d.now c.put_contents-size.ensures c.put_contents-size.auto.out c.if-out-size.false c.put_contents.ensures

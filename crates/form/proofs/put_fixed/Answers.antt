@@ -13,7 +13,7 @@ use native.Mathlib.Nat.{le_trans, le-add_right}
 use mathlib.Core.Path.{refl}
 use Rattle.form.proofs.put_fixed.Goals as goal
 
-written : (c : goal.After-slice_known-12-1) → Stored (fixed_text c.args.at (fixed_at c.args.w c.args.s.now c.args.at)) c.args.out.now c.store_number-2.new.1.1.1.0 c.args.to c.store_number-2.result
+written : (c : goal.After-slice_known-12-1) → Stored (fixed_text c.args.at (fixed_at c.args.w c.args.s.now c.args.at)) c.args.out.now c.store_number-2.new.out c.args.to c.store_number-2.result
 unfolding le entry_bytes fixed_entry
 written c =
     let o₁ = stored_on c.store_head.ensures.stored c.store_field.ensures (omega arith) in

@@ -17,7 +17,7 @@ pub put_element-moved-requires : goal.put_element-moved-requires
 put_element-moved-requires c = record { narrow = c.requires.narrow; le_kind = c.requires.le_kind; ready = group-first entry_text c.args.w c.args.kind c.loop-left.left c.loop-left.invariant c.loop-left-test.true }
 
 pub loop-left-preserved : goal.loop-left-preserved
-loop-left-preserved c = group-on entry_text c.args.w c.args.kind c.loop-left.left c.loop-left.invariant (paced-element c.args.w c.args.kind c.requires.le_kind.0) c.loop-left-test.true c.put_element-moved.ensures c.put_element-moved.auto.1.1.1.1.0
+loop-left-preserved c = group-on entry_text c.args.w c.args.kind c.loop-left.left c.loop-left.invariant (paced-element c.args.w c.args.kind c.requires.le_kind.0) c.loop-left-test.true c.put_element-moved.ensures c.put_element-moved.auto.out
 
 pub shape_of-out : goal.shape_of-out
 shape_of-out c = c.loop-left.invariant.long

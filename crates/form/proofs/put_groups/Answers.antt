@@ -25,7 +25,7 @@ put_group-moved-requires c = let h : c.loop-k.k < length (kinds c.args.w) = omeg
 pub loop-k-preserved : goal.loop-k-preserved
 loop-k-preserved c = let h : c.loop-k.k < length (kinds c.args.w) = omega (arith, c.loop-k-test.true, c.kind_count-n.ensures) in
     let e = c.kind_at-kind.ensures ∙ kind-known c.args.w c.loop-k.k h in
-    groups-on entry_text c.args.w c.loop-k.k c.loop-k.invariant h e (paced-element c.args.w) (kind-range c.args.w c.loop-k.k h e).0 c.put_group-moved.ensures c.put_group-moved.auto.1.1.1.1.0
+    groups-on entry_text c.args.w c.loop-k.k c.loop-k.invariant h e (paced-element c.args.w) (kind-range c.args.w c.loop-k.k h e).0 c.put_group-moved.ensures c.put_group-moved.auto.out
 
 pub shape_of-out : goal.shape_of-out
 shape_of-out c = c.loop-k.invariant.long

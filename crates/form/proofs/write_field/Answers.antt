@@ -19,10 +19,10 @@ pub put_form-size-requires : goal.put_form-size-requires
 put_form-size-requires c = field-ready c.args.d.now 5 (lit≤ tt) (get_d-bytes c.args.d.now (λ k. (c.shared_slice_known-1.given k).fits)) c.requires
 
 pub returns-then-out-size : goal.returns-then-out-size
-returns-then-out-size c = writes_short form c.args.d.now c.put_form-size.ensures c.put_form-size.auto.1.1.1.0 c.if-out-size.true
+returns-then-out-size c = writes_short form c.args.d.now c.put_form-size.ensures c.put_form-size.auto.out c.if-out-size.true
 
 pub put_form-requires : goal.put_form-requires
 put_form-requires c = field-ready c.args.d.now 5 (lit≤ tt) (get_d-bytes c.args.d.now (λ k. (c.shared_slice_known-1.given k).fits)) c.requires
 
 pub returns : goal.returns
-returns c = writes-done form c.args.d.now c.put_form-size.ensures c.put_form-size.auto.1.1.1.0 c.if-out-size.false c.put_form.ensures
+returns c = writes-done form c.args.d.now c.put_form-size.ensures c.put_form-size.auto.out c.if-out-size.false c.put_form.ensures
