@@ -1,4 +1,3 @@
-use mathlib.Core.Logic.{⊎_elim}
 use mathlib.Core.Path.{refl, sym, ap, ◌∙◌}
 use mathlib.Core.Bool.{Bool, false}
 use Prim.Native.Nat.{◌+◌, ◌-◌}
@@ -8,6 +7,7 @@ use Rattle.wire.specs.Numbers.{pick}
 use Rattle.tlv.specs.PacketOf.{same}
 use Rattle.rebuild.proofs.CandidateLaws.{same_length, same-on, same-off, same-done}
 use Rattle.rebuild.proofs.equal.Goals as goal
+use Rattle.rebuild.proofs.equal.Goals.{then-a-i, else-a-i}
 
 pub returns-then-a-b : goal.returns-then-a-b
 returns-then-a-b c = sym (same_length c.args.a.now c.args.b.now c.if-a-b.true)
@@ -25,10 +25,10 @@ loop-i-preserved c = let a = c.args.a.now in
     let long = c.loop-i.invariant.0 in (
       long,
       omega (arith, c.loop-i-test.true),
-      ⊎_elim
-          (λ arm. ap (λ (x : Bool). pick x (same (drop (i + 1) a) (drop (i + 1) b)) false) arm.1 ∙ same-off a b long c.loop-i.alike i c.loop-i.invariant.2 c.loop-i-test.true arm.0.taken)
-          (λ arm. ap (λ (x : Bool). pick x (same (drop (i + 1) a) (drop (i + 1) b)) false) arm.1 ∙ same-on a b long c.loop-i.alike i c.loop-i.invariant.2 c.loop-i-test.true arm.0.left)
-          c.if-a-i.branch,
+      elim c.if-a-i.branch [
+        | then-a-i w ↦ ap (λ (x : Bool). pick x (same (drop (i + 1) a) (drop (i + 1) b)) false) w.alike-is ∙ same-off a b long c.loop-i.alike i c.loop-i.invariant.2 c.loop-i-test.true w.if-a-i.true
+        | else-a-i w ↦ ap (λ (x : Bool). pick x (same (drop (i + 1) a) (drop (i + 1) b)) false) w.alike-is ∙ same-on a b long c.loop-i.alike i c.loop-i.invariant.2 c.loop-i-test.true w.if-a-i.false
+      ],
     )
 
 pub returns : goal.returns

@@ -13,7 +13,7 @@ same_form-requires c = let size = part-size c.args.limits c.requires.roomy c.arg
 
 pub returns-then-same_form : goal.returns-then-same_form
 returns-then-same_form c = let f = c.args.f.now in
-    let b = get_d-bytes f (λ k. (c.type_inv.f k).fits) in record { answer = (answers-found _ _ (part-found c.args.limits c.requires.roomy f _ c.decode_form-n.result c.decode_form-n.ensures.buffer c.decode_form-n.ensures.size (omega arith) b c.same_form.ensures c.if-same_form.true) c.put_packet.ensures).0; buffer = (answers-found _ _ (part-found c.args.limits c.requires.roomy f _ c.decode_form-n.result c.decode_form-n.ensures.buffer c.decode_form-n.ensures.size (omega arith) b c.same_form.ensures c.if-same_form.true) c.put_packet.ensures).1 }
+    let b = get_d-bytes f (λ k. (c.type_inv.f k).fits) in record { answer = (answers-found _ _ (part-found c.args.limits c.requires.roomy f _ c.decode_form-n.result c.decode_form-n.ensures.buffer c.decode_form-n.ensures.size (omega arith) b c.same_form.ensures c.if-same_form.true) (c.put_packet.ensures.answer, c.put_packet.ensures.buffer)).0; buffer = (answers-found _ _ (part-found c.args.limits c.requires.roomy f _ c.decode_form-n.result c.decode_form-n.ensures.buffer c.decode_form-n.ensures.size (omega arith) b c.same_form.ensures c.if-same_form.true) (c.put_packet.ensures.answer, c.put_packet.ensures.buffer)).1 }
 
 pub returns : goal.returns
 returns c = let f = c.args.f.now in
