@@ -1,5 +1,5 @@
 /* Reads a connection from standard input, a few bytes at a time as a socket may give them, and prints each item.
- * cc -I include -o connection examples/connection.c target/staticlib/libcapi.a */
+ * cc -I include -o connection examples/connection.c crates/capi/out/libcapi.a */
 #include <inttypes.h>
 #include <stdio.h>
 

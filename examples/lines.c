@@ -1,5 +1,5 @@
 /* Reads a TCP data packet from standard input and prints the billing line of each record.
- * cc -I include -o lines examples/lines.c target/staticlib/libcapi.a */
+ * cc -I include -o lines examples/lines.c crates/capi/out/libcapi.a */
 #include <stdio.h>
 
 #include "brundilope.h"

@@ -1,5 +1,5 @@
 /* Reads a TCP data packet from standard input and prints what is in it.
- * cc -I include -o read examples/read.c target/staticlib/libcapi.a */
+ * cc -I include -o read examples/read.c crates/capi/out/libcapi.a */
 #include <inttypes.h>
 #include <stdio.h>
 

@@ -1,5 +1,5 @@
 /* Reads a TCP data packet from standard input and prints each value: ID, kind, offset, size, bytes.
- * cc -I include -o values examples/values.c target/staticlib/libcapi.a */
+ * cc -I include -o values examples/values.c crates/capi/out/libcapi.a */
 #include <stdio.h>
 
 #include "brundilope.h"
