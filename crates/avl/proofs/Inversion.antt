@@ -10,7 +10,7 @@ use borrow.Author.Tests.{leb-true, leb-false, eqb-false}
 use Rattle.wire.specs.declared.Refusal.{Refusal}
 use Rattle.wire.specs.Numbers.{Bytes, number_at, be, pick}
 use Rattle.wire.proofs.Widths.{length_digits}
-use Rattle.wire.specs.Reading.{Read, got, bad, Reader, ◌>>=◌, ◌>>◌, pure, here, require, number, bytes, up_to, repeat}
+use Rattle.wire.specs.Reading.{Read, got, bad, Reader, ◌>>=◌, pure, here, require, number, bytes, up_to, repeat}
 use Rattle.wire.proofs.Exactness.{Meets, meets-then, meets-next, meets-got, meets-pure, meets-require, then-got}
 use Rattle.wire.proofs.Walking.{then-bad, number-got, number-bad, bytes-got, bytes-bad, number-there, number-missing, up_to-there, up_to-missing, up_to-over}
 use Rattle.avl.specs.declared.Widths.{Widths}

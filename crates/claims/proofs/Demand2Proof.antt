@@ -14,7 +14,7 @@ use Rattle.wire.specs.Buffers.{writing, leaving}
 use Rattle.wire.proofs.Accepting.{check-accepted, check-passed, on_accepted-accepted, on_accepted-passed}
 use Rattle.wire.proofs.LimitLaws.{limits-most}
 use Rattle.wire.proofs.BufferLaws.{written-fits, writing-done, leaving-done}
-use Rattle.avl.specs.DataField.{AvlData, data_result}
+use Rattle.avl.specs.DataField.{data_result}
 use Rattle.packet.specs.DataPackets.{packet_bytes, DataPacket, read_packet, answer_packet}
 use Rattle.packet.proofs.PacketLaws.{packet-exact}
 use Rattle.datagram.specs.Datagrams.{read_datagram, answer_datagram}

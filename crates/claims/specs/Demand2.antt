@@ -3,7 +3,7 @@
 use Rattle.std.specs.Prelude.{ℕ, ◌≤◌, ◌≡◌, ◌↔◌, List, ◌++◌, length, drop}
 use Rattle.wire.specs.Numbers.{Bytes}
 use Rattle.wire.specs.Limits.{limits_of}
-use Rattle.wire.specs.Answers.{Answer, accepted}
+use Rattle.wire.specs.Answers.{accepted}
 use Rattle.wire.specs.Buffers.{writing, leaving, written_as}
 use Rattle.wire.specs.declared.Written.{Written}
 use Rattle.avl.specs.DataField.{AvlData, DataResult, data_result}

@@ -1,5 +1,5 @@
 -- Refusals: every number that a call can give, with its index, in the paper's order. A label names the fault, or the faults of which the first counts.
-use Rattle.std.specs.Prelude.{ℕ, true, false, List, [], ◌∷◌, ◌++◌, take, set, replicate}
+use Rattle.std.specs.Prelude.{true, false, List, [], ◌∷◌, ◌++◌, take, set, replicate}
 use Rattle.wire.specs.declared.Written.{Written}
 use Rattle.packet.specs.declared.PacketAnswer.{PacketAnswer}
 use Rattle.datagram.specs.declared.DatagramAnswer.{DatagramAnswer}

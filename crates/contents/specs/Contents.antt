@@ -1,5 +1,5 @@
 -- A packet's table of contents: words for the packet, then for each record in order its own and one for each of its values.
-use Rattle.std.specs.Prelude.{ℕ, ◌+◌, List, [], ◌∷◌, ◌++◌, length}
+use Rattle.std.specs.Prelude.{ℕ, List, [], ◌∷◌, ◌++◌, length}
 use Rattle.wire.specs.declared.Limits.{Limits}
 use Rattle.wire.specs.Sequences.{joined}
 use Rattle.wire.specs.Answers.{Answer, accepted, on_accepted}

@@ -1,5 +1,5 @@
 -- The frame's judge accepts exactly what keeps the frame's rules.
-use Prim.Native.Nat.{ℕ, ◌+◌, ◌-◌, ◌^◌, ◌≤◌, ◌<◌}
+use Prim.Native.Nat.{ℕ, ◌+◌, ◌^◌, ◌≤◌, ◌<◌}
 use native.Mathlib.Nat.{lt_of_lt_of_le}
 use native.Mathlib.Omega.{arith}
 use mathlib.Core.Path.{◌≡◌, refl, sym, ap, ◌∙◌, subst}
@@ -7,10 +7,10 @@ use mathlib.Core.Logic.{◌↔◌}
 use mathlib.Core.List.{List, ◌++◌}
 use lib.ListN.{length, take, drop, length-append, length-drop}
 use lib.Seq.{length-take-le}
-use lib.Dec.{eqb, leb, lit<, lit≤}
+use lib.Dec.{lit<, lit≤}
 use borrow.Author.Tests.{le-leb, leb-true, eq-eqb, eqb-true}
 use Rattle.wire.specs.Numbers.{Bytes, number_at, digits, be}
-use Rattle.wire.specs.Answers.{accepted, check}
+use Rattle.wire.specs.Answers.{accepted}
 use Rattle.wire.proofs.Widths.{be-number, number-be, number_lt, length_digits, bytes_take, bytes_drop, bytes-append, bytes-be}
 use Rattle.wire.proofs.Placed.{Between, between_join, between_split, between-moved, between-bytes, between-take, between_is, between-whole, whole-between}
 use Rattle.wire.proofs.Accepting.{check-accepted, check-passed}

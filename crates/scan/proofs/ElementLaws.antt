@@ -8,7 +8,6 @@ use lib.ListN.{length, drop, get_or}
 use lib.Dec.{eqb}
 use Rattle.wire.specs.Answers.{Answer, accepted, refused, refusal, on_accepted, check_at}
 use Rattle.wire.proofs.Accepting.{pick-false}
-use Rattle.line.specs.Pieces.{behind}
 use Rattle.line.specs.Lines.{number, tag}
 use Rattle.line.specs.LineReader.{no_spare_zero, read_decimal, read_tag, none, read_value, read_printed}
 use Rattle.scan.specs.declared.Number.{Number}

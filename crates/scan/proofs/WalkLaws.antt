@@ -17,7 +17,7 @@ use Rattle.wire.specs.Answers.{Answer, accepted, refused}
 use Rattle.wire.specs.declared.Refusal.{Refusal}
 use Rattle.wire.specs.Reading.{Read, got, bad, and_then}
 use Rattle.wire.proofs.Accepting.{pick_true, pick-false, by_length}
-use Rattle.line.specs.Pieces.{before, pieces}
+use Rattle.line.specs.Pieces.{pieces}
 use Rattle.line.specs.Lines.{Printed, number, tag, Line, FitsI32}
 use Rattle.line.specs.LineReader.{read_decimal, read_degrees, read_printed, is_tag, on_field, next_field, read_elements, read_fields, body, judge_line}
 use Rattle.line.specs.LineElements.{start_from, field_start}

@@ -1,5 +1,5 @@
 -- The laws of numbers as bytes, each once for every width.
-use Prim.Native.Nat.{ℕ, zero, suc, ◌+◌, ◌-◌, ◌*◌, ◌/◌, ◌%◌, ◌^◌, ◌≤◌, ◌<◌}
+use Prim.Native.Nat.{ℕ, zero, suc, ◌+◌, ◌*◌, ◌/◌, ◌%◌, ◌^◌, ◌≤◌, ◌<◌}
 use native.Mathlib.Nat.{add-zero, zero-add, add-suc, div-add-mod', mod-lt, mod-eq_of_lt, div-lt_iff_lt-mul, pow-zero, pow-suc, pow-le-pow_right, mul-one, mul_assoc, mul_comm, mul-le-mul_right, suc-add, le_refl, le_trans}
 use native.Mathlib.Numerals.{add-one}
 use native.Mathlib.Omega.{arith}

@@ -2,7 +2,7 @@ use Rattle.contents.proofs.ListLaws.{paced-value}
 use Rattle.contents.specs.Listing.{listed_word}
 use Rattle.traverse.proofs.LoopLaws.{left-start, groups-first, groups-on, groups-done}
 use Rattle.walk.proofs.KindLaws.{kinds-few, kind-range, kind-known}
-use Prim.Native.Nat.{◌-◌, ◌<◌}
+use Prim.Native.Nat.{◌<◌}
 use mathlib.Core.Path.{◌∙◌}
 use lib.ListN.{length}
 use Rattle.avl.specs.Codecs.{kinds}

@@ -2,7 +2,6 @@ use Rattle.contents.proofs.RecordLaws.{paced-words}
 use Rattle.contents.specs.Listing.{listed_word, head_text}
 use Rattle.traverse.proofs.LoopLaws.{records-start, records-first, records-on, records-done}
 use Rattle.traverse.specs.Texts.{record_text}
-use Prim.Native.Nat.{◌-◌}
 use Rattle.contents.proofs.put_records.Goals as goal
 
 pub loop-i-init : goal.loop-i-init

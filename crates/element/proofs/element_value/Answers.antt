@@ -2,7 +2,6 @@
 use native.Mathlib.Omega.{arith}
 use Rattle.wire.proofs.Widths.{get_d-bytes, number-below}
 use Rattle.element.proofs.ReadLaws.{ElementRead, element-read, id-within, size-within, variable-value, fixed-value}
-use Rattle.element.proofs.element_value.Reads as reads
 use Rattle.element.proofs.element_value.Goals as goal
 
 pub short_number-id-requires : goal.short_number-id-requires

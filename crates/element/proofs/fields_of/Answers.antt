@@ -8,7 +8,6 @@ use Rattle.wire.specs.Numbers.{signed, Bytes}
 use Rattle.wire.proofs.Shifts.{number-one}
 use Rattle.wire.proofs.Widths.{get_d-bytes, number-below}
 use Rattle.element.proofs.ReadLaws.{RecordRead, fields_within, record-fields, record-read}
-use Rattle.element.proofs.fields_of.Reads as reads
 use Rattle.element.proofs.fields_of.Goals as goal
 
 pub short_number-event_id-requires : goal.short_number-event_id-requires

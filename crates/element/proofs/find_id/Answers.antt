@@ -7,7 +7,7 @@ use Rattle.wire.proofs.Widths.{get_d-bytes}
 use lib.ListN.{length}
 use mathlib.Core.Path.{◌∙◌}
 use native.Mathlib.Omega.{arith}
-use Prim.Native.Nat.{◌-◌, ◌≤◌, ◌<◌}
+use Prim.Native.Nat.{◌≤◌, ◌<◌}
 use Rattle.element.proofs.find_id.Goals as goal
 
 pub loop-k-init : goal.loop-k-init

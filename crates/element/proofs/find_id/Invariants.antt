@@ -1,6 +1,5 @@
 use Rattle.element.proofs.SearchLaws.{Ahead}
 use Rattle.element.specs.Search.{sought}
-use Rattle.avl.specs.Codecs.{kinds}
 use Prim.Native.Nat.{◌-◌, ◌≤◌}
 use Rattle.element.proofs.find_id.Given as goal
 

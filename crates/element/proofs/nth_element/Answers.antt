@@ -7,7 +7,7 @@ use Rattle.wire.proofs.Widths.{get_d-bytes}
 use mathlib.Core.Path.{ap, ◌∙◌}
 use native.Mathlib.Omega.{arith}
 use native.Mathlib.Nat.{mul-le-mul_right, le_of_lt}
-use Prim.Native.Nat.{◌+◌, ◌-◌}
+use Prim.Native.Nat.{◌+◌}
 use Rattle.element.proofs.nth_element.Goals as goal
 
 pub loop-k-init : goal.loop-k-init

@@ -2,7 +2,7 @@ use native.Mathlib.Omega.{arith}
 use Rattle.avl.specs.Codecs.{kinds}
 use lib.ListN.{length}
 use mathlib.Core.Path.{◌∙◌}
-use Prim.Native.Nat.{◌-◌, ◌<◌}
+use Prim.Native.Nat.{◌<◌}
 use Rattle.walk.proofs.KindLaws.{kinds-few, kind-range, kind-known}
 use Rattle.traverse.proofs.LoopLaws.{left-start, groups-first, groups-on, groups-done}
 use Rattle.form.specs.Moves.{entry_text}

@@ -1,4 +1,3 @@
-use Prim.Native.Nat.{◌-◌}
 use Rattle.traverse.specs.Texts.{record_text}
 use Rattle.traverse.proofs.LoopLaws.{records-start, records-first, records-on, records-done}
 use Rattle.form.specs.Moves.{entry_text, head_text}

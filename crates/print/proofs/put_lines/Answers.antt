@@ -1,4 +1,3 @@
-use Prim.Native.Nat.{◌-◌}
 use Rattle.print.proofs.LineLaws.{paced-line}
 use Rattle.print.specs.Printing.{line_text}
 use Rattle.traverse.proofs.LoopLaws.{records-start, records-first, records-on, records-done}

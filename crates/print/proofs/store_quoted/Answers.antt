@@ -1,7 +1,6 @@
 use mathlib.Core.Path.{◌∙◌}
 use Rattle.store.proofs.StoredLaws.{left-all}
 use Rattle.print.proofs.TagLaws.{rest_of, quoted-near, quoted-on, quoted-done, quoted-stored}
-use Prim.Native.Nat.{◌-◌}
 use native.Mathlib.Omega.{arith}
 use Rattle.store.proofs.StoredLaws.{left-length}
 use Rattle.print.proofs.store_quoted.Goals as goal

@@ -3,7 +3,7 @@ use Rattle.store.specs.Entries.{entries_at}
 use Rattle.tlv.specs.Decoding.{records_of}
 use mathlib.Core.Path.{refl, sym, ap, ◌∙◌}
 use native.Mathlib.Omega.{arith}
-use Prim.Native.Nat.{ℕ, ◌-◌}
+use Prim.Native.Nat.{ℕ}
 use Rattle.rebuild.proofs.next_record.Goals as goal
 
 pub loop-at-init : goal.loop-at-init

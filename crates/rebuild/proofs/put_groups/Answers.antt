@@ -6,7 +6,7 @@ use Rattle.avl.specs.Codecs.{kinds}
 use lib.ListN.{length}
 use mathlib.Core.Path.{◌∙◌}
 use native.Mathlib.Omega.{arith}
-use Prim.Native.Nat.{◌^◌, ◌-◌, ◌<◌}
+use Prim.Native.Nat.{◌^◌, ◌<◌}
 use Rattle.rebuild.proofs.put_groups.Goals as goal
 
 pub kind_count-n-requires : goal.kind_count-n-requires

@@ -1,7 +1,7 @@
 use Rattle.rebuild.proofs.RunLaws.{recording-start, recording-room, recording_on, recording-done}
 use Rattle.store.proofs.StoredLaws.{left-length}
 use native.Mathlib.Omega.{arith}
-use Prim.Native.Nat.{◌^◌, ◌-◌}
+use Prim.Native.Nat.{◌^◌}
 use Rattle.rebuild.proofs.put_records.Goals as goal
 
 pub next_record-at-requires : goal.next_record-at-requires

@@ -3,7 +3,6 @@ use Rattle.store.proofs.StoredLaws.{left-length}
 use Rattle.rebuild.proofs.OffsetLaws.{run-stop, run_end}
 use mathlib.Core.Path.{sym, ◌∙◌}
 use native.Mathlib.Omega.{arith}
-use Prim.Native.Nat.{◌-◌}
 use Rattle.rebuild.proofs.put_run.Goals as goal
 
 pub loop-at-init : goal.loop-at-init

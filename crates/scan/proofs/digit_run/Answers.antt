@@ -1,4 +1,3 @@
-use Prim.Native.Nat.{◌-◌, ◌<◌}
 use lib.Dec.{lit<}
 use native.Mathlib.Omega.{arith}
 use Rattle.scan.proofs.RunLaws.{run-start, run-turn, run-large, run-stop, run_end}

@@ -1,5 +1,4 @@
 use mathlib.Core.Path.{sym, ◌∙◌}
-use Prim.Native.Nat.{◌-◌}
 use native.Mathlib.Omega.{arith}
 use Rattle.scan.proofs.WalkLaws.{left-start, left-done, left-wrong, left-turn, left_less}
 use Rattle.scan.proofs.elements_on.Goals as goal

@@ -1,5 +1,4 @@
 use mathlib.Core.Path.{refl}
-use Prim.Native.Nat.{◌-◌}
 use Rattle.scan.proofs.AnswerLaws.{end-comma, end-turn, end-done}
 use Rattle.scan.proofs.field_end.Goals as goal
 

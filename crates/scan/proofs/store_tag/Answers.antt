@@ -1,6 +1,5 @@
 use Rattle.scan.proofs.TagLaws.{gives_less, counted-inside, counted-behind, stored-first, stored_on, stored-length, stored-done, stored_wrong}
 use native.Mathlib.Omega.{arith}
-use Prim.Native.Nat.{◌-◌}
 use Rattle.scan.proofs.store_tag.Goals as goal
 
 pub loop-b-init : goal.loop-b-init

@@ -1,6 +1,5 @@
 use Rattle.scan.proofs.TagLaws.{gives_less, counted-first, counted-on, counted-inside, counted-behind, counted-done, counted-wrong}
 use native.Mathlib.Omega.{arith}
-use Prim.Native.Nat.{◌-◌}
 use Rattle.scan.proofs.tag_field.Goals as goal
 
 pub loop-next-init : goal.loop-next-init

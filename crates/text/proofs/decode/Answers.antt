@@ -1,7 +1,6 @@
 use Rattle.text.proofs.HexLaws.{digit-small, decode-first, decode-pair, decode-skip, decode-done, bytes-first, bytes-space, bytes-other}
 use mathlib.Core.Path.{sym, ◌∙◌}
 use native.Mathlib.Omega.{arith}
-use Prim.Native.Nat.{◌-◌}
 use Rattle.text.proofs.decode.Goals as goal
 
 pub loop-i-init : goal.loop-i-init

@@ -1,7 +1,6 @@
 use Rattle.text.proofs.HexLaws.{encode-first, encode-turn, encode-done}
 use mathlib.Core.Path.{refl}
 use native.Mathlib.Omega.{arith}
-use Prim.Native.Nat.{◌-◌}
 use Rattle.text.proofs.encode.Goals as goal
 
 pub loop-i-init : goal.loop-i-init

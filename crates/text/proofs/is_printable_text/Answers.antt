@@ -1,7 +1,6 @@
 use Rattle.text.proofs.HexLaws.{printable-on, printable-off, printable-done}
 use mathlib.Core.Path.{refl, sym, ◌∙◌}
 use native.Mathlib.Omega.{arith}
-use Prim.Native.Nat.{◌-◌}
 use Rattle.text.proofs.is_printable_text.Goals as goal
 
 pub loop-i-init : goal.loop-i-init

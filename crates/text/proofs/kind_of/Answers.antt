@@ -1,7 +1,6 @@
 use Rattle.text.proofs.HexLaws.{kind-first, kind-digit, kind-space, kind-other, kind-done}
 use mathlib.Core.Path.{sym, ◌∙◌}
 use native.Mathlib.Omega.{arith}
-use Prim.Native.Nat.{◌-◌}
 use Rattle.text.proofs.kind_of.Goals as goal
 
 pub loop-i-init : goal.loop-i-init

@@ -1,7 +1,6 @@
 use Rattle.text.proofs.NumberLaws.{number-first, number-none, number-low, number-high, number-over, number-on, number-done}
 use mathlib.Core.Path.{sym, ◌∙◌}
 use native.Mathlib.Omega.{arith}
-use Prim.Native.Nat.{◌-◌}
 use Rattle.text.proofs.number_of.Goals as goal
 
 pub returns-then-w-eq0 : goal.returns-then-w-eq0

@@ -2,7 +2,7 @@ use Rattle.text.proofs.CalendarLaws.{month-more, month-turn, month-done}
 use Rattle.text.specs.Calendar.{month_days, months_long}
 use mathlib.Core.Path.{◌∙◌}
 use native.Mathlib.Omega.{arith}
-use Prim.Native.Nat.{◌+◌, ◌-◌, ◌≤◌}
+use Prim.Native.Nat.{◌+◌, ◌≤◌}
 use Rattle.text.proofs.within_year.Goals as goal
 
 pub loop-left-init : goal.loop-left-init

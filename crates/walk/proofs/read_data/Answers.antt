@@ -8,7 +8,6 @@ use Rattle.walk.specs.declared.Records.{Records}
 use mathlib.Core.List.{List}
 use mathlib.Core.Path.{◌≡◌, sym, ap, ap₂, subst, ◌∙◌}
 use lib.ListN.{length, take, drop}
-use borrow.Author.Tests.{not-true, not-false}
 use Rattle.wire.specs.Envelope.{codec_of, first_count, last_count, inner}
 use Rattle.wire.proofs.Widths.{get_d-bytes}
 use Rattle.avl.specs.declared.Widths.{Widths}

@@ -4,7 +4,6 @@ use lib.Dec.{lit<, lit≤}
 use Rattle.wire.proofs.DigitLaws.{numbered_of, numbered-unread, numbered-got, numbered-bad, room-first, digits-turn, digits-stop, digits-below, digits-done}
 use Rattle.wire.proofs.ImeiPacked.{pair-exact}
 use Rattle.wire.proofs.Widths.{get_d-bytes}
-use Rattle.wire.specs.Imei.{pair_up_to}
 use Rattle.wire.proofs.pairs_from.Goals as goal
 
 pub loop-left-init : goal.loop-left-init

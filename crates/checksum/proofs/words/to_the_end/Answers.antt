@@ -1,6 +1,5 @@
-use Prim.Native.Nat.{◌+◌, ◌-◌}
+use Prim.Native.Nat.{◌+◌}
 use native.Mathlib.Omega.{arith}
-use mathlib.Core.Logic.{⊎_elim}
 use lib.Bits.{bit_xor}
 use Rattle.wire.proofs.Widths.{get_d-bytes}
 use Rattle.checksum.specs.Fold.{joined}
