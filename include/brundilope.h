@@ -5,8 +5,29 @@
  * the refusal's number, `index` is the record's index from 0, which goes with 8 to 12 in data packets and datagrams
  * (left-over bytes: the number of records), and `place` is the offset at which the offending field starts in the
  * input. Both are 0 otherwise, and on a refusal all other fields are 0; only a feed still says how many bytes it used,
- * and a feed or a start what the connection's state is. BRUNDILOPE_REFUSALS, below, lists the numbers with their
- * names and meanings.
+ * and a feed or a start what the connection's state is.
+ *
+ *    1  under 8 bytes (TCP packet), 17 (login), 26 (UDP)
+ *    2  first four bytes not zero
+ *    3  data length or datagram outside its family's limits
+ *    4  input length differs from what its length field gives; login over 17 bytes
+ *    5  CRC field wrong
+ *    6  codec not one this entry point takes
+ *    7  counts or quantities break their rule
+ *    8  a field's bytes are not all there, or bytes are left over
+ *    9  IO total wrong
+ *   10  priority over 2
+ *   11  generation type over 7
+ *   12  record over 255 bytes (family 1)
+ *   13  message type not allowed for its codec
+ *   14  text size breaks its rule, or a command to write is over its family's limit
+ *   15  IMEI length or digit wrong
+ *   16  no such record, element or ID
+ *   17  not the TLV form of any acceptable TCP data packet of the family
+ *   18  lent buffer too short for the result
+ *   19  connection closed, or a state that no feeds from a fresh one give
+ *   20  not a billing line
+ *   21  unknown family
  *
  * `place`, counted from the first byte of the packet, datagram or login, in a feed from the first byte of the item:
  *
