@@ -1,4 +1,6 @@
 // The widths, in bytes, of the fields that differ between the codecs, and whether there are variable values.
+#![tactic(auto)]
+
 #[derive(Drop)]
 pub struct Widths {
     pub event: usize,

@@ -1,4 +1,6 @@
 // The calls for C: flat answers. `number` is 0 where the input is accepted, else the refusal's number, with the record's index in `index` and the offending field's offset in `place`; all other fields are then 0.
+#![tactic(auto)]
+
 ghost use Rattle.std.specs.Prelude.{◌≡◌};
 ghost use Rattle.wire.specs.Answers.{accepted};
 ghost use Rattle.wire.specs.Buffers.{writing, leaving, written_as};

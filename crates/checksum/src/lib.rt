@@ -1,4 +1,6 @@
 // CRC-16/IBM: by words of eight bytes, and from a table of 256 entries where there are too few bytes for a word.
+#![tactic(auto)]
+
 mod table;
 mod words;
 

@@ -1,4 +1,6 @@
 // UDP datagrams: judged, and acknowledged.
+#![tactic(auto)]
+
 ghost use Rattle.std.specs.Prelude.{◌≡◌, ◌+◌, ◌≤◌, ◌++◌, length, drop};
 ghost use Rattle.wire.specs.Buffers.{writing, leaving, written_as};
 ghost use Rattle.datagram.specs.Datagrams.{judge_header, read_datagram, answer_datagram, payload_of, header_as, datagram_as, answer_bytes, udp_acknowledgement};

@@ -1,4 +1,6 @@
 // Reading within a record: its fields, and its elements by number and by ID.
+#![tactic(auto)]
+
 ghost use Rattle.std.specs.Prelude.{◌≡◌, ℕ, ◌+◌, ◌≤◌, List};
 ghost use Rattle.wire.specs.Reading.{got};
 ghost use Rattle.avl.specs.Records.{Element, AvlRecord};

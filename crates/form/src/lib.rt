@@ -1,4 +1,6 @@
 // The TLV form of packets and datagrams (the paper's house form), written into a lent buffer.
+#![tactic(auto)]
+
 ghost use Rattle.std.specs.Prelude.{◌≡◌, ◌+◌, ◌^◌, ◌≤◌, ◌<◌, ◌++◌, length};
 ghost use Rattle.wire.specs.Numbers.{number_at, le};
 ghost use Rattle.wire.specs.Reading.{got, repeat};

@@ -1,4 +1,6 @@
 // Lines for the billing desk: what the writer and the reader share.
+#![tactic(auto)]
+
 ghost use Rattle.std.specs.Prelude.{◌≡◌};
 ghost use Rattle.line.specs.Lines.{is_plain};
 

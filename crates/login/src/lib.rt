@@ -1,4 +1,6 @@
 // The TCP login and its answer.
+#![tactic(auto)]
+
 ghost use Rattle.std.specs.Prelude.{◌≡◌, [], ◌∷◌};
 ghost use Rattle.wire.specs.Answers.{accepted};
 ghost use Rattle.wire.specs.Buffers.{writing, leaving, written_as};

@@ -1,4 +1,6 @@
 // Records and values by number and by ID, in TCP packets and datagrams.
+#![tactic(auto)]
+
 ghost use Rattle.std.specs.Prelude.{◌≡◌, ◌+◌, ◌-◌, ◌^◌, ◌≤◌, ◌<◌, length, get_or};
 ghost use Rattle.lookup.specs.Lookups.{tcp_source, udp_source, record_by_number, value_by_number, value_by_id, passed_by_id, view, view_offset, in_older, last_known, passed_in_last, passed_by_last, known_place};
 ghost use Rattle.element.specs.Elements.{nth, first_with};

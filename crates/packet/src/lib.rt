@@ -1,4 +1,6 @@
 // TCP data packets: judged, and acknowledged.
+#![tactic(auto)]
+
 ghost use Rattle.std.specs.Prelude.{◌≡◌};
 ghost use Rattle.wire.specs.Buffers.{writing, leaving, written_as};
 ghost use Rattle.walk.specs.Walks.{data_walk};

@@ -8,6 +8,7 @@ ghost use Rattle.say.specs.Page.{OnPage};
 ghost use Rattle.say.specs.Rendering.{padded, width_of, shown, is_mark, rendered, is_plain, quotable, quoted, group, onward, around};
 ghost use Rattle.say.specs.Lines.{line_length, line_of};
 ghost use Rattle.text.specs.Hex.{hex_text};
+ghost use Rattle.text.specs.Decimal.{decimal};
 ghost use Rattle.wire.specs.Limits.{largest_of_all};
 
 use std::io;

@@ -1,4 +1,6 @@
 // Reading a line for the billing desk: its four leading fields, and its elements one by one.
+#![tactic(auto)]
+
 ghost use Rattle.std.specs.Prelude.{◌≡◌, ◌+◌, ◌≤◌, false, length, drop};
 ghost use Rattle.line.specs.LineReader.{read_decimal, read_unsigned, read_degrees, read_hex, read_tag, none, read_value, read_printed, read_elements, positive, negative, judge_line, wrong_at};
 ghost use Rattle.line.specs.LineElements.{start_from, field_start, element_of, element_at};

@@ -1,4 +1,6 @@
 // Stores and reads at any offset: what would be stored past a buffer's end is left out, what is read past it is 0. TLV entries on top of them.
+#![tactic(auto)]
+
 ghost use Rattle.std.specs.Prelude.{◌≡◌, ◌+◌, ◌^◌, ◌≤◌, ◌<◌, min, ◌++◌, length, get_or, set};
 ghost use Rattle.std.proofs.lemmas.List.Edits.{sets};
 ghost use Rattle.wire.specs.Numbers.{be, le, little_at};

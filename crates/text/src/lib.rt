@@ -1,4 +1,6 @@
 // Hex text to bytes and back, a decimal number, and the calendar date of a day.
+#![tactic(auto)]
+
 ghost use Rattle.std.specs.Prelude.{◌≡◌, ◌*◌, ◌<◌, length, nat_abs};
 ghost use Rattle.std.proofs.lemmas.List.Edits.{sets};
 ghost use Rattle.text.specs.Hex.{among, mark_of, kind_of, hex_bytes, glyph_of, hex_text, printable};

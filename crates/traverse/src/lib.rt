@@ -1,4 +1,6 @@
 // Where reading and storing go on, for writers that go along records.
+#![tactic(auto)]
+
 #[derive(Drop)]
 pub struct Moved {
     pub from: usize,

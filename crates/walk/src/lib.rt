@@ -1,4 +1,6 @@
 // The walk over records: the width set of each codec, and the functions that read it.
+#![tactic(auto)]
+
 ghost use Rattle.std.specs.Prelude.{◌≡◌, ◌+◌, ◌^◌, ◌≤◌, ◌<◌, length, get_or, leb};
 ghost use Rattle.wire.specs.Numbers.{pick};
 ghost use Rattle.wire.specs.Reading.{walked, repeat};

@@ -1,4 +1,6 @@
 // Numbers in bytes: big- and little-endian at a width, and the two's complement.
+#![tactic(auto)]
+
 ghost use Rattle.std.specs.Prelude.{◌≡◌, ◌+◌, ◌≤◌, ◌<◌, length};
 ghost use Rattle.std.proofs.lemmas.List.Edits.{sets};
 ghost use Rattle.wire.specs.Numbers.{number_at, little_at, signed, value_from, be, le};
