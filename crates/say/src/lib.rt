@@ -3,7 +3,7 @@
 // what goes to a stream: the functions that write answer how many of those bytes they hand over.
 #![tactic(auto)]
 
-ghost use Rattle.std.specs.Prelude.{◌≡◌, [], ◌∷◌, ◌-◌, ◌*◌, min, length, take, drop, get_or, replicate};
+ghost use Rattle.std.specs.Prelude.{◌≡◌, [], ◌∷◌, ◌-◌, ◌*◌, ◌<◌, min, length, take, drop, get_or, replicate};
 ghost use Rattle.say.specs.Page.{OnPage};
 ghost use Rattle.say.specs.Rendering.{padded, width_of, shown, is_mark, rendered, is_plain, quotable, quoted, group, onward, around};
 ghost use Rattle.say.specs.Lines.{line_length, line_of};
@@ -11,9 +11,8 @@ ghost use Rattle.text.specs.Hex.{hex_text};
 ghost use Rattle.text.specs.Decimal.{decimal};
 ghost use Rattle.wire.specs.Limits.{largest_of_all};
 
-use std::io;
 use std::io::{Cursor, Write};
-use std::str;
+use std::{io, str};
 
 // ---- a page; each function answers where it goes on
 
@@ -59,7 +58,8 @@ fn less(a: usize, b: usize) -> usize
 
 // Stores the decimal digits of a number at the end of the room for them, and answers where they begin.
 fn decimal(n: u64, out: &mut [u8; 20]) -> usize
-    ensures { drop result out.new ≡ decimal n }
+    ensures within { result < 20 }
+    ensures digits { drop result out.new ≡ decimal n }
 {
     let mut rest = n;
     let mut start: usize = 19;
@@ -78,8 +78,9 @@ fn put_padded(page: &mut [u8], at: usize, n: u64, width: usize, pad: u8) -> usiz
 {
     let mut digits = [0u8; 20];
     let start = decimal(n, &mut digits);
-    let to = put_times(page, at, pad, less(width, 20 - start));
-    put_text(page, to, &digits[start..])
+    let text = &digits[start..];
+    let to = put_times(page, at, pad, less(width, text.len()));
+    put_text(page, to, text)
 }
 
 // The width that a character means: 1 to 9, A for 10 to F for 15.
