@@ -1,7 +1,7 @@
 // The widths, in bytes, of the fields that differ between the codecs, and whether there are variable values.
 #![tactic(auto)]
 
-#[derive(Drop)]
+#[derive(Clone, Copy)]
 pub struct Widths {
     pub event: usize,
     pub generation: usize,

@@ -19,7 +19,7 @@ use frame::Framed;
 use wire::{Decimal, Limits, Refusal, Written};
 
 // A row of the table of command layouts: the codec, whether it has type 11 besides 05 and 06, and how many bytes of IMEI and of time stand before the text.
-#[derive(Drop)]
+#[derive(Clone, Copy)]
 pub struct Layout {
     pub codec: u8,
     pub mismatch: bool,
@@ -27,14 +27,14 @@ pub struct Layout {
     pub time: usize,
 }
 
-#[derive(Drop)]
+#[derive(Clone, Copy)]
 pub enum Row {
     Of(Layout),
     Unknown,
 }
 
 // A command's codec, type, IMEI (0 but in codec 14), time (0 but in codec 13), and its text's offset from the input's start and length. Words first: they stand where a refusal's words do, and bytes there would be read as a word just after they were written, which stalls.
-#[derive(Drop)]
+#[derive(Clone, Copy)]
 pub struct CommandFields {
     pub imei: u64,
     pub offset: usize,
@@ -44,7 +44,7 @@ pub struct CommandFields {
     pub kind: u8,
 }
 
-#[derive(Drop)]
+#[derive(Clone, Copy)]
 pub enum CommandAnswer {
     Accepted(CommandFields),
     Refused(Refusal),
@@ -123,7 +123,7 @@ fn read_time(s: &[u8], at: usize, w: usize) -> u32
 }
 
 // What stands between the quantities: the type, the IMEI, the time and how long the text is, or why the walk stopped.
-#[derive(Drop)]
+#[derive(Clone, Copy)]
 pub enum BodyWalk {
     Of(u8, u64, u32, usize),
     Stopped(Refusal),
@@ -253,7 +253,7 @@ pub fn command_text(family: usize, p: &[u8]) -> &[u8]
 }
 
 // The IMEI of a packet to be written, or why it is not.
-#[derive(Drop)]
+#[derive(Clone, Copy)]
 pub enum Given {
     Imei(u64),
     Refused(Refusal),

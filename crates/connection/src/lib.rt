@@ -38,7 +38,7 @@ pub struct Started {
 }
 
 // What a feed tells: more bytes are needed, the login's IMEI, the packet's length, or the refusal.
-#[derive(Drop)]
+#[derive(Clone, Copy)]
 pub enum Item {
     More,
     Login(u64),

@@ -11,7 +11,7 @@ use walk::DataWalk;
 use wire::{Refusal, Written};
 
 // What stands before the data field: packet ID, unused byte, AVL packet ID, IMEI.
-#[derive(Drop)]
+#[derive(Clone, Copy)]
 pub struct Header {
     pub packet: u16,
     pub unused: u8,
@@ -20,7 +20,7 @@ pub struct Header {
 }
 
 // The codec, the number of records and the header of an accepted datagram, or the refusal.
-#[derive(Drop)]
+#[derive(Clone, Copy)]
 pub enum DatagramAnswer {
     Accepted {
         codec: u8,
@@ -31,7 +31,7 @@ pub enum DatagramAnswer {
 }
 
 // The IMEI of a header that is well-formed, or the refusal. Its other fields are read once the datagram is accepted.
-#[derive(Drop)]
+#[derive(Clone, Copy)]
 enum HeaderAnswer {
     Of(u64),
     Refused(Refusal),

@@ -13,7 +13,7 @@ ghost use Rattle.element.specs.Search.{Readable, HasElements, ReadableElement, R
 use avl::Widths;
 
 // A record's fixed fields, and the number of its elements. Whole words first: a refusal's three words stand in their place, and they are copied as words. Latitude and longitude, which are the third, are stored as one in this order, as the packet has them byte by byte backwards.
-#[derive(Drop)]
+#[derive(Clone, Copy)]
 pub struct RecordFields {
     pub timestamp: u64,
     pub elements: usize,
@@ -29,7 +29,7 @@ pub struct RecordFields {
 }
 
 // A value: its ID, kind, offset from the input's start, and length. Offset and length apart: side by side they are read as one from where each was just written, which stalls.
-#[derive(Drop)]
+#[derive(Clone, Copy)]
 pub struct Value {
     pub offset: usize,
     pub id: u16,
@@ -38,21 +38,21 @@ pub struct Value {
 }
 
 // A value of a record, its offset counted from the record's start; or none.
-#[derive(Drop)]
+#[derive(Clone, Copy)]
 pub enum ElementAnswer {
     At(Value),
     Nothing,
 }
 
 // What a look-up by ID in a record gives: the element, and the number of elements passed.
-#[derive(Drop)]
+#[derive(Clone, Copy)]
 pub struct CountedElement {
     pub answer: ElementAnswer,
     pub passed: usize,
 }
 
 // The value looked for in a group, or where the group ends; and how many elements of the record were passed.
-#[derive(Drop)]
+#[derive(Clone, Copy)]
 enum Search {
     Hit { value: Value, passed: usize },
     Miss { next: usize, passed: usize },

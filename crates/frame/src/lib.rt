@@ -8,7 +8,7 @@ ghost use Rattle.frame.specs.Frame.{framed, header, unframe, framing, heading, r
 use wire::Refusal;
 
 // The length of the data field, which starts at 8; or the refusal's number, of which `refusal_of` makes the refusal. The number alone: an answer of two words goes in registers.
-#[derive(Drop)]
+#[derive(Clone, Copy)]
 pub enum Framed {
     Field(usize),
     Unframed(usize),

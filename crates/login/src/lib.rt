@@ -9,7 +9,7 @@ ghost use Rattle.login.specs.Login.{read_login, login_answer, login_as};
 use wire::{Refusal, Written};
 
 // The IMEI of a well-formed login, or the refusal.
-#[derive(Drop)]
+#[derive(Clone, Copy)]
 pub enum LoginAnswer {
     Imei(u64),
     Refused(Refusal),

@@ -13,41 +13,41 @@ use element::{ElementAnswer, RecordFields, Value};
 use walk::DataWalk;
 use wire::Refusal;
 
-#[derive(Drop)]
+#[derive(Clone, Copy)]
 pub enum RecordAnswer {
     Fields(RecordFields),
     Refused(Refusal),
 }
 
-#[derive(Drop)]
+#[derive(Clone, Copy)]
 pub enum ValueAnswer {
     Found(Value),
     Refused(Refusal),
 }
 
 // What a look-up by ID gives, and the number of elements passed.
-#[derive(Drop)]
+#[derive(Clone, Copy)]
 pub struct CountedValue {
     pub answer: ValueAnswer,
     pub passed: usize,
 }
 
 // The last known value, and whether it stands in the older packet.
-#[derive(Drop)]
+#[derive(Clone, Copy)]
 pub enum KnownAnswer {
     Found { older: bool, value: Value },
     Refused(Refusal),
 }
 
 // The same with the number of elements passed, in both packets.
-#[derive(Drop)]
+#[derive(Clone, Copy)]
 pub struct CountedKnown {
     pub answer: KnownAnswer,
     pub passed: usize,
 }
 
 // A record as a part of the input: its codec, its first byte, the number of its elements, the byte behind its last. Start and end apart: side by side they are read as one from where each was just written, which stalls.
-#[derive(Drop)]
+#[derive(Clone, Copy)]
 pub enum Part {
     Of {
         codec: u8,

@@ -12,7 +12,7 @@ use walk::DataWalk;
 use wire::{Limits, Refusal, Written};
 
 // The codec and the number of records of an accepted packet, or the refusal.
-#[derive(Drop)]
+#[derive(Clone, Copy)]
 pub enum PacketAnswer {
     Accepted { codec: u8, count: u8 },
     Refused(Refusal),

@@ -12,28 +12,28 @@ ghost use Rattle.scan.specs.Answers.{line_as, answer_line, element_as, answer_el
 use wire::Refusal;
 
 // A number that was read and the offset behind it.
-#[derive(Drop)]
+#[derive(Clone, Copy)]
 enum Number {
     Of(u64, usize),
     Wrong,
 }
 
 // Degrees that were read, in ten-millionths, and the offset behind them.
-#[derive(Drop)]
+#[derive(Clone, Copy)]
 enum Degrees {
     Of(i32, usize),
     Wrong,
 }
 
 // A hex digit's value.
-#[derive(Drop)]
+#[derive(Clone, Copy)]
 enum Hex {
     Of(u8),
     Wrong,
 }
 
 // What stands at an offset in a tag's text: a byte, itself or escaped, and the offset behind it; the quote that ends the field; or neither.
-#[derive(Drop)]
+#[derive(Clone, Copy)]
 enum Piece {
     Byte(u8, usize),
     End,
@@ -41,14 +41,14 @@ enum Piece {
 }
 
 // A tag that was read: how many bytes it has, and the offset behind its text.
-#[derive(Drop)]
+#[derive(Clone, Copy)]
 enum Tag {
     Of(usize, usize),
     Wrong,
 }
 
 // An element that was read: its ID; its number, or where its tag's text starts and how many bytes the tag has; the offset behind its field.
-#[derive(Drop)]
+#[derive(Clone, Copy)]
 enum Item {
     Number(u16, u64, usize),
     Tag(u16, usize, usize, usize),
@@ -56,21 +56,21 @@ enum Item {
 }
 
 // Where the next field starts behind an element, and whether that is a tag.
-#[derive(Drop)]
+#[derive(Clone, Copy)]
 enum Passed {
     On(usize, bool),
     Wrong,
 }
 
 // How many elements there are, or where the first wrong field starts.
-#[derive(Drop)]
+#[derive(Clone, Copy)]
 enum Rest {
     Of(usize),
     Wrong(usize),
 }
 
 // The four leading fields of a line, in ten-millionths of a degree; how many elements it has, and where the field of the first starts.
-#[derive(Drop)]
+#[derive(Clone, Copy)]
 pub struct LineFields {
     pub timestamp: u64,
     pub longitude: i32,
@@ -81,20 +81,20 @@ pub struct LineFields {
 }
 
 // A line that was read, or where the first wrong field starts.
-#[derive(Drop)]
+#[derive(Clone, Copy)]
 enum Judged {
     Taken(LineFields),
     Wrong(usize),
 }
 
-#[derive(Drop)]
+#[derive(Clone, Copy)]
 pub enum LineAnswer {
     Fields(LineFields),
     Refused(Refusal),
 }
 
 // An element of a line: where the next field starts; how many bytes a tag has, 0 for a number; its number, 0 for a tag; its ID. In this order no two words are copied as one, which stalls.
-#[derive(Drop)]
+#[derive(Clone, Copy)]
 pub struct LineElement {
     pub next: usize,
     pub size: usize,
@@ -103,7 +103,7 @@ pub struct LineElement {
     pub tag: bool,
 }
 
-#[derive(Drop)]
+#[derive(Clone, Copy)]
 pub enum LineElementAnswer {
     Found(LineElement),
     Refused(Refusal),

@@ -14,7 +14,7 @@ ghost use Rattle.walk.specs.Walks.{Narrow, counted, elements_of, spanned, data_w
 use avl::Widths;
 use wire::{Refusal, Walk};
 
-#[derive(Drop)]
+#[derive(Clone, Copy)]
 pub struct Codec8;
 
 impl Codec8 {
@@ -43,7 +43,7 @@ impl Codec8 {
     }
 }
 
-#[derive(Drop)]
+#[derive(Clone, Copy)]
 pub struct Codec8E;
 
 impl Codec8E {
@@ -72,7 +72,7 @@ impl Codec8E {
     }
 }
 
-#[derive(Drop)]
+#[derive(Clone, Copy)]
 pub struct Codec16;
 
 impl Codec16 {
@@ -137,14 +137,14 @@ fn missing(at: usize) -> Walk
 }
 
 // How many elements a group, the groups of a record or a record has and where it ends, or why it is broken.
-#[derive(Drop)]
+#[derive(Clone, Copy)]
 enum Counted {
     Of(usize, usize),
     Stopped(Refusal),
 }
 
 // A record's first byte, the one behind its last, and the number of its elements.
-#[derive(Drop)]
+#[derive(Clone, Copy)]
 pub struct Span {
     pub start: usize,
     pub end: usize,
@@ -152,14 +152,14 @@ pub struct Span {
 }
 
 // Where the wanted record lies among the records, or why they are broken.
-#[derive(Drop)]
+#[derive(Clone, Copy)]
 pub enum Records {
     All(Span),
     Broken(Refusal),
 }
 
 // A data field's codec and count and where the wanted record lies between the counts; or the refusal. Whole words: bytes among them make an answer slow to copy.
-#[derive(Drop)]
+#[derive(Clone, Copy)]
 pub enum DataWalk {
     Taken {
         codec: usize,

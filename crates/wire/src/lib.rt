@@ -12,7 +12,7 @@ ghost use Rattle.wire.specs.Imei.{imei_of, text_digit, read_imei, pair_up_to, re
 pub const NO_IMEI: u64 = 1_000_000_000_000_000;
 
 // The most bytes of a TCP packet, of a datagram, and of a record.
-#[derive(Drop)]
+#[derive(Clone, Copy)]
 pub struct Limits {
     pub largest: usize,
     pub datagram: usize,
@@ -54,7 +54,7 @@ pub fn limits_of(family: usize) -> Limits
 }
 
 // Why an input is refused: the number of document 01, the record's index, and the place, which is the offset at which the offending field starts (request 6).
-#[derive(Drop)]
+#[derive(Clone, Copy)]
 pub struct Refusal {
     pub number: usize,
     pub index: usize,
@@ -62,21 +62,21 @@ pub struct Refusal {
 }
 
 // A walk goes on at an offset, or has stopped.
-#[derive(Drop)]
+#[derive(Clone, Copy)]
 pub enum Walk {
     On(usize),
     Stopped(Refusal),
 }
 
 // A number that was read and the offset behind it, or why it was not.
-#[derive(Drop)]
+#[derive(Clone, Copy)]
 pub enum Decimal {
     Of(u64, usize),
     Unread(Refusal),
 }
 
 // How many bytes were written (of a table of contents: words), or why none were.
-#[derive(Drop)]
+#[derive(Clone, Copy)]
 pub enum Written {
     Bytes(usize),
     Refused(Refusal),
