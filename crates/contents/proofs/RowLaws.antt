@@ -16,7 +16,7 @@ use borrow.Author.Tests.{le-leb}
 use Rattle.wire.proofs.Accepting.{check-passed, on_accepted-accepted, on_accepted-passed}
 use Rattle.avl.specs.declared.Widths.{Widths}
 use Rattle.avl.specs.Codecs.{widths_of, kinds}
-use Rattle.avl.specs.Records.{Element, AvlRecord, element_count, record_bytes, ElementRules, GroupsRules, RecordRules, group_bytes}
+use Rattle.avl.specs.Records.{Element, AvlRecord, element_bytes, element_count, record_bytes, ElementRules, GroupsRules, RecordRules, group_bytes}
 use Rattle.avl.specs.DataField.{AvlData, DataResult, data_result}
 use Rattle.avl.proofs.DataLaws.{codec-fits}
 use Rattle.walk.specs.Walks.{Narrow}
@@ -74,14 +74,14 @@ module _ (w : Widths) (k : Narrow w) where
   group-named : (kind at : ℕ) (g : List Element) → kind ≤ 9 → All (ElementRules w kind) g → All Named (locate_group w kind at g)
   unfolding locate_group
   group-named kind at [] h r = tt
-  group-named kind at (e ∷ g) h r = ((id-fits k r.0.id_fits, omega (arith, h)), group-named kind _ g h r.1)
+  group-named kind at (e ∷ g) h r = ((id-fits k r.0.id_fits, omega (arith, h)), group-named kind (at + length (element_bytes w kind e)) g h r.1)
 
   groups-named : (ks : List ℕ) (at : ℕ) (gs : List (List Element)) → All KindRange ks → GroupsRules w ks gs → All Named (locate_groups w ks at gs)
   unfolding locate_groups
   groups-named [] at gs h r = tt
   groups-named (i ∷ ks) at [] h r = tt
   groups-named (i ∷ ks) at (g ∷ gs) h r =
-      all_append Named (locate_group w i (at + w.count) g) (locate_groups w ks (at + length (group_bytes w i g)) gs) (group-named i _ g h.0.1 r.0.each) (groups-named ks _ gs h.1 r.1)
+      all_append Named (locate_group w i (at + w.count) g) (locate_groups w ks (at + length (group_bytes w i g)) gs) (group-named i _ g h.0.1 r.0.each) (groups-named ks (at + length (group_bytes w i g)) gs h.1 r.1)
 
 -- a record in an input of less than 2^16 bytes
 record Fits (w : Widths) (r : Placed) : Type 0 where
@@ -205,7 +205,7 @@ nth-value r (suc k) (e ∷ l) = nth-value r k l
 placed-count : (w : Widths) (at : ℕ) (rs : List AvlRecord) → length (place_records w at rs) ≡ length rs
 unfolding place_records
 placed-count w at [] = refl
-placed-count w at (r ∷ rs) = ap suc (placed-count w _ rs)
+placed-count w at (r ∷ rs) = ap suc (placed-count w (at + length (record_bytes w r)) rs)
 
 all_fit : (longest : ℕ) (w : Widths) (p : List ℕ) → length p < 2 ^ 16 → (rs : List Placed) → All (Kept longest w p) rs → All (Fits w) rs
 all_fit longest w p h [] k = tt

@@ -38,7 +38,7 @@ group-inside w kind s at (e ∷ g) next f =
     let c = between_split (length_bytes kind e.value) b.1 in
     let place : at + length (be w.id e.id) + length (length_bytes kind e.value) ≡ at + lead_size w kind =
     omega (arith, length_digits 256 w.id e.id, length-pick (eqb kind 9) (length e.value)) in
-    (inside _ (between-moved place refl c.1), group-inside w kind s _ g next a.1)
+    (inside _ (between-moved place refl c.1), group-inside w kind s (at + length (element_bytes w kind e)) g next a.1)
 
 groups-inside : (w : Widths) (ks : List ℕ) (s : List ℕ) (at : ℕ) (gs : List (List Element)) (next : ℕ)
     → Between s at (groups_bytes w ks gs) next → All (λ e. Inside e s) (locate_groups w ks at gs)
@@ -50,7 +50,7 @@ groups-inside w (k ∷ ks) s at (g ∷ gs) next f =
     let b = between_split (be w.count (length g)) a.0 in
     all_append (λ e. Inside e s) (locate_group w k (at + w.count) g) _
     (group-inside w k s _ g _ (between-moved (ap (λ (n : ℕ). at + n) (length_digits 256 w.count (length g))) refl b.1))
-    (groups-inside w ks s _ gs next a.1)
+    (groups-inside w ks s (at + length (group_bytes w k g)) gs next a.1)
 
 pub length-fixed : (w : Widths) (f : Fixed) → length (fixed_bytes w f) + w.count ≡ fixed_size w
 unfolding fixed_bytes fixed_size
@@ -77,7 +77,7 @@ elements-inside w r =
 pub length-group : (w : Widths) (kind at : ℕ) (g : List Element) → length (locate_group w kind at g) ≡ length g
 unfolding locate_group
 length-group w kind at [] = refl
-length-group w kind at (e ∷ g) = ap suc (length-group w kind _ g)
+length-group w kind at (e ∷ g) = ap suc (length-group w kind (at + length (element_bytes w kind e)) g)
 
 pub length-groups : (w : Widths) (ks : List ℕ) (at : ℕ) (gs : List (List Element)) → GroupsRules w ks gs → length (locate_groups w ks at gs) ≡ element_count gs
 unfolding locate_groups element_count
@@ -85,7 +85,7 @@ length-groups w [] at [] h = refl
 length-groups w [] at (g ∷ gs) h = absurd h
 length-groups w (k ∷ ks) at [] h = absurd h
 length-groups w (k ∷ ks) at (g ∷ gs) h =
-    length-append (locate_group w k (at + w.count) g) _ ∙ ap₂ (λ (a b : ℕ). a + b) (length-group w k _ g) (length-groups w ks _ gs h.1)
+    length-append (locate_group w k (at + w.count) g) _ ∙ ap₂ (λ (a b : ℕ). a + b) (length-group w k _ g) (length-groups w ks (at + length (group_bytes w k g)) gs h.1)
 
 pub length-elements : (longest : ℕ) (w : Widths) (r : AvlRecord) → RecordRules longest w r → length (elements w r) ≡ element_count r.groups
 unfolding elements

@@ -10,7 +10,7 @@ use Rattle.wire.specs.Sequences.{joined}
 use Rattle.wire.proofs.Exactness.{meets-weaken}
 use Rattle.avl.specs.declared.Widths.{Widths}
 use Rattle.avl.specs.Codecs.{kinds}
-use Rattle.avl.specs.Records.{Element, AvlRecord}
+use Rattle.avl.specs.Records.{Element, AvlRecord, element_bytes, group_bytes, record_bytes}
 use Rattle.avl.specs.RecordReader.{element, plain_record}
 use Rattle.avl.proofs.Inversion.{size-read, element-read}
 use Rattle.element.specs.Elements.{locate_group, locate_groups, fixed_size}
@@ -29,7 +29,7 @@ module _ (w : Widths) where
   run-laid : (kind at : ℕ) (g : List Element) → run_text entry_text w kind at g ≡ laid (group_entries kind g)
   unfolding locate_group group_entries
   run-laid kind at [] = refl
-  run-laid kind at (e ∷ g) = ap (λ (l : List ℕ). entry_bytes (element_entry kind e) ++ l) (run-laid kind _ g)
+  run-laid kind at (e ∷ g) = ap (λ (l : List ℕ). entry_bytes (element_entry kind e) ++ l) (run-laid kind (at + length (element_bytes w kind e)) g)
 
   groups-laid : (ks : List ℕ) (at : ℕ) (gs : List (List Element)) → groups_text entry_text w ks at gs ≡ laid (groups_entries ks gs)
   unfolding locate_groups groups_entries
@@ -37,14 +37,14 @@ module _ (w : Widths) where
   groups-laid (k ∷ ks) at [] = refl
   groups-laid (k ∷ ks) at (g ∷ gs) =
       joined-append entry_text (locate_group w k (at + w.count) g) _
-      ∙ ap₂ (λ (a b : List ℕ). a ++ b) (run-laid k _ g) (groups-laid ks _ gs)
+      ∙ ap₂ (λ (a b : List ℕ). a ++ b) (run-laid k _ g) (groups-laid ks (at + length (group_bytes w k g)) gs)
       ∙ sym (joined-append entry_bytes (group_entries k g) (groups_entries ks gs))
 
   pub records-laid : (at : ℕ) (rs : List AvlRecord) → records_text (record_text entry_text w head_text) w at rs ≡ laid (records_entries (kinds w) rs)
   unfolding records_text records_entries
   records-laid at [] = refl
   records-laid at (r ∷ rs) =
-      ap₂ (λ (a b : List ℕ). (entry_bytes (fixed_entry r.fixed) ++ a) ++ b) (groups-laid (kinds w) (at + fixed_size w) r.groups) (records-laid _ rs)
+      ap₂ (λ (a b : List ℕ). (entry_bytes (fixed_entry r.fixed) ++ a) ++ b) (groups-laid (kinds w) (at + fixed_size w) r.groups) (records-laid (at + length (record_bytes w r)) rs)
       ∙ append_assoc (entry_bytes (fixed_entry r.fixed)) (laid (groups_entries (kinds w) r.groups)) (laid (records_entries (kinds w) rs))
       ∙ ap (λ (l : List ℕ). entry_bytes (fixed_entry r.fixed) ++ l) (sym (joined-append entry_bytes (groups_entries (kinds w) r.groups) (records_entries (kinds w) rs)))
 

@@ -18,7 +18,7 @@ use Rattle.wire.proofs.SignedLaws.{raw, raw-signed}
 use Rattle.wire.proofs.Accepting.{pick-either, by_length}
 use Rattle.avl.specs.declared.Widths.{Widths}
 use Rattle.avl.specs.Codecs.{widths_of, kinds}
-use Rattle.avl.specs.Records.{Element, AvlRecord, group_bytes, ValueSize, ElementRules, GroupsRules, RecordRules}
+use Rattle.avl.specs.Records.{Element, AvlRecord, element_bytes, group_bytes, ValueSize, ElementRules, GroupsRules, RecordRules}
 use Rattle.walk.proofs.KindLaws.{KindRange, kinds-range}
 use Rattle.walk.proofs.WalkLaws.{narrow}
 use Rattle.element.specs.Elements.{Located, locate_group, locate_groups, elements}
@@ -46,7 +46,7 @@ module _ (w : Widths) (thin : w.id ≤ 2) where
   group-rules kind at [] h r = tt
   group-rules kind at (e ∷ g) h r = (
     record { id_fits = le_trans r.0.id_fits (pow-le-pow_right byte_pos thin); range = h; size = r.0.size; bytes = r.0.bytes },
-    group-rules kind _ g h r.1,
+    group-rules kind (at + length (element_bytes w kind e)) g h r.1,
   )
 
   groups-rules : (ks : List ℕ) (at : ℕ) (gs : List (List Element)) → All KindRange ks → GroupsRules w ks gs → All LocatedRules (locate_groups w ks at gs)
@@ -55,7 +55,7 @@ module _ (w : Widths) (thin : w.id ≤ 2) where
   groups-rules (k ∷ ks) at [] h r = tt
   groups-rules (k ∷ ks) at (g ∷ gs) h r =
       all_append LocatedRules (locate_group w k (at + w.count) g) (locate_groups w ks (at + length (group_bytes w k g)) gs)
-      (group-rules k _ g h.0.1 r.0.each) (groups-rules ks _ gs h.1 r.1)
+      (group-rules k _ g h.0.1 r.0.each) (groups-rules ks (at + length (group_bytes w k g)) gs h.1 r.1)
 
   elements-rules : (longest : ℕ) (r : AvlRecord) → RecordRules longest w r → All LocatedRules (elements w r)
   unfolding elements
@@ -107,12 +107,12 @@ module _ (w : Widths) where
   numbers-first : (kind at : ℕ) (g : List Element) (es : List Printed) → eqb kind 9 ≡ false → TagsLast es → TagsLast (printed_all (locate_group w kind at g) ++ es)
   unfolding locate_group printed_all printed_of
   numbers-first kind at [] es t h = h
-  numbers-first kind at (e ∷ g) es t h = simp t (numbers-first kind _ g es t h)
+  numbers-first kind at (e ∷ g) es t h = simp t (numbers-first kind (at + length (element_bytes w kind e)) g es t h)
 
   no-numbers : (at : ℕ) (g : List Element) → NoNumbers (printed_all (locate_group w 9 at g))
   unfolding locate_group printed_all printed_of
   no-numbers at [] = tt
-  no-numbers at (e ∷ g) = no-numbers _ g
+  no-numbers at (e ∷ g) = no-numbers (at + length (element_bytes w 9 e)) g
 
   order-more : (k : ℕ) (ks : List ℕ) → eqb k 9 ≡ false → InOrder ks → InOrder (k ∷ ks)
   unfolding locate_groups printed_all

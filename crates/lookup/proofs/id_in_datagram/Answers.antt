@@ -1,0 +1,13 @@
+use Rattle.wire.specs.Limits.{limits_of}
+use Rattle.wire.proofs.Widths.{get_d-bytes}
+use Rattle.lookup.specs.Lookups.{value_by_id, passed_by_id, value_in}
+use Rattle.lookup.proofs.PlaceLaws.{udp-stored}
+use Rattle.lookup.proofs.PartLaws.{record-in, record-answer}
+use Rattle.lookup.proofs.id_in_datagram.Goals as goal
+
+pub id_in-requires : goal.id_in-requires
+id_in-requires c = record-in (λ x. udp-stored (limits_of c.args.family) c.args.p.now x (get_d-bytes c.args.p.now (λ k. (c.type_inv.p k).fits))) c.args.n c.datagram_part.ensures
+
+pub returns : goal.returns
+unfolding value_by_id passed_by_id value_in
+returns c = record { value = record-answer (λ x. udp-stored (limits_of c.args.family) c.args.p.now x (get_d-bytes c.args.p.now (λ k. (c.type_inv.p k).fits))) c.args.n c.datagram_part.ensures c.id_in.ensures.value; passed = record-answer (λ x. udp-stored (limits_of c.args.family) c.args.p.now x (get_d-bytes c.args.p.now (λ k. (c.type_inv.p k).fits))) c.args.n c.datagram_part.ensures c.id_in.ensures.passed }

@@ -1,0 +1,13 @@
+use Rattle.lookup.specs.Lookups.{record_by_number}
+use Rattle.wire.specs.Limits.{limits_of}
+use Rattle.wire.proofs.Widths.{get_d-bytes}
+use Rattle.lookup.proofs.PlaceLaws.{udp-stored}
+use Rattle.lookup.proofs.PartLaws.{record-in, record-answer}
+use Rattle.lookup.proofs.record_in_datagram.Goals as goal
+
+pub record_in-requires : goal.record_in-requires
+record_in-requires c = record-in (λ x. udp-stored (limits_of c.args.family) c.args.p.now x (get_d-bytes c.args.p.now (λ k. (c.type_inv.p k).fits))) c.args.n c.datagram_part.ensures
+
+pub returns : goal.returns
+unfolding record_by_number
+returns c = record-answer (λ x. udp-stored (limits_of c.args.family) c.args.p.now x (get_d-bytes c.args.p.now (λ k. (c.type_inv.p k).fits))) c.args.n c.datagram_part.ensures c.record_in.ensures
