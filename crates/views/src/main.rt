@@ -167,7 +167,15 @@ fn id_of(k: usize) -> u16 {
     0
 }
 
-fn answer_with(rt: &(impl Print + Eprint), call: Call, family: usize, line: &[u8], n: usize, k: usize, place: u64) {
+fn answer_with(
+    rt: &(impl Print + Eprint),
+    call: Call,
+    family: usize,
+    line: &[u8],
+    n: usize,
+    k: usize,
+    place: u64,
+) {
     let mut first = [0u8; 69632];
     let mut second = [0u8; 69632];
     let a = words::bytes_of(words::word(line, 2), &mut first);

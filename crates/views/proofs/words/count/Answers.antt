@@ -1,5 +1,5 @@
 use Rattle.views.proofs.WordLaws.{spaces-more, spaces-same, spaces-done}
-use Rattle.std.proofs.Common.{◌-◌, arith}
+use Rattle.std.proofs.Common.{arith}
 use Rattle.views.proofs.words.count.Goals as goal
 
 pub loop-i-preserved-then-c-eq32 : goal.loop-i-preserved-then-c-eq32

@@ -1,4 +1,4 @@
-use Rattle.std.proofs.Common.{◌-◌, sym, arith}
+use Rattle.std.proofs.Common.{sym, arith}
 use Rattle.views.proofs.WordLaws.{word_first, word-ends, word-last, word-missing, word_on, word_next}
 use Rattle.views.proofs.words.word.Goals as goal
 
