@@ -1,5 +1,5 @@
 /* Reads a connection from standard input, a few bytes at a time as a socket may give them, and prints each item.
- * cc -I dist/include -o connection dist/examples/connection.c dist/lib/libbrundilope.a */
+ * cc -I include -o connection examples/connection.c crates/capi/out/libcapi.a */
 #include <inttypes.h>
 #include <stdio.h>
 
@@ -18,8 +18,7 @@ int main(void) {
             struct brundilope_taken taken = brundilope_feed_at(&state, piece + at, size - at, packet, sizeof packet);
             at += taken.used;
             if (taken.number != 0) {
-                printf("refusal %zu, byte %zu of its item: %s\n", taken.number, taken.place,
-                       brundilope_meaning(taken.number));
+                printf("refusal %zu, byte %zu\n", taken.number, taken.place); /* the byte of this item */
                 return 1;
             }
             if (taken.item == 1) printf("login of %015" PRIu64 "\n", taken.imei);

@@ -1,5 +1,5 @@
 /* Reads a TCP data packet from standard input and prints the billing line of each record.
- * cc -I dist/include -o lines dist/examples/lines.c dist/lib/libbrundilope.a */
+ * cc -I include -o lines examples/lines.c crates/capi/out/libcapi.a */
 #include <stdio.h>
 
 #include "brundilope.h"
@@ -12,7 +12,7 @@ int main(void) {
     struct brundilope_written answer =
         brundilope_lines_of_packet(BRUNDILOPE_FAMILY_STANDARD, bytes, size, lines, sizeof lines);
     if (answer.number != 0) {
-        printf("refusal %zu, byte %zu: %s\n", answer.number, answer.place, brundilope_meaning(answer.number));
+        printf("refusal %zu, byte %zu\n", answer.number, answer.place);
         return 1;
     }
     return fwrite(lines, 1, answer.written, stdout) == answer.written ? 0 : 1;

@@ -1,5 +1,5 @@
 /* Reads a TCP data packet from standard input and prints what is in it.
- * cc -I dist/include -o read dist/examples/read.c dist/lib/libbrundilope.a */
+ * cc -I include -o read examples/read.c crates/capi/out/libcapi.a */
 #include <inttypes.h>
 #include <stdio.h>
 
@@ -14,7 +14,7 @@ int main(void) {
     struct brundilope_written answer =
         brundilope_contents_of_packet(family, bytes, size, words, BRUNDILOPE_LARGEST_CONTENTS);
     if (answer.number != 0) {
-        printf("refusal %zu, byte %zu: %s\n", answer.number, answer.place, brundilope_meaning(answer.number));
+        printf("refusal %zu, byte %zu\n", answer.number, answer.place);
         return 1;
     }
     printf("codec %02X, records %u\n", brundilope_contents_codec(words), brundilope_contents_count(words));

@@ -1,5 +1,5 @@
 /* Reads a TCP data packet from standard input and prints each value: ID, kind, offset, size, bytes.
- * cc -I dist/include -o values dist/examples/values.c dist/lib/libbrundilope.a */
+ * cc -I include -o values examples/values.c crates/capi/out/libcapi.a */
 #include <stdio.h>
 
 #include "brundilope.h"
@@ -13,7 +13,7 @@ int main(void) {
     struct brundilope_written answer =
         brundilope_contents_of_packet(family, bytes, size, words, BRUNDILOPE_LARGEST_CONTENTS);
     if (answer.number != 0) {
-        printf("refusal %zu, byte %zu: %s\n", answer.number, answer.place, brundilope_meaning(answer.number));
+        printf("refusal %zu, byte %zu\n", answer.number, answer.place);
         return 1;
     }
     const uint64_t *r = brundilope_contents_records(words);

@@ -1,4 +1,4 @@
-//! Links libcapi.a: from the folder that BRUNDILOPE_ARCHIVE names, else as `rt staticlib capi` builds it.
+//! Links libcapi.a: from the folder that BRUNDILOPE_ARCHIVE names, else as `rt lib` builds it in crates/capi.
 use std::path::{Path, PathBuf};
 use std::process::{exit, Command};
 use std::{env, fs};
@@ -15,16 +15,24 @@ fn fail(why: String) -> ! {
 
 /// Proves and builds the archive with the Rattle toolchain; gives its folder.
 fn built() -> PathBuf {
-    println!("cargo:rerun-if-changed={ROOT}/crates");
     println!("cargo:rerun-if-changed={ROOT}/crates.txt");
-    let run = Command::new("rt").args(["staticlib", "capi"]).current_dir(ROOT).output();
+    for one in fs::read_dir(format!("{ROOT}/crates")).into_iter().flatten().flatten() {
+        // out/ is what `rt` itself writes
+        for part in ["src", "specs", "proofs"].map(|part| one.path().join(part)) {
+            if part.is_dir() {
+                println!("cargo:rerun-if-changed={}", part.display());
+            }
+        }
+    }
+    let folder = Path::new(ROOT).join("crates/capi");
+    let run = Command::new("rt").arg("lib").current_dir(&folder).output();
     let done = run.unwrap_or_else(|e| fail(format!("`rt` could not be run: {e}")));
     if !done.status.success() {
         eprint!("{}", String::from_utf8_lossy(&done.stdout));
         eprint!("{}", String::from_utf8_lossy(&done.stderr));
-        fail("`rt staticlib capi` failed".to_string());
+        fail("`rt lib` failed in crates/capi".to_string());
     }
-    Path::new(ROOT).join("target/staticlib")
+    folder.join("out")
 }
 
 fn main() {
@@ -38,7 +46,7 @@ fn main() {
         }
         None => built().join("libcapi.a"),
     };
-    // A copy of its own, since `rt ci` removes target/.
+    // A copy of its own, since `rt ci` removes it.
     let own = PathBuf::from(env::var_os("OUT_DIR").expect("cargo sets OUT_DIR"));
     if let Err(e) = fs::copy(&archive, own.join("libcapi.a")) {
         fail(format!("{} cannot be read: {e}", archive.display()));

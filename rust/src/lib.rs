@@ -67,7 +67,7 @@
 //!
 //! # Building
 //!
-//! The build runs `rt staticlib capi` of the Rattle toolchain in the repository that this crate lies in. Where the
+//! The build runs `rt lib` of the Rattle toolchain in `crates/capi` of the repository that this crate lies in. Where the
 //! environment variable `BRUNDILOPE_ARCHIVE` names a folder that holds `libcapi.a`, it links that and runs nothing.
 
 #![deny(missing_docs, unsafe_code)]

@@ -636,9 +636,9 @@ pub extern "C" fn brundilope_feed_lent(
     bytes: &[u8],
     packet: &mut [u8],
 ) -> LentC
-    ensures answer { result ≡ flat_lent (lent_as (fed_into (limits_of family) 1280 (record { held = held.entry.now; fill = fill; phase = phase }) bytes.now packet.old)) }
-    ensures state { held.exit.now ≡ (fed_into (limits_of family) 1280 (record { held = held.entry.now; fill = fill; phase = phase }) bytes.now packet.old).state.held }
-    ensures buffer { packet.new ≡ leaving (accepted (packet_in (fed_into (limits_of family) 1280 (record { held = held.entry.now; fill = fill; phase = phase }) bytes.now packet.old).told)) packet.old }
+    ensures answer { result ≡ flat_lent (lent_as (fed_into (limits_of family) 1280 (record { held = held.old; fill = fill; phase = phase }) bytes.now packet.old)) }
+    ensures state { held.new ≡ (fed_into (limits_of family) 1280 (record { held = held.old; fill = fill; phase = phase }) bytes.now packet.old).state.held }
+    ensures buffer { packet.new ≡ leaving (accepted (packet_in (fed_into (limits_of family) 1280 (record { held = held.old; fill = fill; phase = phase }) bytes.now packet.old).told)) packet.old }
 {
     flat_lent(connection::feed_lent(family, phase, fill, held, bytes, packet))
 }
@@ -672,7 +672,7 @@ pub extern "C" fn brundilope_feed(state: Connection, bytes: &[u8]) -> FedC
 
 #[unsafe(no_mangle)]
 pub extern "C" fn brundilope_wanted(family: usize, phase: u8, fill: usize, held: &[u8]) -> usize
-    ensures { result ≡ wanted (limits_of family) 1280 (record { held = held.entry.now; fill = fill; phase = phase }) }
+    ensures { result ≡ wanted (limits_of family) 1280 (record { held = held.now; fill = fill; phase = phase }) }
 {
     connection::wanted(family, phase, fill, held)
 }

@@ -107,7 +107,7 @@ fn needed(limits: Limits, phase: u8, s: &[u8]) -> Framed
 
 // How many bytes the connection judges together next; 0 where a feed gives 19.
 fn judged_at(limits: Limits, phase: u8, fill: usize, held: &[u8]) -> usize
-    ensures { result ≡ count_of (judged_at limits 1280 (record { held = held.entry.now; fill = fill; phase = phase })) }
+    ensures { result ≡ count_of (judged_at limits 1280 (record { held = held.now; fill = fill; phase = phase })) }
 {
     if limits.largest < 1 {
         return 0;
@@ -243,7 +243,7 @@ fn gather(
     out: &mut [u8],
 ) -> Lent
     requires { Feedable limits 1280 (record { held = held.now; fill = fill; phase = phase }) out.old }
-    ensures { Gives (fed limits 1280 (record { held = held.entry.now; fill = fill; phase = phase }) bytes.now) out.old result held.exit.now out.new }
+    ensures { Gives (fed limits 1280 (record { held = held.old; fill = fill; phase = phase }) bytes.now) out.old result held.new out.new }
 {
     let front = header_rest(fill, bytes.len());
     let got = fill + front;
@@ -293,7 +293,7 @@ fn feed_open(
     out: &mut [u8],
 ) -> Lent
     requires { Feedable limits 1280 (record { held = held.now; fill = fill; phase = phase }) out.old }
-    ensures { Gives (fed limits 1280 (record { held = held.entry.now; fill = fill; phase = phase }) bytes.now) out.old result held.exit.now out.new }
+    ensures { Gives (fed limits 1280 (record { held = held.old; fill = fill; phase = phase }) bytes.now) out.old result held.new out.new }
 {
     if fill == 0 {
         match needed(limits, phase, bytes) {
@@ -317,9 +317,9 @@ pub fn feed_lent(
     bytes: &[u8],
     packet: &mut [u8],
 ) -> Lent
-    ensures answer { result ≡ lent_as (fed_into (limits_of family) 1280 (record { held = held.entry.now; fill = fill; phase = phase }) bytes.now packet.old) }
-    ensures state { held.exit.now ≡ (fed_into (limits_of family) 1280 (record { held = held.entry.now; fill = fill; phase = phase }) bytes.now packet.old).state.held }
-    ensures buffer { packet.new ≡ leaving (accepted (packet_in (fed_into (limits_of family) 1280 (record { held = held.entry.now; fill = fill; phase = phase }) bytes.now packet.old).told)) packet.old }
+    ensures answer { result ≡ lent_as (fed_into (limits_of family) 1280 (record { held = held.old; fill = fill; phase = phase }) bytes.now packet.old) }
+    ensures state { held.new ≡ (fed_into (limits_of family) 1280 (record { held = held.old; fill = fill; phase = phase }) bytes.now packet.old).state.held }
+    ensures buffer { packet.new ≡ leaving (accepted (packet_in (fed_into (limits_of family) 1280 (record { held = held.old; fill = fill; phase = phase }) bytes.now packet.old).told)) packet.old }
 {
     let limits = wire::limits_of(family);
     if judged_at(limits, phase, fill, held) == 0 {
@@ -333,7 +333,7 @@ pub fn feed_lent(
 
 // How many more bytes are wanted before anything is judged; 0 where a feed gives 19.
 pub fn wanted(family: usize, phase: u8, fill: usize, held: &[u8]) -> usize
-    ensures { result ≡ wanted (limits_of family) 1280 (record { held = held.entry.now; fill = fill; phase = phase }) }
+    ensures { result ≡ wanted (limits_of family) 1280 (record { held = held.now; fill = fill; phase = phase }) }
 {
     let n = judged_at(wire::limits_of(family), phase, fill, held);
     if n < fill {

@@ -8,7 +8,7 @@ use Rattle.report.proofs.records.say_records.Goals as goal
 
 pub say_rows-requires : goal.say_rows-requires
 unfolding written_as
-say_rows-requires g c = let h = rows-listed c.args.family c.args.p.now (get_d-bytes c.args.p.now (λ k. (c.type_inv.p k).fits)) c.args.udp (replicate 640 0) (sym (ap written_as c.in-Bytes.is) ∙ c.contents_at.ensures.answer) c.contents_at.ensures.buffer in record { in_bounds = omega (arith, c.contents_at.auto.1.1.1.0); rows_ahead = h.1 }
+say_rows-requires g c = let h = rows-listed c.args.family c.args.p.now (get_d-bytes c.args.p.now (λ k. (c.type_inv.p k).fits)) c.args.udp (replicate 640 0) (sym (ap written_as c.in-Bytes.is) ∙ c.contents_at.ensures.answer) c.contents_at.ensures.buffer in record { in_bounds = omega (arith, c.contents_at.auto.table); rows_ahead = h.1 }
 
 pub returns-in-Refused : goal.returns-in-Refused
 unfolding written_as

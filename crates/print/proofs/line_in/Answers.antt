@@ -1,0 +1,27 @@
+use native.Mathlib.Omega.{arith}
+use mathlib.Core.Path.{refl}
+use Rattle.wire.proofs.Widths.{get_d-bytes}
+use Rattle.print.proofs.WholeLaws.{part-ready, line_made}
+use Rattle.traverse.proofs.FieldLaws.{refused-whole}
+use Rattle.element.specs.Places.{part}
+use Rattle.lookup.proofs.PartLaws.{of-refused, of-record}
+use Rattle.print.proofs.line_in.Goals as goal
+
+pub slice_bounds-write_line-count : goal.slice_bounds-write_line-count
+slice_bounds-write_line-count c = let h = c.requires.part_in.stands _ _ _ _ c.in-Of.is in omega (arith, h.ordered)
+
+pub slice_bounds-write_line-start : goal.slice_bounds-write_line-start
+slice_bounds-write_line-start c = let h = c.requires.part_in.stands _ _ _ _ c.in-Of.is in omega (arith, h.ordered)
+
+pub slice_bounds-write_line-end : goal.slice_bounds-write_line-end
+slice_bounds-write_line-end c = let h = c.requires.part_in.stands _ _ _ _ c.in-Of.is in omega (arith, h.inside)
+
+pub write_line-requires : goal.write_line-requires
+write_line-requires c = record { narrow = (part-ready (c.requires.part_in.stands _ _ _ _ c.in-Of.is) c.widths_of.ensures (get_d-bytes c.args.p.now (λ k. (c.type_inv.p k).fits)) (c.requires.short_part _ _ _ _ c.in-Of.is)).0; ready = (part-ready (c.requires.part_in.stands _ _ _ _ c.in-Of.is) c.widths_of.ensures (get_d-bytes c.args.p.now (λ k. (c.type_inv.p k).fits)) (c.requires.short_part _ _ _ _ c.in-Of.is)).1 }
+
+pub returns-in-Refused : goal.returns-in-Refused
+returns-in-Refused c = of-refused c.in-Refused.is (refused-whole refl)
+
+pub returns-in-Of : goal.returns-in-Of
+unfolding part
+returns-in-Of c = of-record c.in-Of.is (line_made _ c.widths_of.ensures c.write_line.ensures)

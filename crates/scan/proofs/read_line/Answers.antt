@@ -1,0 +1,14 @@
+use mathlib.Core.Path.{sym, ap, ◌∙◌}
+use Rattle.wire.proofs.Accepting.{on_accepted-passed, on_accepted-refused}
+use Rattle.wire.specs.Answers.{accepted}
+use Rattle.scan.specs.Answers.{line_as, answer_line}
+use Rattle.scan.proofs.AnswerLaws.{line_taken, line-wrong}
+use Rattle.scan.proofs.read_line.Goals as goal
+
+pub returns-in-Taken : goal.returns-in-Taken
+unfolding line_as answer_line
+returns-in-Taken c = let k = line_taken c.args.s.now _ (sym c.in-Taken.is ∙ c.judge_line.ensures) in ap accepted k.2 ∙ sym (on_accepted-passed _ _ k.1)
+
+pub returns-in-Wrong : goal.returns-in-Wrong
+unfolding line_as answer_line
+returns-in-Wrong c = sym (on_accepted-refused _ _ (line-wrong c.args.s.now _ (sym c.in-Wrong.is ∙ c.judge_line.ensures)).0)

@@ -1,0 +1,31 @@
+use Rattle.scan.proofs.TagLaws.{gives_less, counted-inside, counted-behind, stored-first, stored_on, stored-length, stored-done, stored_wrong}
+use native.Mathlib.Omega.{arith}
+use Prim.Native.Nat.{◌-◌}
+use Rattle.scan.proofs.store_tag.Goals as goal
+
+pub loop-b-init : goal.loop-b-init
+loop-b-init c = stored-first _ _ _ c.requires
+
+pub piece_at-requires : goal.piece_at-requires
+piece_at-requires c = counted-inside c.loop-b.invariant.counted
+
+pub overflow_add-to : goal.overflow_add-to
+overflow_add-to c = omega (arith, counted-behind c.loop-b.invariant.counted, counted-inside c.loop-b.invariant.counted)
+
+pub loop-b-smaller : goal.loop-b-smaller
+loop-b-smaller c = gives_less (rw c.in-Byte.is at c.piece_at.ensures)
+
+pub loop-b-preserved : goal.loop-b-preserved
+loop-b-preserved c = rw c.store_byte.ensures (stored_on c.loop-b.invariant (rw c.in-Byte.is at c.piece_at.ensures))
+
+pub shape_of-out-in-End : goal.shape_of-out-in-End
+shape_of-out-in-End c = stored-length c.loop-b.invariant
+
+pub returns-in-End : goal.returns-in-End
+returns-in-End c = stored-done c.loop-b.invariant (rw c.in-End.is at c.piece_at.ensures).0
+
+pub shape_of-out-in-Wrong : goal.shape_of-out-in-Wrong
+shape_of-out-in-Wrong c = stored-length c.loop-b.invariant
+
+pub returns-in-Wrong : goal.returns-in-Wrong
+returns-in-Wrong c = stored_wrong c.loop-b.invariant (rw c.in-Wrong.is at c.piece_at.ensures)
