@@ -7,7 +7,7 @@ ghost use Rattle.inspect.specs.Reading.{ReadInto};
 use crate::Task;
 use std::env::{Env, FillError};
 use std::fs::File;
-use std::io::{Error, Input as Stdin, Read};
+use std::io::{Error, Input as StandardInput, Read};
 use std::rt::Files;
 use std::str;
 
@@ -88,6 +88,7 @@ pub fn place_of_word(rt: &impl Env, i: usize, words: &[u8]) -> usize
 
 // The system's numbers for a name that is too long, and for one that is no text.
 const TOO_LONG: i32 = 36;
+
 const NO_TEXT: i32 = 84;
 
 // A name that cannot be asked for.
@@ -99,7 +100,7 @@ fn not_named(rt: &impl Eprint, code: i32) -> Input
 }
 
 // Reads the file that word `i` names; "-" and no word are standard input.
-pub fn read_word<R: Env + Files + Stdin + Eprint>(rt: &R, i: usize, buf: &mut [u8]) -> Input
+pub fn read_word<R: Env + Files + StandardInput + Eprint>(rt: &R, i: usize, buf: &mut [u8]) -> Input
     ensures { ReadInto buf.old buf.new result }
 {
     let mut path = [0u8; 4096];
@@ -110,7 +111,7 @@ pub fn read_word<R: Env + Files + Stdin + Eprint>(rt: &R, i: usize, buf: &mut [u
     }
 }
 
-fn read_path<R: Files + Stdin + Eprint>(rt: &R, path: &[u8], buf: &mut [u8]) -> Input
+fn read_path<R: Files + StandardInput + Eprint>(rt: &R, path: &[u8], buf: &mut [u8]) -> Input
     ensures { ReadInto buf.old buf.new result }
 {
     if path == b"-".as_slice() {

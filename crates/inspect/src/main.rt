@@ -11,7 +11,7 @@ ghost use Rattle.inspect.specs.Runs.{refusal_by};
 
 use input::Input;
 use std::env::Env;
-use std::io::Input as Stdin;
+use std::io::Input as StandardInput;
 use std::rt::Files;
 use text::{Kind, Read};
 
@@ -182,7 +182,7 @@ fn run_on_input(rt: &(impl Print + Eprint), family: usize, task: Task, s: &[u8])
 }
 
 // Reads the file that word `i` names, and does the task on it.
-fn inspect<R: Print + Eprint + Stdin + Env + Files>(rt: &R, family: usize, task: Task, i: usize) {
+fn inspect<R: Print + Eprint + StandardInput + Env + Files>(rt: &R, family: usize, task: Task, i: usize) {
     let mut buf = [0u8; 65537];
     match input::read_word(rt, i, &mut buf) {
         Input::Failed => {}
@@ -210,7 +210,16 @@ fn number_of_word(rt: &impl Env, i: usize) -> Read {
 }
 
 // Writes a command with the IMEI of word `i`, a time, and the text of word `j`, the last of the words.
-fn write_words<R: Print + Eprint + Env>(rt: &R, family: usize, codec: u8, kind: u8, i: usize, time: Read, j: usize, words: usize) {
+fn write_words<R: Print + Eprint + Env>(
+    rt: &R,
+    family: usize,
+    codec: u8,
+    kind: u8,
+    i: usize,
+    time: Read,
+    j: usize,
+    words: usize,
+) {
     if words == 0 || words - 1 != j {
         return wrong(rt);
     }
@@ -249,7 +258,7 @@ fn write_task<R: Print + Eprint + Env>(rt: &R, family: usize, i: usize, words: u
 }
 
 // Does what the words from word `i` on ask for.
-fn do_words<R: Print + Eprint + Stdin + Env + Files>(rt: &R, family: usize, i: usize)
+fn do_words<R: Print + Eprint + StandardInput + Env + Files>(rt: &R, family: usize, i: usize)
     requires { i ≤ 3 }
 {
     let words = input::word_count(rt);

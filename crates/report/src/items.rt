@@ -9,7 +9,14 @@ use wire::Refusal;
 
 // What a feed told of the bytes `s`, which it used from `at` on, and left in `packet`; the number of
 // the refusal, 0 if none.
-pub fn say_item(rt: &(impl Print + Eprint), family: usize, item: Item, at: usize, s: &[u8], packet: &[u8]) -> usize
+pub fn say_item(
+    rt: &(impl Print + Eprint),
+    family: usize,
+    item: Item,
+    at: usize,
+    s: &[u8],
+    packet: &[u8],
+) -> usize
     ensures { result ≡ (item_refusal item).number }
 {
     match item {
@@ -34,7 +41,11 @@ pub fn say_item(rt: &(impl Print + Eprint), family: usize, item: Item, at: usize
 }
 
 fn say_place(rt: &(impl Print + Eprint), at: usize, size: usize) {
-    say(rt, b"-- from byte %1, %1 bytes\n", &[at as u64, size as u64]);
+    say(
+        rt,
+        b"-- from byte %1, %1 bytes\n",
+        &[at as u64, size as u64],
+    );
 }
 
 // By its codec, a packet goes by the command rules or by the data rules.

@@ -78,7 +78,11 @@ fn has_index(what: Judged, number: usize) -> bool {
 
 fn say_where(rt: &(impl Print + Eprint), what: Judged, r: Refusal) {
     if has_index(what, r.number) {
-        say(rt, b" at record %1, byte %1", &[r.index as u64, r.place as u64]);
+        say(
+            rt,
+            b" at record %1, byte %1",
+            &[r.index as u64, r.place as u64],
+        );
     } else {
         say(rt, b" at byte %1", &[r.place as u64]);
     }
@@ -355,7 +359,11 @@ pub fn show_form(rt: &(impl Print + Eprint), family: usize, f: &[u8]) -> usize
         Written::Refused(r) => refuse(rt, Judged::Other, f, r),
         Written::Bytes(n) => {
             if n <= p.len() {
-                say(rt, b"TLV form, %1 bytes, of this packet:\n", &[f.len() as u64]);
+                say(
+                    rt,
+                    b"TLV form, %1 bytes, of this packet:\n",
+                    &[f.len() as u64],
+                );
                 show_packet(rt, family, &p[0..n]);
             }
             0
@@ -364,7 +372,13 @@ pub fn show_form(rt: &(impl Print + Eprint), family: usize, f: &[u8]) -> usize
 }
 
 // What was written of `p`.
-fn say_written(rt: &(impl Print + Eprint), what: Judged, p: &[u8], answer: Written, out: &[u8]) -> usize
+fn say_written(
+    rt: &(impl Print + Eprint),
+    what: Judged,
+    p: &[u8],
+    answer: Written,
+    out: &[u8],
+) -> usize
     ensures { result ≡ refusal_number (written_as answer) }
 {
     match answer {
@@ -379,7 +393,13 @@ fn say_written(rt: &(impl Print + Eprint), what: Judged, p: &[u8], answer: Writt
 }
 
 // The same of lines, which are said as they are.
-fn say_written_lines(rt: &(impl Print + Eprint), what: Judged, p: &[u8], answer: Written, out: &[u8]) -> usize
+fn say_written_lines(
+    rt: &(impl Print + Eprint),
+    what: Judged,
+    p: &[u8],
+    answer: Written,
+    out: &[u8],
+) -> usize
     ensures { result ≡ refusal_number (written_as answer) }
 {
     match answer {
@@ -437,7 +457,15 @@ pub fn say_packet_of(rt: &(impl Print + Eprint), family: usize, f: &[u8]) -> usi
 }
 
 // A command packet.
-pub fn say_command(rt: &(impl Print + Eprint), family: usize, codec: u8, kind: u8, imei: &[u8], time: u32, text: &[u8]) -> usize
+pub fn say_command(
+    rt: &(impl Print + Eprint),
+    family: usize,
+    codec: u8,
+    kind: u8,
+    imei: &[u8],
+    time: u32,
+    text: &[u8],
+) -> usize
     ensures { result ≡ write_refusal family codec kind imei.now time text.now }
 {
     let mut out = [0u8; wire::LARGEST];

@@ -12,7 +12,13 @@ use scan::{LineAnswer, LineElementAnswer, LineFields};
 use wire::{Refusal, Written};
 
 // All records; how many they are.
-pub fn say_records(rt: &(impl Print + Eprint), family: usize, udp: bool, codec: u8, p: &[u8]) -> usize
+pub fn say_records(
+    rt: &(impl Print + Eprint),
+    family: usize,
+    udp: bool,
+    codec: u8,
+    p: &[u8],
+) -> usize
     ensures { result ≡ records_said family udp p.now }
 {
     let mut table = [0u64; wire::LARGEST_CONTENTS];
@@ -49,7 +55,14 @@ fn say_rows(rt: &(impl Print + Eprint), codec: u8, p: &[u8], t: &[u64]) -> usize
 }
 
 // The record whose words begin at `at`; where those of the next begin.
-fn say_record(rt: &(impl Print + Eprint), codec: u8, n: usize, p: &[u8], t: &[u64], at: usize) -> usize
+fn say_record(
+    rt: &(impl Print + Eprint),
+    codec: u8,
+    n: usize,
+    p: &[u8],
+    t: &[u64],
+    at: usize,
+) -> usize
     requires { RowsAhead p.now t.now at 1 }
     ensures { result ≡ at + 4 + (record_of (drop at t.now)).elements }
 {
@@ -180,7 +193,13 @@ fn say_variable(rt: &(impl Print + Eprint), s: &[u8]) {
 
 // Line `k` of an input, which starts at byte `start`; the number of its refusal, 0 if none. The bytes
 // of a tag go through the lent buffer.
-pub fn show_line(rt: &(impl Print + Eprint), k: usize, start: usize, s: &[u8], bytes: &mut [u8]) -> usize
+pub fn show_line(
+    rt: &(impl Print + Eprint),
+    k: usize,
+    start: usize,
+    s: &[u8],
+    bytes: &mut [u8],
+) -> usize
     requires { start + length s.now < 2 ^ 64 }
     ensures { result ≡ line_refusal s.now }
 {
@@ -223,7 +242,13 @@ fn say_fields(rt: &(impl Print + Eprint), f: LineFields) {
 }
 
 // The elements, the field of the first of which starts at `start`.
-fn say_elements(rt: &(impl Print + Eprint), s: &[u8], start: usize, count: usize, bytes: &mut [u8]) {
+fn say_elements(
+    rt: &(impl Print + Eprint),
+    s: &[u8],
+    start: usize,
+    count: usize,
+    bytes: &mut [u8],
+) {
     let mut at = start;
     let mut left = count;
     while 0 < left {
@@ -255,7 +280,11 @@ fn say_element(rt: &(impl Print + Eprint), s: &[u8], at: usize, bytes: &mut [u8]
 // A tag, the first `size` of the bytes, between quotes; of one that is too long for that, its size.
 fn say_tag(rt: &(impl Print + Eprint), bytes: &[u8], size: usize) {
     if 4096 < size || bytes.len() < size {
-        say(rt, b"tag of %1 bytes, too long to be shown\n", &[size as u64]);
+        say(
+            rt,
+            b"tag of %1 bytes, too long to be shown\n",
+            &[size as u64],
+        );
         return;
     }
     say_quoted(rt, &bytes[0..size]);

@@ -23,7 +23,7 @@ pub loop-at-smaller : goal.loop-at-smaller
 loop-at-smaller g c = let u = uses c.loop-at.invariant.1.1 c.loop-at-test.true c.loop-at.packet (omega (arith, c.loop-at.invariant.1.0)) c.feed_lent-fed.ensures.answer in omega (arith, u.0, u.1, c.loop-at-test.true)
 
 pub loop-at-preserved : goal.loop-at-preserved
-loop-at-preserved g c = (omega (arith, c.feed_lent-fed.auto.1.1.1.0), (omega (arith, c.feed_lent-fed.auto.1.1.1.0), goes_on c.loop-at.invariant.1.1 c.loop-at-test.true c.loop-at.packet (omega (arith, c.loop-at.invariant.1.0)) c.feed_lent-fed.ensures.answer c.feed_lent-fed.ensures.state c.if-phase-eq2.false))
+loop-at-preserved g c = (omega (arith, c.feed_lent-fed.auto.held), (omega (arith, c.feed_lent-fed.auto.packet), goes_on c.loop-at.invariant.1.1 c.loop-at-test.true c.loop-at.packet (omega (arith, c.loop-at.invariant.1.0)) c.feed_lent-fed.ensures.answer c.feed_lent-fed.ensures.state c.if-phase-eq2.false))
 
 pub say_end-requires : goal.say_end-requires
 say_end-requires g c = fill-within c.loop-at.invariant.1.1
