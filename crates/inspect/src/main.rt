@@ -182,7 +182,12 @@ fn run_on_input(rt: &(impl Print + Eprint), family: usize, task: Task, s: &[u8])
 }
 
 // Reads the file that word `i` names, and does the task on it.
-fn inspect<R: Print + Eprint + StandardInput + Env + Files>(rt: &R, family: usize, task: Task, i: usize) {
+fn inspect<R: Print + Eprint + StandardInput + Env + Files>(
+    rt: &R,
+    family: usize,
+    task: Task,
+    i: usize,
+) {
     let mut buf = [0u8; 65537];
     match input::read_word(rt, i, &mut buf) {
         Input::Failed => {}

@@ -1,6 +1,5 @@
 use Rattle.report.proofs.ConnectionLaws.{begins, ended, fill-within, uses, goes_on, closes}
 use mathlib.Core.Path.{refl, ◌∙◌}
-use Prim.Native.Nat.{◌-◌}
 use native.Mathlib.Omega.{arith}
 use Rattle.report.proofs.show_feeds.Goals as goal
 

@@ -1,4 +1,3 @@
-use Prim.Native.Nat.{◌-◌}
 use native.Mathlib.Omega.{arith}
 use mathlib.Core.Path.{refl}
 use Rattle.report.proofs.BillingLaws.{lines-begin, lines_end, line-inside, part-inside, lines-turn}
@@ -23,7 +22,7 @@ pub loop-at-smaller : goal.loop-at-smaller
 loop-at-smaller g c = let u = line-inside c.loop-at.invariant.1 c.loop-at-test.true c.line_length.ensures in omega (arith, u.0, u.1, c.loop-at-test.true)
 
 pub loop-at-preserved : goal.loop-at-preserved
-loop-at-preserved g c = (omega (arith, c.bytes-in-loop-at-1.given), lines-turn c.loop-at.invariant.1 c.loop-at-test.true c.line_length.ensures c.show_line-number.ensures c.earlier-first.ensures)
+loop-at-preserved g c = (omega (arith, c.show_line-number.auto.bytes), lines-turn c.loop-at.invariant.1 c.loop-at-test.true c.line_length.ensures c.show_line-number.ensures c.earlier-first.ensures)
 
 pub returns : goal.returns
 returns g c = lines_end c.loop-at.invariant.1 c.loop-at-test.false

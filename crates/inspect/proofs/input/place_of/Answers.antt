@@ -1,5 +1,4 @@
 use Rattle.inspect.proofs.WordLaws.{words-first, words-found, words-next, words-on, words-done, same-told}
-use Prim.Native.Nat.{◌-◌}
 use Rattle.inspect.proofs.input.place_of.Goals as goal
 
 pub loop-i-init : goal.loop-i-init

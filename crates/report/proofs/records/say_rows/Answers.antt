@@ -1,6 +1,5 @@
 use Rattle.report.proofs.RecordLaws.{row_first, row_next, rows_start}
 use native.Mathlib.Omega.{arith}
-use Prim.Native.Nat.{◌-◌}
 use Rattle.report.proofs.records.say_rows.Goals as goal
 
 pub loop-n-init : goal.loop-n-init

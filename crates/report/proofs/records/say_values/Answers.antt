@@ -2,7 +2,6 @@ use Rattle.element.specs.declared.Value.{Value}
 use mathlib.Core.Path.{ap}
 use native.Mathlib.Omega.{arith}
 use Prim.Native.Nat.{◌+◌}
-use Prim.Native.Nat.{◌-◌}
 use Rattle.report.proofs.records.say_values.Goals as goal
 
 pub overflow_add-end : goal.overflow_add-end
