@@ -2,43 +2,33 @@
 use Prim.Native.Nat.{ℕ, suc, ◌+◌, ◌-◌, ◌≤◌, ◌<◌}
 use native.Mathlib.Numerals.{add-one}
 use native.Mathlib.Omega.{arith}
-use mathlib.Core.Path.{◌≡◌, refl}
-use mathlib.Core.Bool.{Bool, true, false}
+use mathlib.Core.Path.{◌≡◌, refl, sym, ◌∙◌}
+use mathlib.Core.Bool.{Bool, true, false, ◌&&◌}
 use mathlib.Core.List.{List, [], ◌∷◌}
 use lib.ListN.{length, take, drop, get_or, length-take, length-drop, drop_of_length-le}
 use lib.Seq.{take-suc, drop-cons, get_or-drop}
 use lib.Dec.{eqb}
-use borrow.Author.Tests.{eq-eqb, ne_eqb, eqb-true}
+use lib.Pointwise.{pointwise}
+use borrow.Author.Tests.{eq-eqb, ne_eqb}
 use Rattle.wire.specs.Numbers.{pick}
 use Rattle.inspect.specs.Words.{words_from, words_of, same_bytes, place_of, PlaceOfSome}
 
 -- ---- the same bytes
 
-same_refl : (a : List ℕ) → same_bytes a a ≡ true
+same-as : (a b : List ℕ) → same_bytes a b ≡ pointwise eqb a b
 unfolding same_bytes
-same_refl [] = refl
-same_refl (x ∷ a) = simp (eq-eqb x x refl) (same_refl a)
-
-same-eq : (a b : List ℕ) → same_bytes a b ≡ true → a ≡ b
-unfolding same_bytes
-same-eq [] [] e = refl
-same-eq [] (y ∷ b) e = absurd (let z : ◌≡◌ {A = ℕ} 0 1 = cc in omega arith)
-same-eq (x ∷ a) [] e = absurd (let z : ◌≡◌ {A = ℕ} 0 1 = cc in omega arith)
-same-eq (x ∷ a) (y ∷ b) e = split (same-eq a b) (eqb x y) refl e
+same-as [] [] = refl
+same-as [] (y ∷ b) = refl
+same-as (x ∷ a) [] = refl
+same-as (x ∷ a) (y ∷ b) = split (same-as a b) (eqb x y)
   where
-    split : (same_bytes a b ≡ true → a ≡ b) → (t : Bool) → eqb x y ≡ t → pick t (same_bytes a b) false ≡ true → x ∷ a ≡ y ∷ b
-    split rest true h f = let hx : x ≡ y = eqb-true x y h in let ha : a ≡ b = rest f in cc
-    split rest false h f = absurd (let z : ◌≡◌ {A = ℕ} 0 1 = cc in omega arith)
+    split : same_bytes a b ≡ pointwise eqb a b → (t : Bool) → pick t (same_bytes a b) false ≡ (t && pointwise eqb a b)
+    split rest true = rest
+    split rest false = refl
 
-pub same-yes : {r : Bool} (a b : List ℕ) → (r ≡ true → a ≡ b) × (a ≡ b → r ≡ true) → r ≡ true → same_bytes a b ≡ true
-same-yes a b h e = rw (← h.0 e) (same_refl a)
-
-pub same-no : {r : Bool} (a b : List ℕ) → (r ≡ true → a ≡ b) × (a ≡ b → r ≡ true) → r ≡ false → same_bytes a b ≡ false
-same-no {r} a b h e = split (same_bytes a b) refl
-  where
-    split : (t : Bool) → same_bytes a b ≡ t → t ≡ false
-    split true f = let g : r ≡ true = h.1 (same-eq a b f) in cc
-    split false f = refl
+-- what a test of two slices gave
+pub same-told : {r t : Bool} (a b : List ℕ) → r ≡ pointwise eqb a b → r ≡ t → same_bytes a b ≡ t
+same-told a b e h = same-as a b ∙ sym e ∙ h
 
 -- ---- the words that are left, with the one begun at `start`
 

@@ -1,11 +1,15 @@
 // The words and the input: a word among those known, a file read to its end, and the kind of what it holds.
-ghost use Rattle.std.specs.Prelude.{◌≡◌, ◌≤◌};
+ghost use Rattle.std.specs.Prelude.{◌≡◌, ◌≤◌, length};
 ghost use Rattle.inspect.specs.FirstBytes.{shows, is_tcp, is_login, is_form, is_connection, kind_of};
 ghost use Rattle.inspect.specs.Words.{words_of, place_of, PlaceOfSome};
 ghost use Rattle.inspect.specs.Reading.{ReadInto};
 
 use crate::Task;
-use libc::STDIN_FILENO;
+use std::env::{Env, FillError};
+use std::fs::File;
+use std::io::{Error, Input as StandardInput, Read};
+use std::rt::Files;
+use std::str;
 
 // What was read: a number of bytes, more than there is room for, or nothing, for a reason that
 // standard error has.
@@ -17,21 +21,19 @@ pub enum Input {
 }
 
 // Reads to the end. A buffer that is filled was too short.
-fn read_all(fd: i32, name: &[u8], buf: &mut [u8]) -> Input
+fn read_all(rt: &impl Eprint, from: &mut impl Read, name: &str, buf: &mut [u8]) -> Input
     ensures { ReadInto buf.old buf.new result }
 {
     let mut n: usize = 0;
     while n < buf.len() {
-        let got = libc::read(fd, &mut buf[n..]);
-        if got < 0 {
-            os::fail(name);
-            return Input::Failed;
+        match from.read(&mut buf[n..]) {
+            Ok(0) => return Input::Bytes(n),
+            Ok(more) => n += more,
+            Err(e) => {
+                say::fail(rt, name, &e);
+                return Input::Failed;
+            }
         }
-        let more = io::count(got, &buf[n..]);
-        if more == 0 {
-            return Input::Bytes(n);
-        }
-        n += more;
     }
     Input::Long
 }
@@ -47,7 +49,7 @@ fn place_of(w: &[u8], words: &[u8]) -> usize
         let end = i;
         i += 1;
         if words[end] == b' ' {
-            if check::same(w, &words[start..end]) {
+            if w == &words[start..end] {
                 return n;
             }
             n += 1;
@@ -57,46 +59,80 @@ fn place_of(w: &[u8], words: &[u8]) -> usize
     n
 }
 
+// How many arguments there are, the program's name among them.
+pub fn word_count(rt: &impl Env) -> usize {
+    let mut w = [0u8; 1];
+    for i in 0..usize::MAX {
+        if let Err(FillError::NotPresent) = rt.arg(i, &mut w) {
+            return i;
+        }
+    }
+    usize::MAX
+}
+
+// Stores argument `i`, and answers how many bytes it has; 0 for one that is missing or has no room.
+pub fn word_of(rt: &impl Env, i: usize, buf: &mut [u8]) -> usize
+    ensures { result ≤ length buf.new }
+{
+    rt.arg(i, buf).unwrap_or(0)
+}
+
 // The place of argument `i`; one that is missing or has over 16 bytes counts as an empty word.
-pub fn place_of_word(i: usize, words: &[u8]) -> usize
+pub fn place_of_word(rt: &impl Env, i: usize, words: &[u8]) -> usize
     ensures { PlaceOfSome 16 words.now result }
 {
     let mut w = [0u8; 16];
-    let n = os::arg(i, &mut w);
+    let n = word_of(rt, i, &mut w);
     place_of(&w[..n], words)
 }
 
-// Reads the file that word `i` names; "-" and no word are standard input.
-pub fn read_word(i: usize, buf: &mut [u8]) -> Input
-    ensures { ReadInto buf.old buf.new result }
+// The system's numbers for a name that is too long, and for one that is no text.
+const TOO_LONG: i32 = 36;
+
+const NO_TEXT: i32 = 84;
+
+// A name that cannot be asked for.
+fn not_named(rt: &impl Eprint, code: i32) -> Input
+    ensures { result ≡ Input.Failed }
 {
-    let mut path = io::buffer();
-    let n = os::arg(i, &mut path);
-    let named = os::errno();
-    if named == 0 {
-        return read_path(&path[..n], buf);
-    }
-    if named == libc::EINVAL {
-        return read_path(b"-", buf);
-    }
-    os::fail(b"inspect: FILE");
+    say::fail(rt, "inspect: FILE", &Error::from_raw_os_error(code));
     Input::Failed
 }
 
-fn read_path(path: &[u8], buf: &mut [u8]) -> Input
+// Reads the file that word `i` names; "-" and no word are standard input.
+pub fn read_word<R: Env + Files + StandardInput + Eprint>(rt: &R, i: usize, buf: &mut [u8]) -> Input
     ensures { ReadInto buf.old buf.new result }
 {
-    if check::same(path, b"-") {
-        return read_all(STDIN_FILENO, b"standard input", buf);
+    let mut path = [0u8; 4096];
+    match rt.arg(i, &mut path) {
+        Ok(n) => read_path(rt, &path[..n], buf),
+        Err(FillError::NotPresent) => read_path(rt, b"-", buf),
+        Err(FillError::TooLong) => not_named(rt, TOO_LONG),
     }
-    let fd = os::open_read(path);
-    if fd < 0 {
-        os::fail(path);
-        return Input::Failed;
+}
+
+fn read_path<R: Files + StandardInput + Eprint>(rt: &R, path: &[u8], buf: &mut [u8]) -> Input
+    ensures { ReadInto buf.old buf.new result }
+{
+    if path == b"-".as_slice() {
+        return read_all(rt, &mut rt.reader(), "standard input", buf);
     }
-    let input = read_all(fd, path, buf);
-    libc::close(fd);
-    input
+    match str::from_utf8(path) {
+        Ok(name) => read_file(rt, name, buf),
+        Err(_) => not_named(rt, NO_TEXT),
+    }
+}
+
+fn read_file<R: Files + Eprint>(rt: &R, name: &str, buf: &mut [u8]) -> Input
+    ensures { ReadInto buf.old buf.new result }
+{
+    match File::open(rt, name) {
+        Ok(mut file) => read_all(rt, &mut file, name, buf),
+        Err(e) => {
+            say::fail(rt, name, &e);
+            Input::Failed
+        }
+    }
 }
 
 // ---- the kind of an input, by its first bytes

@@ -10,11 +10,13 @@ ghost use Rattle.inspect.specs.declared.Task.{Task};
 ghost use Rattle.inspect.specs.Runs.{refusal_by};
 
 use input::Input;
-use libc::{STDERR_FILENO, STDOUT_FILENO};
+use std::env::Env;
+use std::io::Input as StandardInput;
+use std::rt::Files;
 use text::{Kind, Read};
 
 // What the first word asks for, behind those that name a family.
-#[derive(Drop)]
+#[derive(Clone, Copy)]
 pub enum Task {
     Auto,
     Packet,
@@ -32,10 +34,7 @@ pub enum Task {
     Unknown,
 }
 
-fn usage(fd: i32) {
-    io::write_all(
-        fd,
-        b"inspect [KIND] [FILE]            what is in the input, or its refusal\n\
+const USAGE: &str = "inspect [KIND] [FILE]            what is in the input, or its refusal\n\
 inspect form-of [FILE]           the TLV form of a TCP data packet or a datagram, as hex text\n\
 inspect packet-of [FILE]         the TCP data packet of a TLV form, as hex text\n\
 inspect lines [FILE]             the billing lines of a TCP data packet or a datagram, one for each record\n\
@@ -51,27 +50,29 @@ family 1: units of the 640 family, at most 512 bytes a packet and 255 a record; 
 FILE: at most 65536 bytes, hex text or as they are; standard input if left out or -\n\
 MESSAGE: 12, 13 or 14 (a command), 12-response, 13-response, 14-response, 14-mismatch (IMEI doesn't match)\n\
 A refusal is a line 'refused: NUMBER ..' on standard output. At 'byte N' the offending field starts; the next line shows\n\
-this byte in brackets, among those around it. The exit status says nothing.\n",
-    );
+this byte in brackets, among those around it. The exit status says nothing.\n";
+
+fn usage(rt: &impl Print) {
+    let _ = rt.write_all(USAGE.as_bytes());
 }
 
-fn fail(line: &[u8]) {
-    io::write_all(STDERR_FILENO, line);
+fn fail(rt: &impl Eprint, line: &str) {
+    let _ = rt.eprint(line);
 }
 
-fn empty() {
-    fail(b"inspect: the input is empty\n");
+fn empty(rt: &impl Eprint) {
+    fail(rt, "inspect: the input is empty\n");
 }
 
-fn wrong() {
-    fail(b"inspect: wrong words\n");
-    usage(STDERR_FILENO);
+fn wrong(rt: &impl Eprint) {
+    fail(rt, "inspect: wrong words\n");
+    fail(rt, USAGE);
 }
 
-fn task_of(i: usize) -> Task {
+fn task_of(rt: &impl Env, i: usize) -> Task {
     let words =
         b"auto packet datagram login command form connection line form-of packet-of lines write help ";
-    match input::place_of_word(i, words) {
+    match input::place_of_word(rt, i, words) {
         0 => Task::Auto,
         1 => Task::Packet,
         2 => Task::Datagram,
@@ -90,20 +91,20 @@ fn task_of(i: usize) -> Task {
 }
 
 // Does a task on an input; the number of the refusal that it says, 0 if none.
-fn run(family: usize, task: Task, p: &[u8]) -> usize
+fn run(rt: &(impl Print + Eprint), family: usize, task: Task, p: &[u8]) -> usize
     ensures { result ≡ refusal_by family task p.now }
 {
     match task {
-        Task::Packet => report::show_packet(family, p),
-        Task::Datagram => report::show_datagram(family, p),
-        Task::Login => report::show_login(p),
-        Task::Command => report::show_command(family, p),
-        Task::Form => report::show_form(family, p),
-        Task::Connection => report::show_connection(family, p),
-        Task::Line => report::show_lines(p),
-        Task::FormOf => run_form_of(family, p),
-        Task::PacketOf => report::say_packet_of(family, p),
-        Task::Lines => run_lines(family, p),
+        Task::Packet => report::show_packet(rt, family, p),
+        Task::Datagram => report::show_datagram(rt, family, p),
+        Task::Login => report::show_login(rt, p),
+        Task::Command => report::show_command(rt, family, p),
+        Task::Form => report::show_form(rt, family, p),
+        Task::Connection => report::show_connection(rt, family, p),
+        Task::Line => report::show_lines(rt, p),
+        Task::FormOf => run_form_of(rt, family, p),
+        Task::PacketOf => report::say_packet_of(rt, family, p),
+        Task::Lines => run_lines(rt, family, p),
         Task::Auto => 0,
         Task::Write => 0,
         Task::Help => 0,
@@ -111,181 +112,192 @@ fn run(family: usize, task: Task, p: &[u8]) -> usize
     }
 }
 
-fn run_form_of(family: usize, p: &[u8]) -> usize
+fn run_form_of(rt: &(impl Print + Eprint), family: usize, p: &[u8]) -> usize
     ensures { result ≡ refusal_by family Task.FormOf p.now }
 {
     if input::is_tcp(p) {
-        return report::say_form_of_packet(family, p);
+        return report::say_form_of_packet(rt, family, p);
     }
-    report::say_form_of_datagram(family, p)
+    report::say_form_of_datagram(rt, family, p)
 }
 
-fn run_lines(family: usize, p: &[u8]) -> usize
+fn run_lines(rt: &(impl Print + Eprint), family: usize, p: &[u8]) -> usize
     ensures { result ≡ refusal_by family Task.Lines p.now }
 {
     if input::is_tcp(p) {
-        return report::say_lines_of_packet(family, p);
+        return report::say_lines_of_packet(rt, family, p);
     }
-    report::say_lines_of_datagram(family, p)
+    report::say_lines_of_datagram(rt, family, p)
 }
 
-fn run_on(family: usize, task: Task, p: &[u8]) {
+fn run_on(rt: &(impl Print + Eprint), family: usize, task: Task, p: &[u8]) {
     match task {
         Task::Auto => {
             if p.len() == 0 {
-                return empty();
+                return empty(rt);
             }
-            run(family, input::found(p), p);
+            run(rt, family, input::found(p), p);
         }
         Task::Line => {
             if p.len() == 0 {
-                return empty();
+                return empty(rt);
             }
-            run(family, task, p);
+            run(rt, family, task, p);
         }
         _ => {
-            run(family, task, p);
+            run(rt, family, task, p);
         }
     }
 }
 
 // Hex text with an odd number of digits.
-fn odd(digits: usize) {
-    fail(b"inspect: hex text has an odd number of digits: ");
-    io::print_decimal(STDERR_FILENO, digits as u64);
-    fail(b"\n");
+fn odd(rt: &impl Eprint, digits: usize) {
+    let _ = eprintln!(rt; "inspect: hex text has an odd number of digits: {digits}");
 }
 
 // Hex text is what has hex digits and white space alone, so nothing that is accepted is taken for it:
 // a TCP packet, a login and a connection start with 00, a TLV form with 01, a datagram with 00 to 04.
-fn run_on_text(family: usize, task: Task, s: &[u8]) {
+fn run_on_text(rt: &(impl Print + Eprint), family: usize, task: Task, s: &[u8]) {
     match text::kind_of(s) {
-        Kind::Raw => run_on(family, task, s),
+        Kind::Raw => run_on(rt, family, task, s),
         Kind::Hex(digits) => {
             if digits % 2 == 1 {
-                return odd(digits);
+                return odd(rt, digits);
             }
             let mut bytes = [0u8; 32768];
             let n = text::decode(s, &mut bytes);
             if n <= bytes.len() {
-                run_on(family, task, &bytes[0..n]);
+                run_on(rt, family, task, &bytes[0..n]);
             }
         }
     }
 }
 
 // Billing lines are taken as they are: one that is cut short may look like hex text.
-fn run_on_input(family: usize, task: Task, s: &[u8]) {
+fn run_on_input(rt: &(impl Print + Eprint), family: usize, task: Task, s: &[u8]) {
     match task {
-        Task::Line => run_on(family, task, s),
-        _ => run_on_text(family, task, s),
+        Task::Line => run_on(rt, family, task, s),
+        _ => run_on_text(rt, family, task, s),
     }
 }
 
 // Reads the file that word `i` names, and does the task on it.
-fn inspect(family: usize, task: Task, i: usize) {
+fn inspect<R: Print + Eprint + StandardInput + Env + Files>(
+    rt: &R,
+    family: usize,
+    task: Task,
+    i: usize,
+) {
     let mut buf = [0u8; 65537];
-    match input::read_word(i, &mut buf) {
+    match input::read_word(rt, i, &mut buf) {
         Input::Failed => {}
-        Input::Long => fail(b"inspect: the input is longer than 65536 bytes\n"),
+        Input::Long => fail(rt, "inspect: the input is longer than 65536 bytes\n"),
         Input::Bytes(n) => {
             if n <= buf.len() {
-                run_on_input(family, task, &buf[0..n]);
+                run_on_input(rt, family, task, &buf[0..n]);
             }
         }
     }
 }
 
-fn wrong_time() {
-    fail(b"inspect: TIME is not a whole number below 4294967296\n");
+fn wrong_time(rt: &impl Eprint) {
+    fail(rt, "inspect: TIME is not a whole number below 4294967296\n");
 }
 
 // The number of a word that is never there.
 const NONE: usize = usize::MAX;
 
 // The number of word `i`, none for one that is missing or has over 20 digits.
-fn number_of_word(i: usize) -> Read {
+fn number_of_word(rt: &impl Env, i: usize) -> Read {
     let mut w = [0u8; 20];
-    let n = os::arg(i, &mut w);
+    let n = input::word_of(rt, i, &mut w);
     text::number_of(&w[..n], usize::MAX)
 }
 
 // Writes a command with the IMEI of word `i`, a time, and the text of word `j`, the last of the words.
-fn write_words(family: usize, codec: u8, kind: u8, i: usize, time: Read, j: usize, words: usize) {
+fn write_words<R: Print + Eprint + Env>(
+    rt: &R,
+    family: usize,
+    codec: u8,
+    kind: u8,
+    i: usize,
+    time: Read,
+    j: usize,
+    words: usize,
+) {
     if words == 0 || words - 1 != j {
-        return wrong();
+        return wrong(rt);
     }
     let Read::Of(t) = time else {
-        return wrong_time();
+        return wrong_time(rt);
     };
     if 0xFFFF_FFFF < t {
-        return wrong_time();
+        return wrong_time(rt);
     }
     let mut imei = [0u8; 16];
     let mut text = [0u8; 4096];
-    let n = os::arg(i, &mut imei);
-    let m = os::arg(j, &mut text);
-    if os::errno() != 0 {
-        return fail(b"inspect: the text is longer than 4096 bytes\n");
-    }
-    report::say_command(family, codec, kind, &imei[..n], t as u32, &text[..m]);
+    let n = input::word_of(rt, i, &mut imei);
+    let Ok(m) = rt.arg(j, &mut text) else {
+        return fail(rt, "inspect: the text is longer than 4096 bytes\n");
+    };
+    report::say_command(rt, family, codec, kind, &imei[..n], t as u32, &text[..m]);
 }
 
 // The same with the message of word `i`.
-fn write_task(family: usize, i: usize, words: usize)
+fn write_task<R: Print + Eprint + Env>(rt: &R, family: usize, i: usize, words: usize)
     requires { i ≤ 4 }
 {
     let messages = b"12 12-response 13 13-response 14 14-response 14-mismatch ";
-    let time = number_of_word(i + 1);
+    let time = number_of_word(rt, i + 1);
     let none = Read::Of(0);
-    match input::place_of_word(i, messages) {
-        0 => write_words(family, 0x0C, 0x05, NONE, none, i + 1, words),
-        1 => write_words(family, 0x0C, 0x06, NONE, none, i + 1, words),
-        2 => write_words(family, 0x0D, 0x05, NONE, time, i + 2, words),
-        3 => write_words(family, 0x0D, 0x06, NONE, time, i + 2, words),
-        4 => write_words(family, 0x0E, 0x05, i + 1, none, i + 2, words),
-        5 => write_words(family, 0x0E, 0x06, i + 1, none, i + 2, words),
-        6 => write_words(family, 0x0E, 0x11, i + 1, none, i + 2, words),
-        _ => wrong(),
+    match input::place_of_word(rt, i, messages) {
+        0 => write_words(rt, family, 0x0C, 0x05, NONE, none, i + 1, words),
+        1 => write_words(rt, family, 0x0C, 0x06, NONE, none, i + 1, words),
+        2 => write_words(rt, family, 0x0D, 0x05, NONE, time, i + 2, words),
+        3 => write_words(rt, family, 0x0D, 0x06, NONE, time, i + 2, words),
+        4 => write_words(rt, family, 0x0E, 0x05, i + 1, none, i + 2, words),
+        5 => write_words(rt, family, 0x0E, 0x06, i + 1, none, i + 2, words),
+        6 => write_words(rt, family, 0x0E, 0x11, i + 1, none, i + 2, words),
+        _ => wrong(rt),
     }
 }
 
 // Does what the words from word `i` on ask for.
-fn do_words(family: usize, i: usize)
+fn do_words<R: Print + Eprint + StandardInput + Env + Files>(rt: &R, family: usize, i: usize)
     requires { i ≤ 3 }
 {
-    let words = os::arg_count();
-    let task = task_of(i);
+    let words = input::word_count(rt);
+    let task = task_of(rt, i);
     match task {
-        Task::Help => usage(STDOUT_FILENO),
-        Task::Write => write_task(family, i + 1, words),
+        Task::Help => usage(rt),
+        Task::Write => write_task(rt, family, i + 1, words),
         Task::Unknown => {
             if i + 1 < words {
-                return wrong();
+                return wrong(rt);
             }
-            inspect(family, Task::Auto, i)
+            inspect(rt, family, Task::Auto, i)
         }
         _ => {
             if i + 2 < words {
-                return wrong();
+                return wrong(rt);
             }
-            inspect(family, task, i + 1)
+            inspect(rt, family, task, i + 1)
         }
     }
 }
 
 // The family that word `i` names; 0, which is none, for any other word and for none.
-fn family_of(i: usize) -> usize {
-    match input::place_of_word(i, b"1 2 ") {
+fn family_of(rt: &impl Env, i: usize) -> usize {
+    match input::place_of_word(rt, i, b"1 2 ") {
         0 => 1,
         1 => 2,
         _ => 0,
     }
 }
 
-fn main() {
-    if input::place_of_word(1, b"family ") == 0 {
-        return do_words(family_of(2), 3);
+fn main(rt: HostRuntime) {
+    if input::place_of_word(&rt, 1, b"family ") == 0 {
+        return do_words(&rt, family_of(&rt, 2), 3);
     }
-    do_words(2, 1)
+    do_words(&rt, 2, 1)
 }

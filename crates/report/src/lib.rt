@@ -20,8 +20,9 @@ use say::{say, say_around, say_bytes, say_hex, say_line, say_quoted};
 use wire::{Refusal, Written};
 
 // The meanings of the refusals, in the paper's words; the first line is 0's, which is none.
-fn say_meaning(number: usize) {
+fn say_meaning(rt: &(impl Print + Eprint), number: usize) {
     say_line(
+        rt,
         b"\n\
 under 8 bytes (TCP packet), 17 (login), 26 (UDP)\n\
 first four bytes not zero\n\
@@ -49,7 +50,7 @@ unknown family\n",
 }
 
 // What was judged. The others are TLV forms, billing lines and a writer's arguments.
-#[derive(Drop)]
+#[derive(Clone, Copy)]
 enum Judged {
     Packet,
     Datagram,
@@ -75,41 +76,45 @@ fn has_index(what: Judged, number: usize) -> bool {
     }
 }
 
-fn say_where(what: Judged, r: Refusal) {
+fn say_where(rt: &(impl Print + Eprint), what: Judged, r: Refusal) {
     if has_index(what, r.number) {
-        say(b" at record %1, byte %1", &[r.index as u64, r.place as u64]);
+        say(
+            rt,
+            b" at record %1, byte %1",
+            &[r.index as u64, r.place as u64],
+        );
     } else {
-        say(b" at byte %1", &[r.place as u64]);
+        say(rt, b" at byte %1", &[r.place as u64]);
     }
 }
 
 // A refusal of `p`, and the bytes around its place if it has one.
-fn refuse(what: Judged, p: &[u8], r: Refusal) -> usize
+fn refuse(rt: &(impl Print + Eprint), what: Judged, p: &[u8], r: Refusal) -> usize
     ensures { result ≡ r.number }
 {
     let placed = has_place(what, r.number);
-    say(b"refused: %1", &[r.number as u64]);
+    say(rt, b"refused: %1", &[r.number as u64]);
     if placed {
-        say_where(what, r);
+        say_where(rt, what, r);
     }
-    say(b": ", &[]);
-    say_meaning(r.number);
+    say(rt, b": ", &[]);
+    say_meaning(rt, r.number);
     if placed {
-        say_around(p, r.place);
+        say_around(rt, p, r.place);
     }
     r.number
 }
 
-fn say_hex_line(s: &[u8]) {
-    say_hex(s);
-    say(b"\n", &[]);
+fn say_hex_line(rt: &(impl Print + Eprint), s: &[u8]) {
+    say_hex(rt, s);
+    say(rt, b"\n", &[]);
 }
 
-fn say_codec(codec: u8) {
+fn say_codec(rt: &(impl Print + Eprint), codec: u8) {
     if codec == 0x8E {
-        say(b", codec 8 Extended", &[]);
+        say(rt, b", codec 8 Extended", &[]);
     } else {
-        say(b", codec %1", &[codec as u64]);
+        say(rt, b", codec %1", &[codec as u64]);
     }
 }
 
@@ -119,34 +124,34 @@ fn more(n: usize) -> u64 {
 }
 
 // The end of a heading: the codec, the numbers of records and bytes, the acknowledgement.
-fn say_counts(codec: u8, count: u8, size: usize, answer: &[u8]) {
-    say_codec(codec);
+fn say_counts(rt: &(impl Print + Eprint), codec: u8, count: u8, size: usize, answer: &[u8]) {
+    say_codec(rt, codec);
     let numbers = [count as u64, more(count as usize), size as u64];
-    say(b", %1 record^s, %1 bytes; acknowledgement ", &numbers);
-    say_hex_line(answer);
+    say(rt, b", %1 record^s, %1 bytes; acknowledgement ", &numbers);
+    say_hex_line(rt, answer);
 }
 
-pub fn show_packet(family: usize, p: &[u8]) -> usize
+pub fn show_packet(rt: &(impl Print + Eprint), family: usize, p: &[u8]) -> usize
     ensures { result ≡ packet_refusal family p.now }
 {
     match packet::read_packet(family, p) {
-        PacketAnswer::Refused(r) => refuse(Judged::Packet, p, r),
+        PacketAnswer::Refused(r) => refuse(rt, Judged::Packet, p, r),
         PacketAnswer::Accepted { codec, count } => {
             let mut answer = [0u8; 4];
             packet::acknowledge_packet(family, p, &mut answer);
-            say(b"TCP data packet", &[]);
-            say_counts(codec, count, p.len(), &answer);
-            say_records(family, false, codec, p);
+            say(rt, b"TCP data packet", &[]);
+            say_counts(rt, codec, count, p.len(), &answer);
+            say_records(rt, family, false, codec, p);
             0
         }
     }
 }
 
-pub fn show_datagram(family: usize, p: &[u8]) -> usize
+pub fn show_datagram(rt: &(impl Print + Eprint), family: usize, p: &[u8]) -> usize
     ensures { result ≡ datagram_refusal family p.now }
 {
     match datagram::read_datagram(family, p) {
-        DatagramAnswer::Refused(r) => refuse(Judged::Datagram, p, r),
+        DatagramAnswer::Refused(r) => refuse(rt, Judged::Datagram, p, r),
         DatagramAnswer::Accepted {
             codec,
             count,
@@ -154,53 +159,55 @@ pub fn show_datagram(family: usize, p: &[u8]) -> usize
         } => {
             let mut answer = [0u8; 7];
             datagram::acknowledge_datagram(family, p, &mut answer);
-            say(b"UDP datagram", &[]);
-            say_counts(codec, count, p.len(), &answer);
-            say_header(header);
-            say_records(family, true, codec, p);
+            say(rt, b"UDP datagram", &[]);
+            say_counts(rt, codec, count, p.len(), &answer);
+            say_header(rt, header);
+            say_records(rt, family, true, codec, p);
             0
         }
     }
 }
 
-fn say_header(h: Header) {
+fn say_header(rt: &(impl Print + Eprint), h: Header) {
     let numbers = [h.imei, h.packet as u64, h.unused as u64, h.avl as u64];
     say(
+        rt,
         b"IMEI %F  packet ID %1  unused byte %1  AVL packet ID %1\n",
         &numbers,
     );
 }
 
-pub fn show_login(p: &[u8]) -> usize
+pub fn show_login(rt: &(impl Print + Eprint), p: &[u8]) -> usize
     ensures { result ≡ login_refusal p.now }
 {
     match login::read_login(p) {
-        LoginAnswer::Refused(r) => refuse(Judged::Login, p, r),
+        LoginAnswer::Refused(r) => refuse(rt, Judged::Login, p, r),
         LoginAnswer::Imei(imei) => {
-            say_imei(imei);
+            say_imei(rt, imei);
             0
         }
     }
 }
 
-fn say_imei(imei: u64) {
+fn say_imei(rt: &(impl Print + Eprint), imei: u64) {
     say(
+        rt,
         b"TCP login, IMEI %F\nanswer 01 if the unit is known, else 00\n",
         &[imei],
     );
 }
 
-pub fn show_command(family: usize, p: &[u8]) -> usize
+pub fn show_command(rt: &(impl Print + Eprint), family: usize, p: &[u8]) -> usize
     ensures { result ≡ command_refusal family p.now }
 {
     match command::read_command(family, p) {
-        CommandAnswer::Refused(r) => refuse(Judged::Command, p, r),
+        CommandAnswer::Refused(r) => refuse(rt, Judged::Command, p, r),
         CommandAnswer::Accepted(f) => {
-            say(b"TCP command packet, %1 bytes", &[p.len() as u64]);
-            say_message(f);
-            say(b"text ", &[]);
-            say_quoted(command::command_text(family, p));
-            say(b"\n", &[]);
+            say(rt, b"TCP command packet, %1 bytes", &[p.len() as u64]);
+            say_message(rt, f);
+            say(rt, b"text ", &[]);
+            say_quoted(rt, command::command_text(family, p));
+            say(rt, b"\n", &[]);
             0
         }
     }
@@ -216,43 +223,45 @@ fn line_of(kind: u8) -> usize {
 }
 
 // A message's time. The maker's pages do not agree on its unit, so the date is only what it may be.
-fn say_message_time(time: u64) {
+fn say_message_time(rt: &(impl Print + Eprint), time: u64) {
     let d = text::date_of(time / 86_400);
-    say(b"time %1 (%4-%2-%2 ", &[time, d.year, d.month, d.day]);
+    say(rt, b"time %1 (%4-%2-%2 ", &[time, d.year, d.month, d.day]);
     let clock = [time / 3600 % 24, time / 60 % 60, time % 60];
-    say(b"%2:%2:%2 UTC if it counts seconds)\n", &clock);
+    say(rt, b"%2:%2:%2 UTC if it counts seconds)\n", &clock);
 }
 
 // Codec and type; in codec 14 alone the IMEI, in codec 13 alone the time.
-fn say_message(f: CommandFields) {
-    say(b", codec %1, type ", &[f.codec as u64]);
+fn say_message(rt: &(impl Print + Eprint), f: CommandFields) {
+    say(rt, b", codec %1, type ", &[f.codec as u64]);
     say_line(
+        rt,
         b"05 (command)\n06 (response)\n11 (IMEI doesn't match)\n",
         line_of(f.kind),
     );
     if f.codec == 0x0E {
-        say(b"IMEI %F\n", &[f.imei]);
+        say(rt, b"IMEI %F\n", &[f.imei]);
     }
     if f.codec == 0x0D {
-        say_message_time(f.time as u64);
+        say_message_time(rt, f.time as u64);
     }
 }
 
 // A refusal has closed the connection; how many bytes stand behind it.
-fn say_closed(at: usize, left: usize) {
+fn say_closed(rt: &(impl Print + Eprint), at: usize, left: usize) {
     let numbers = [at as u64, left as u64, more(left)];
     say(
+        rt,
         b"-- closed at byte %1: %1 byte^s behind it not used\n",
         &numbers,
     );
 }
 
 // The input is used up: how many of its last bytes are held, and how many more are wanted.
-fn say_end(at: usize, fill: usize, wanted: usize)
+fn say_end(rt: &(impl Print + Eprint), at: usize, fill: usize, wanted: usize)
     requires { fill ≤ at }
 {
     if fill == 0 {
-        say(b"-- end at byte %1: no bytes held\n", &[at as u64]);
+        say(rt, b"-- end at byte %1: no bytes held\n", &[at as u64]);
         return;
     }
     let from = at - fill;
@@ -264,13 +273,14 @@ fn say_end(at: usize, fill: usize, wanted: usize)
         wanted as u64,
     ];
     say(
+        rt,
         b"-- end at byte %1: %1 byte^s held from byte %1 on, at least %1 more wanted\n",
         &numbers,
     );
 }
 
 // A captured connection: fed to a fresh one of the family, item by item, until it is used up or closed.
-fn show_feeds(family: usize, p: &[u8]) -> usize
+fn show_feeds(rt: &(impl Print + Eprint), family: usize, p: &[u8]) -> usize
     requires { 1 ≤ (limits_of family).largest }
     ensures { result ≡ feeds_refusal family p.now }
 {
@@ -283,21 +293,21 @@ fn show_feeds(family: usize, p: &[u8]) -> usize
         let fed = connection::feed_lent(family, phase, fill, &mut held, &p[at..], &mut packet);
         let item = fed.item;
         let end = at + fed.used;
-        let number = say_item(family, item, at, &p[at..end], &packet);
+        let number = say_item(rt, family, item, at, &p[at..end], &packet);
         at = end;
         phase = fed.phase;
         fill = fed.fill;
         if phase == 2 {
-            say_closed(at, p.len() - at);
+            say_closed(rt, at, p.len() - at);
             return number;
         }
     }
-    say_end(at, fill, connection::wanted(family, phase, fill, &held));
+    say_end(rt, at, fill, connection::wanted(family, phase, fill, &held));
     0
 }
 
 // The same of any family: one that is not known is refused, and nothing is shown.
-pub fn show_connection(family: usize, p: &[u8]) -> usize
+pub fn show_connection(rt: &(impl Print + Eprint), family: usize, p: &[u8]) -> usize
     ensures { result ≡ connection_refusal family p.now }
 {
     if wire::limits_of(family).largest < 1 {
@@ -306,9 +316,9 @@ pub fn show_connection(family: usize, p: &[u8]) -> usize
             index: 0,
             place: 0,
         };
-        return refuse(Judged::Other, p, unknown);
+        return refuse(rt, Judged::Other, p, unknown);
     }
-    show_feeds(family, p)
+    show_feeds(rt, family, p)
 }
 
 // The first of two refusals, where 0 is none.
@@ -323,7 +333,7 @@ fn earlier(a: usize, b: usize) -> usize
 
 // Billing lines, one by one; the number of the first refusal that is said. No tag of an input that the
 // program reads is longer than the buffer.
-pub fn show_lines(s: &[u8]) -> usize
+pub fn show_lines(rt: &(impl Print + Eprint), s: &[u8]) -> usize
     ensures { result ≡ lines_refusal s.now }
 {
     let mut bytes = [0u8; 65536];
@@ -332,7 +342,7 @@ pub fn show_lines(s: &[u8]) -> usize
     let mut k: usize = 0;
     while at < s.len() {
         let end = at + say::line_length(&s[at..]);
-        let number = show_line(k, at, &s[at..end], &mut bytes);
+        let number = show_line(rt, k, at, &s[at..end], &mut bytes);
         first = earlier(first, number);
         at = end;
         k += 1;
@@ -341,16 +351,20 @@ pub fn show_lines(s: &[u8]) -> usize
 }
 
 // The packet that a TLV form stands for.
-pub fn show_form(family: usize, f: &[u8]) -> usize
+pub fn show_form(rt: &(impl Print + Eprint), family: usize, f: &[u8]) -> usize
     ensures { result ≡ packet_of_form_refusal family f.now }
 {
     let mut p = [0u8; wire::LARGEST];
     match rebuild::packet_of_form(family, f, &mut p) {
-        Written::Refused(r) => refuse(Judged::Other, f, r),
+        Written::Refused(r) => refuse(rt, Judged::Other, f, r),
         Written::Bytes(n) => {
             if n <= p.len() {
-                say(b"TLV form, %1 bytes, of this packet:\n", &[f.len() as u64]);
-                show_packet(family, &p[0..n]);
+                say(
+                    rt,
+                    b"TLV form, %1 bytes, of this packet:\n",
+                    &[f.len() as u64],
+                );
+                show_packet(rt, family, &p[0..n]);
             }
             0
         }
@@ -358,14 +372,20 @@ pub fn show_form(family: usize, f: &[u8]) -> usize
 }
 
 // What was written of `p`.
-fn say_written(what: Judged, p: &[u8], answer: Written, out: &[u8]) -> usize
+fn say_written(
+    rt: &(impl Print + Eprint),
+    what: Judged,
+    p: &[u8],
+    answer: Written,
+    out: &[u8],
+) -> usize
     ensures { result ≡ refusal_number (written_as answer) }
 {
     match answer {
-        Written::Refused(r) => refuse(what, p, r),
+        Written::Refused(r) => refuse(rt, what, p, r),
         Written::Bytes(n) => {
             if n <= out.len() {
-                say_hex_line(&out[0..n]);
+                say_hex_line(rt, &out[0..n]);
             }
             0
         }
@@ -373,14 +393,20 @@ fn say_written(what: Judged, p: &[u8], answer: Written, out: &[u8]) -> usize
 }
 
 // The same of lines, which are said as they are.
-fn say_written_lines(what: Judged, p: &[u8], answer: Written, out: &[u8]) -> usize
+fn say_written_lines(
+    rt: &(impl Print + Eprint),
+    what: Judged,
+    p: &[u8],
+    answer: Written,
+    out: &[u8],
+) -> usize
     ensures { result ≡ refusal_number (written_as answer) }
 {
     match answer {
-        Written::Refused(r) => refuse(what, p, r),
+        Written::Refused(r) => refuse(rt, what, p, r),
         Written::Bytes(n) => {
             if n <= out.len() {
-                say_bytes(&out[0..n]);
+                say_bytes(rt, &out[0..n]);
             }
             0
         }
@@ -388,53 +414,61 @@ fn say_written_lines(what: Judged, p: &[u8], answer: Written, out: &[u8]) -> usi
 }
 
 // The TLV form of a TCP data packet, and of a datagram.
-pub fn say_form_of_packet(family: usize, p: &[u8]) -> usize
+pub fn say_form_of_packet(rt: &(impl Print + Eprint), family: usize, p: &[u8]) -> usize
     ensures { result ≡ form_of_packet_refusal family p.now }
 {
     let mut out = [0u8; wire::LARGEST_FORM];
     let answer = form::form_of_packet(family, p, &mut out);
-    say_written(Judged::Packet, p, answer, &out)
+    say_written(rt, Judged::Packet, p, answer, &out)
 }
 
-pub fn say_form_of_datagram(family: usize, p: &[u8]) -> usize
+pub fn say_form_of_datagram(rt: &(impl Print + Eprint), family: usize, p: &[u8]) -> usize
     ensures { result ≡ form_of_datagram_refusal family p.now }
 {
     let mut out = [0u8; wire::LARGEST_FORM];
     let answer = form::form_of_datagram(family, p, &mut out);
-    say_written(Judged::Datagram, p, answer, &out)
+    say_written(rt, Judged::Datagram, p, answer, &out)
 }
 
 // The billing lines of a TCP data packet, and of a datagram: they have at most as many bytes as a TLV form.
-pub fn say_lines_of_packet(family: usize, p: &[u8]) -> usize
+pub fn say_lines_of_packet(rt: &(impl Print + Eprint), family: usize, p: &[u8]) -> usize
     ensures { result ≡ lines_of_packet_refusal family p.now }
 {
     let mut out = [0u8; wire::LARGEST_FORM];
     let answer = print::lines_of_packet(family, p, &mut out);
-    say_written_lines(Judged::Packet, p, answer, &out)
+    say_written_lines(rt, Judged::Packet, p, answer, &out)
 }
 
-pub fn say_lines_of_datagram(family: usize, p: &[u8]) -> usize
+pub fn say_lines_of_datagram(rt: &(impl Print + Eprint), family: usize, p: &[u8]) -> usize
     ensures { result ≡ lines_of_datagram_refusal family p.now }
 {
     let mut out = [0u8; wire::LARGEST_FORM];
     let answer = print::lines_of_datagram(family, p, &mut out);
-    say_written_lines(Judged::Datagram, p, answer, &out)
+    say_written_lines(rt, Judged::Datagram, p, answer, &out)
 }
 
 // The TCP data packet of a TLV form.
-pub fn say_packet_of(family: usize, f: &[u8]) -> usize
+pub fn say_packet_of(rt: &(impl Print + Eprint), family: usize, f: &[u8]) -> usize
     ensures { result ≡ packet_of_form_refusal family f.now }
 {
     let mut out = [0u8; wire::LARGEST];
     let answer = rebuild::packet_of_form(family, f, &mut out);
-    say_written(Judged::Other, f, answer, &out)
+    say_written(rt, Judged::Other, f, answer, &out)
 }
 
 // A command packet.
-pub fn say_command(family: usize, codec: u8, kind: u8, imei: &[u8], time: u32, text: &[u8]) -> usize
+pub fn say_command(
+    rt: &(impl Print + Eprint),
+    family: usize,
+    codec: u8,
+    kind: u8,
+    imei: &[u8],
+    time: u32,
+    text: &[u8],
+) -> usize
     ensures { result ≡ write_refusal family codec kind imei.now time text.now }
 {
     let mut out = [0u8; wire::LARGEST];
     let answer = command::write_command(family, codec, kind, imei, time, text, &mut out);
-    say_written(Judged::Other, text, answer, &out)
+    say_written(rt, Judged::Other, text, answer, &out)
 }

@@ -12,13 +12,19 @@ use scan::{LineAnswer, LineElementAnswer, LineFields};
 use wire::{Refusal, Written};
 
 // All records; how many they are.
-pub fn say_records(family: usize, udp: bool, codec: u8, p: &[u8]) -> usize
+pub fn say_records(
+    rt: &(impl Print + Eprint),
+    family: usize,
+    udp: bool,
+    codec: u8,
+    p: &[u8],
+) -> usize
     ensures { result ≡ records_said family udp p.now }
 {
     let mut table = [0u64; wire::LARGEST_CONTENTS];
     match contents_at(family, udp, p, &mut table) {
         Written::Refused(_) => 0,
-        Written::Bytes(_) => say_rows(codec, p, &table),
+        Written::Bytes(_) => say_rows(rt, codec, p, &table),
     }
 }
 
@@ -33,7 +39,7 @@ fn contents_at(family: usize, udp: bool, p: &[u8], table: &mut [u64]) -> Written
 }
 
 // The records whose words stand behind the packet's two; how many they are.
-fn say_rows(codec: u8, p: &[u8], t: &[u64]) -> usize
+fn say_rows(rt: &(impl Print + Eprint), codec: u8, p: &[u8], t: &[u64]) -> usize
     requires in_bounds { 1 ≤ length t.now }
     requires rows_ahead { RowsAhead p.now t.now 2 (title_result t.now).count }
     ensures { result ≡ (title_result t.now).count }
@@ -42,37 +48,44 @@ fn say_rows(codec: u8, p: &[u8], t: &[u64]) -> usize
     let mut at: usize = 2;
     let mut n: usize = 0;
     while n < count {
-        at = say_record(codec, n, p, t, at);
+        at = say_record(rt, codec, n, p, t, at);
         n += 1;
     }
     n
 }
 
 // The record whose words begin at `at`; where those of the next begin.
-fn say_record(codec: u8, n: usize, p: &[u8], t: &[u64], at: usize) -> usize
+fn say_record(
+    rt: &(impl Print + Eprint),
+    codec: u8,
+    n: usize,
+    p: &[u8],
+    t: &[u64],
+    at: usize,
+) -> usize
     requires { RowsAhead p.now t.now at 1 }
     ensures { result ≡ at + 4 + (record_of (drop at t.now)).elements }
 {
     let f = contents::record_at(t, at);
     let elements = f.elements;
     let first = at + 4;
-    say(b"record %1", &[n as u64]);
-    say_time(f.timestamp);
-    say_origin(codec, f);
-    say_position(f);
-    say_motion(f);
-    say_values(p, t, first, elements);
+    say(rt, b"record %1", &[n as u64]);
+    say_time(rt, f.timestamp);
+    say_origin(rt, codec, f);
+    say_position(rt, f);
+    say_motion(rt, f);
+    say_values(rt, p, t, first, elements);
     first + elements
 }
 
 // A time: milliseconds since 1970, and their date before the year 10000.
-fn say_time(ms: u64) {
+fn say_time(rt: &(impl Print + Eprint), ms: u64) {
     if 253_402_300_799_999 < ms {
-        say(b"  time %1", &[ms]);
+        say(rt, b"  time %1", &[ms]);
         return;
     }
     let d = text::date_of(ms / 86_400_000);
-    say(b"  %4-%2-%2", &[d.year, d.month, d.day]);
+    say(rt, b"  %4-%2-%2", &[d.year, d.month, d.day]);
     let clock = [
         ms / 3_600_000 % 24,
         ms / 60_000 % 60,
@@ -80,17 +93,18 @@ fn say_time(ms: u64) {
         ms % 1000,
         ms,
     ];
-    say(b" %2:%2:%2.%3 UTC  time %1", &clock);
+    say(rt, b" %2:%2:%2.%3 UTC  time %1", &clock);
 }
 
 // Only codec 16 has a generation type.
-fn say_origin(codec: u8, f: RecordFields) {
+fn say_origin(rt: &(impl Print + Eprint), codec: u8, f: RecordFields) {
     say(
+        rt,
         b"  priority %1  event %1",
         &[f.priority as u64, f.event as u64],
     );
     if codec == 0x10 {
-        say(b"  generation type %1", &[f.generation as u64]);
+        say(rt, b"  generation type %1", &[f.generation as u64]);
     }
 }
 
@@ -104,26 +118,27 @@ fn wide(x: i16) -> i32 {
 }
 
 // Longitude and latitude are ten-millionths of a degree.
-fn say_degrees(s: &[u8], x: i32) {
+fn say_degrees(rt: &(impl Print + Eprint), s: &[u8], x: i32) {
     let n = text::distance(x);
-    say(s, &[sign(x), n / 10_000_000, n % 10_000_000]);
+    say(rt, s, &[sign(x), n / 10_000_000, n % 10_000_000]);
 }
 
-fn say_coordinates(longitude: i32, latitude: i32) {
-    say_degrees(b"\n  position  longitude ^-%1.%7", longitude);
-    say_degrees(b"  latitude ^-%1.%7", latitude);
+fn say_coordinates(rt: &(impl Print + Eprint), longitude: i32, latitude: i32) {
+    say_degrees(rt, b"\n  position  longitude ^-%1.%7", longitude);
+    say_degrees(rt, b"  latitude ^-%1.%7", latitude);
 }
 
-fn say_position(f: RecordFields) {
+fn say_position(rt: &(impl Print + Eprint), f: RecordFields) {
     let altitude = wide(f.altitude);
-    say_coordinates(f.longitude, f.latitude);
+    say_coordinates(rt, f.longitude, f.latitude);
     say(
+        rt,
         b"  altitude ^-%1 m\n",
         &[sign(altitude), text::distance(altitude)],
     );
 }
 
-fn say_motion(f: RecordFields) {
+fn say_motion(rt: &(impl Print + Eprint), f: RecordFields) {
     let numbers = [
         f.speed as u64,
         f.angle as u64,
@@ -131,13 +146,14 @@ fn say_motion(f: RecordFields) {
         f.elements as u64,
     ];
     say(
+        rt,
         b"  motion    speed %1 km/h  angle %1  satellites %1\n  values    %1\n",
         &numbers,
     );
 }
 
 // The values whose words stand from `first` on.
-fn say_values(p: &[u8], t: &[u64], first: usize, count: usize)
+fn say_values(rt: &(impl Print + Eprint), p: &[u8], t: &[u64], first: usize, count: usize)
     requires count_in_bounds { first + count ≤ length t.now }
     requires by_index { (k : ℕ) → k < count → (value_of (get_or t.now (first + k) 0)).offset + (value_of (get_or t.now (first + k) 0)).size ≤ length p.now }
 {
@@ -146,54 +162,60 @@ fn say_values(p: &[u8], t: &[u64], first: usize, count: usize)
         let v = contents::value_of(t[first + k]);
         let start = v.offset;
         let end = v.offset + v.size;
-        say_found(v, &p[start..end]);
+        say_found(rt, v, &p[start..end]);
         k += 1;
     }
 }
 
 // The ID and the bytes; behind 1, 2, 4 or 8 of them their unsigned number, behind any others the text
 // if all are printable.
-fn say_found(v: Value, s: &[u8]) {
-    say(b"    id ~5  size ~3  ", &[v.id as u64, s.len() as u64]);
-    say_hex(s);
+fn say_found(rt: &(impl Print + Eprint), v: Value, s: &[u8]) {
+    say(rt, b"    id ~5  size ~3  ", &[v.id as u64, s.len() as u64]);
+    say_hex(rt, s);
     if v.kind == 9 {
-        return say_variable(s);
+        return say_variable(rt, s);
     }
     if s.len() <= 8 {
-        say(b"  (%1)\n", &[wire::number(s, 0, s.len())]);
+        say(rt, b"  (%1)\n", &[wire::number(s, 0, s.len())]);
     }
 }
 
-fn say_variable(s: &[u8]) {
-    say(b"  variable", &[]);
+fn say_variable(rt: &(impl Print + Eprint), s: &[u8]) {
+    say(rt, b"  variable", &[]);
     if text::is_printable_text(s) {
-        say(b" ", &[]);
-        say_quoted(s);
+        say(rt, b" ", &[]);
+        say_quoted(rt, s);
     }
-    say(b"\n", &[]);
+    say(rt, b"\n", &[]);
 }
 
 // ---- billing lines; lines and bytes are counted from 0
 
 // Line `k` of an input, which starts at byte `start`; the number of its refusal, 0 if none. The bytes
 // of a tag go through the lent buffer.
-pub fn show_line(k: usize, start: usize, s: &[u8], bytes: &mut [u8]) -> usize
+pub fn show_line(
+    rt: &(impl Print + Eprint),
+    k: usize,
+    start: usize,
+    s: &[u8],
+    bytes: &mut [u8],
+) -> usize
     requires { start + length s.now < 2 ^ 64 }
     ensures { result ≡ line_refusal s.now }
 {
     match scan::read_line(s) {
-        LineAnswer::Refused(r) => refuse_line(r, k, start, s),
+        LineAnswer::Refused(r) => refuse_line(rt, r, k, start, s),
         LineAnswer::Fields(f) => {
-            say(b"line %1", &[k as u64]);
-            say_fields(f);
-            say_elements(s, f.start, f.elements, bytes);
+            say(rt, b"line %1", &[k as u64]);
+            say_fields(rt, f);
+            say_elements(rt, s, f.start, f.elements, bytes);
             0
         }
     }
 }
 
 // The refusal of a line, and the byte at which it is wrong: of the line and of the input.
-fn refuse_line(r: Refusal, k: usize, start: usize, s: &[u8]) -> usize
+fn refuse_line(rt: &(impl Print + Eprint), r: Refusal, k: usize, start: usize, s: &[u8]) -> usize
     requires { start + length s.now < 2 ^ 64 }
     ensures { result ≡ r.number }
 {
@@ -201,46 +223,54 @@ fn refuse_line(r: Refusal, k: usize, start: usize, s: &[u8]) -> usize
     let place = start + at;
     let numbers = [r.number as u64, at as u64, k as u64, place as u64];
     say(
+        rt,
         b"refused: %1 at byte %1 of line %1 (byte %1 of the input): ",
         &numbers,
     );
-    say_meaning(r.number);
+    say_meaning(rt, r.number);
     r.number
 }
 
-fn say_fields(f: LineFields) {
-    say_time(f.timestamp);
-    say_coordinates(f.longitude, f.latitude);
+fn say_fields(rt: &(impl Print + Eprint), f: LineFields) {
+    say_time(rt, f.timestamp);
+    say_coordinates(rt, f.longitude, f.latitude);
     say(
+        rt,
         b"\n  motion    speed %1 km/h\n  values    %1\n",
         &[f.speed as u64, f.elements as u64],
     );
 }
 
 // The elements, the field of the first of which starts at `start`.
-fn say_elements(s: &[u8], start: usize, count: usize, bytes: &mut [u8]) {
+fn say_elements(
+    rt: &(impl Print + Eprint),
+    s: &[u8],
+    start: usize,
+    count: usize,
+    bytes: &mut [u8],
+) {
     let mut at = start;
     let mut left = count;
     while 0 < left {
-        at = say_element(s, at, bytes);
+        at = say_element(rt, s, at, bytes);
         left -= 1;
     }
 }
 
 // The element whose field starts at `at`: its ID, and its number or its tag; where the next field starts.
-fn say_element(s: &[u8], at: usize, bytes: &mut [u8]) -> usize {
+fn say_element(rt: &(impl Print + Eprint), s: &[u8], at: usize, bytes: &mut [u8]) -> usize {
     match scan::element_at(s, at, bytes) {
         LineElementAnswer::Refused(r) => {
-            say(b"    not shown  ", &[]);
-            refuse(Judged::Other, s, r);
+            say(rt, b"    not shown  ", &[]);
+            refuse(rt, Judged::Other, s, r);
             s.len()
         }
         LineElementAnswer::Found(e) => {
-            say(b"    id ~5  ", &[e.id as u64]);
+            say(rt, b"    id ~5  ", &[e.id as u64]);
             if e.tag {
-                say_tag(bytes, e.size);
+                say_tag(rt, bytes, e.size);
             } else {
-                say(b"%1\n", &[e.value]);
+                say(rt, b"%1\n", &[e.value]);
             }
             e.next
         }
@@ -248,11 +278,15 @@ fn say_element(s: &[u8], at: usize, bytes: &mut [u8]) -> usize {
 }
 
 // A tag, the first `size` of the bytes, between quotes; of one that is too long for that, its size.
-fn say_tag(bytes: &[u8], size: usize) {
+fn say_tag(rt: &(impl Print + Eprint), bytes: &[u8], size: usize) {
     if 4096 < size || bytes.len() < size {
-        say(b"tag of %1 bytes, too long to be shown\n", &[size as u64]);
+        say(
+            rt,
+            b"tag of %1 bytes, too long to be shown\n",
+            &[size as u64],
+        );
         return;
     }
-    say_quoted(&bytes[0..size]);
-    say(b"\n", &[]);
+    say_quoted(rt, &bytes[0..size]);
+    say(rt, b"\n", &[]);
 }

@@ -1,65 +1,79 @@
 -- The digits of a number, and text with numbers by its first character.
-use Prim.Native.Nat.{ℕ, zero, suc, ◌+◌, ◌-◌, ◌*◌, ◌/◌, ◌%◌, ◌^◌, ◌≤◌, ◌<◌, min}
-use native.Mathlib.Nat.{add-zero, pow-suc, pow-le-pow_right, div-lt_iff_lt-mul, le-div_iff_mul-le}
-use native.Mathlib.Omega.{arith, by_contra, min_cases}
+use Prim.Native.Nat.{ℕ, ◌+◌, ◌-◌, ◌/◌, ◌%◌, ◌^◌, ◌≤◌, ◌<◌, min}
+use native.Mathlib.Nat.{add-zero}
+use native.Mathlib.Omega.{arith, min_cases}
 use mathlib.Core.Path.{◌≡◌, refl, sym, ap, ◌∙◌}
 use mathlib.Core.Bool.{true, false}
-use mathlib.Core.List.{List, [], ◌∷◌, ◌++◌}
-use lib.ListN.{length, get_or, take, drop, replicate}
+use mathlib.Core.List.{List, [], ◌∷◌, ◌++◌, append_assoc, append-nil}
+use lib.ListN.{length, get_or, set, take, drop, replicate, length-append, length-drop, length-set, drop_of_length-le}
 use lib.Seq.{get_or-drop, drop-drop, take_all}
-use borrow.Author.Tests.{lt-ltb, le-ltb}
-use Rattle.io.specs.Digits.{last_digits, hex_digit_ascii, IsDigitCount}
+use Rattle.std.proofs.lemmas.List.{drop-set}
+use Rattle.wire.proofs.Accepting.{by_length}
+use Rattle.text.proofs.DecimalLaws.{decimal-one, decimal-more, decimal-most}
 use Rattle.text.specs.Hex.{hex_text}
-use Rattle.text.specs.Decimal.{decimal_in, decimal}
+use Rattle.text.specs.Decimal.{decimal}
 use Rattle.say.specs.Rendering.{padded, shown, is_mark, rendered, quotable, closing, group}
 use Rattle.say.specs.Page.{OnPage}
 use Rattle.say.proofs.PageLaws.{Left, left-first, left_as, left-put, left-done, page-then, rest, next, none_left}
 
--- ---- the fewest digits that hold a number are its decimal digits
+-- ---- the digits of a number, stored from the last on
 
-digit : (d : ℕ) → d < 10 → hex_digit_ascii d ≡ 48 + d
-digit d h = simp (lt-ltb d 10 h)
+none-behind : (out : List ℕ) → length out ≡ 20 → drop (19 + 1) out ≡ []
+none-behind out e = drop_of_length-le out {i = 19 + 1} (omega (arith, e))
 
-digits_decimal : (most k n : ℕ) → k ≤ most → IsDigitCount 10 1 n k → last_digits 10 k n ≡ decimal_in most n
-unfolding decimal_in
-digits_decimal most zero n fits f = absurd (omega (arith, f.0))
-digits_decimal zero (suc k) n fits f = absurd (omega arith)
-digits_decimal (suc most) (suc zero) n fits f =
-    let small : n < 10 = f.1 in
-    let same : n % 10 ≡ n = omega arith in
-    rw (lt-ltb n 10 small, same, digit n small) refl
-digits_decimal (suc most) (suc (suc k)) n fits f =
-    let back : suc (suc k) - 1 ≡ suc k = omega arith in
-    let before : suc k - 1 ≡ k = omega arith in
-    let above : 10 ^ suc k ≤ n = rw back at (f.2 (omega arith)) in
-    let ten : 10 ^ 1 ≤ 10 ^ suc k = let h : 1 ≤ suc k = omega arith in pow-le-pow_right {n = 10} (omega arith) h in
-    let below : n < 10 ^ suc k * 10 = rw (pow-suc 10 (suc k)) at f.1 in
-    let least : 10 ^ k * 10 ≤ n = rw (pow-suc 10 k) at above in
-    let more : 10 ≤ n = omega (arith, above, ten) in
-    let last : n % 10 < 10 = omega arith in
-    rw (le-ltb n 10 more, digit (n % 10) last) (ap (λ (s : List ℕ). s ++ ((48 + n % 10) ∷ [])) (digits_decimal most (suc k) (n / 10) (omega arith) (omega arith, (div-lt_iff_lt-mul {k = 10} (omega arith)).1 below, λ h. rw before ((le-div_iff_mul-le {k = 10} (omega arith)).1 least))))
+some-digit : (n : ℕ) → n < 10 ^ 20 → 1 ≤ length (decimal n)
+some-digit n small =
+    by_length 10 n
+    (λ i. omega (arith, ap length (decimal-more n small i), length-append (decimal (n / 10)) ((48 + n % 10) ∷ [])))
+    (λ i. omega (arith, ap length (decimal-one n i)))
 
-pub decimal-digits : (k n : ℕ) → k ≤ 20 → IsDigitCount 10 1 n k → last_digits 10 k n ≡ decimal n
-unfolding decimal
-decimal-digits k n fits f = digits_decimal 20 k n fits f
+-- of a number whose last digits stand behind `start`, the others are left
+pub record DigitsLeft (n rest start : ℕ) (out : List ℕ) : Type 0 where
+  pub size : length out ≡ 20
+  pub inside : start < 20
+  pub fewer : rest ≤ n
+  pub left : decimal rest ++ drop (start + 1) out ≡ decimal n
+
+pub digits-first : (n : ℕ) (out : List ℕ) → length out ≡ 20 → DigitsLeft n n 19 out
+digits-first n out e = record { size = e; inside = omega arith; fewer = omega arith; left = ap (λ (l : List ℕ). decimal n ++ l) (none-behind out e) ∙ append-nil (decimal n) }
+
+module _ {n rest start : ℕ} {out : List ℕ} (h : DigitsLeft n rest start out) (small : n < 2 ^ 64) where
+  -- so there is room for them
+  pub digits-room : length (decimal rest) ≤ start + 1
+  digits-room = omega (arith, h.size, h.inside, ap length h.left, length-append (decimal rest) (drop (start + 1) out), length-drop (start + 1) out, decimal-most n)
+
+  pub digits-two : 10 ≤ rest → 1 ≤ start
+  digits-two more = omega (arith, digits-room, ap length (decimal-more rest (omega (arith, h.fewer, small)) more), length-append (decimal (rest / 10)) ((48 + rest % 10) ∷ []), some-digit (rest / 10) (omega (arith, h.fewer, small)))
+
+  pub digits-next : 10 ≤ rest → DigitsLeft n (rest / 10) (start - 1) (set out start (48 + rest % 10))
+  digits-next more =
+      let back : start - 1 + 1 ≡ start = omega (arith, digits-two more) in
+      let last = decimal-more rest (omega (arith, h.fewer, small)) more in
+      let stored = drop-set out start (48 + rest % 10) (omega (arith, h.size, h.inside)) in
+      record {
+        size = simp length-set h.size;
+        inside = omega (arith, h.inside);
+        fewer = omega (arith, h.fewer);
+        left =
+            ap (λ (i : ℕ). decimal (rest / 10) ++ drop i (set out start (48 + rest % 10))) back
+            ∙ ap (λ (l : List ℕ). decimal (rest / 10) ++ l) stored
+            ∙ sym (append_assoc (decimal (rest / 10)) ((48 + rest % 10) ∷ []) (drop (start + 1) out))
+            ∙ ap (λ (l : List ℕ). l ++ drop (start + 1) out) (sym last)
+            ∙ h.left;
+      }
+
+  pub digits-done : rest < 10 → drop start (set out start (48 + rest)) ≡ decimal n
+  digits-done few =
+      drop-set out start (48 + rest) (omega (arith, h.size, h.inside))
+      ∙ ap (λ (l : List ℕ). l ++ drop (start + 1) out) (sym (decimal-one rest few))
+      ∙ h.left
 
 -- ---- a number with `pad` in front
 
-at-most-20 : (k n : ℕ) → n < 2 ^ 64 → IsDigitCount 10 1 n k → k ≤ 20
-at-most-20 k n small f =
-    by_contra k 20
-    (λ h.
-    let far : 20 ≤ k - 1 = omega arith in
-    let below : 10 ^ 20 ≤ 10 ^ (k - 1) = pow-le-pow_right {n = 10} (omega arith) far in
-    let least : 10 ^ (k - 1) ≤ n = f.2 (omega arith) in
-    omega (arith, below, least, small))
-
-pub padded-put : {page mid after d : List ℕ} {at next last : ℕ} (n k width pad : ℕ) {times : ℕ} → n < 2 ^ 64 → IsDigitCount 10 1 n k → d ≡ last_digits 10 k n → k ≡ length d → times ≡ width - k
+pub padded-put : {page mid after d : List ℕ} {at next last : ℕ} (n width pad : ℕ) {times : ℕ} → d ≡ decimal n → times ≡ width - length d
     → OnPage (replicate times pad) page at mid next → OnPage d mid next after last → OnPage (padded width pad n) page at after last
 unfolding padded
-padded-put {d = d} n k width pad small f e size t p q =
-    let same : d ≡ decimal n = e ∙ decimal-digits k n (at-most-20 k n small f) f in
-    rw (← same, ← size, ← t) (page-then p q)
+padded-put {d = d} n width pad e t p q = rw (← e, ← t) (page-then p q)
 
 -- ---- what is left of a text from `i` on, with the numbers from `k` on
 

@@ -1,5 +1,5 @@
 -- The text that the program says: with numbers in it, between quotes, and of the bytes around a place.
-use Rattle.std.specs.Prelude.{ℕ, ◌+◌, ◌-◌, ◌%◌, Bool, true, false, List, [], ◌∷◌, ◌++◌, length, get_or, take, drop, replicate, eqb, ltb}
+use Rattle.std.specs.Prelude.{ℕ, ◌-◌, Bool, true, false, List, [], ◌∷◌, ◌++◌, length, get_or, take, drop, replicate, eqb, ltb}
 use Rattle.wire.specs.Numbers.{pick}
 use Rattle.text.specs.Hex.{among, hex_text}
 use Rattle.text.specs.Decimal.{decimal}

@@ -1,16 +1,18 @@
 // Text on standard output: with numbers in it, as hex text, between quotes, as it is. What is said is put on a
 // page or found in a text by functions whose promises say it byte by byte. No contract can speak of
-// what goes to a descriptor: the functions that write answer how many of those bytes they hand over.
+// what goes to a stream: the functions that write answer how many of those bytes they hand over.
 #![tactic(auto)]
 
-ghost use Rattle.std.specs.Prelude.{◌≡◌, [], ◌∷◌, ◌-◌, ◌*◌, min, length, take, drop, get_or, replicate};
+ghost use Rattle.std.specs.Prelude.{◌≡◌, [], ◌∷◌, ◌-◌, ◌*◌, ◌<◌, min, length, take, drop, get_or, replicate};
 ghost use Rattle.say.specs.Page.{OnPage};
 ghost use Rattle.say.specs.Rendering.{padded, width_of, shown, is_mark, rendered, is_plain, quotable, quoted, group, onward, around};
 ghost use Rattle.say.specs.Lines.{line_length, line_of};
 ghost use Rattle.text.specs.Hex.{hex_text};
+ghost use Rattle.text.specs.Decimal.{decimal};
 ghost use Rattle.wire.specs.Limits.{largest_of_all};
 
-use libc::STDOUT_FILENO;
+use std::io::{Cursor, Write};
+use std::{io, str};
 
 // ---- a page; each function answers where it goes on
 
@@ -54,14 +56,31 @@ fn less(a: usize, b: usize) -> usize
     if b < a { a - b } else { 0 }
 }
 
+// Stores the decimal digits of a number at the end of the room for them, and answers where they begin.
+fn decimal(n: u64, out: &mut [u8; 20]) -> usize
+    ensures within { result < 20 }
+    ensures digits { drop result out.new ≡ decimal n }
+{
+    let mut rest = n;
+    let mut start: usize = 19;
+    while 10 <= rest {
+        out[start] = (48 + rest % 10) as u8;
+        start -= 1;
+        rest = rest / 10;
+    }
+    out[start] = (48 + rest) as u8;
+    start
+}
+
 // A number, with `pad` in front up to `width`.
 fn put_padded(page: &mut [u8], at: usize, n: u64, width: usize, pad: u8) -> usize
     ensures { OnPage (padded width pad n) page.old at page.new result }
 {
     let mut digits = [0u8; 20];
-    let k = io::decimal(n, &mut digits);
-    let to = put_times(page, at, pad, less(width, k));
-    put_text(page, to, &digits[..k])
+    let start = decimal(n, &mut digits);
+    let text = &digits[start..];
+    let to = put_times(page, at, pad, less(width, text.len()));
+    put_text(page, to, text)
 }
 
 // The width that a character means: 1 to 9, A for 10 to F for 15.
@@ -275,64 +294,81 @@ fn least(a: usize, b: usize) -> usize
     if a < b { a } else { b }
 }
 
-// Hands the first `n` bytes, or all, to standard output.
-fn write(page: &[u8], n: usize) -> usize
+// The system's words for an error, without the number that stands behind them.
+fn reason<'a>(error: &io::Error, page: &'a mut [u8]) -> &'a str {
+    let mut to = Cursor::new(page);
+    let _ = write!(to, "{error}");
+    let text = str::from_utf8(to.into_inner()).unwrap_or("");
+    match text.split_once(" (os error ") {
+        Some((words, _)) => words,
+        None => text,
+    }
+}
+
+// A line on standard error: what failed, a colon and why.
+pub fn fail(rt: &impl Eprint, what: &str, error: &io::Error) {
+    let mut page = [0u8; 256];
+    let why = reason(error, &mut page);
+    let _ = eprintln!(rt; "{what}: {why}");
+}
+
+// Hands the first `n` bytes, or all, to standard output. What fails is said on standard error.
+fn write(rt: &(impl Print + Eprint), page: &[u8], n: usize) -> usize
     ensures { result ≡ min n (length page.now) }
 {
     let most = least(n, page.len());
-    let done = io::write_all(STDOUT_FILENO, &page[0..most]);
-    if !done {
-        os::fail(b"standard output");
+    if let Err(e) = rt.write_all(&page[0..most]) {
+        fail(rt, "standard output", &e);
     }
     most
 }
 
 // Text with numbers in it: at most 4,096 bytes.
-pub fn say(s: &[u8], numbers: &[u64]) -> usize
+pub fn say(rt: &(impl Print + Eprint), s: &[u8], numbers: &[u64]) -> usize
     ensures { result ≡ min (length (rendered s.now numbers.now)) 4096 }
 {
-    let mut page = io::buffer();
+    let mut page = [0u8; 4096];
     let n = render(&mut page, s, numbers);
-    write(&page, n)
+    write(rt, &page, n)
 }
 
 // Text between quotes: at most 16,386 bytes, as 4,096 bytes take that are all shown as \xNN.
-pub fn say_quoted(s: &[u8]) -> usize
+pub fn say_quoted(rt: &(impl Print + Eprint), s: &[u8]) -> usize
     ensures { result ≡ min (length (quoted s.now)) 16386 }
 {
     let mut page = [0u8; 16386];
     let n = quote(&mut page, s);
-    write(&page, n)
+    write(rt, &page, n)
 }
 
 // The bytes around a place.
-pub fn say_around(p: &[u8], place: usize) -> usize
+pub fn say_around(rt: &(impl Print + Eprint), p: &[u8], place: usize) -> usize
     ensures { result ≡ min (length (around p.now place)) 4096 }
 {
-    let mut page = io::buffer();
+    let mut page = [0u8; 4096];
     let n = around(&mut page, p, place);
-    write(&page, n)
+    write(rt, &page, n)
 }
 
 // Bytes as hex text: at most as many as a TLV form has.
-pub fn say_hex(s: &[u8]) -> usize
+pub fn say_hex(rt: &(impl Print + Eprint), s: &[u8]) -> usize
     ensures { result ≡ min (2 * length s.now) (8 * largest_of_all) }
 {
     let mut digits = [0u8; 2 * wire::LARGEST_FORM];
     let n = text::encode(s, &mut digits);
-    write(&digits, n)
+    write(rt, &digits, n)
 }
 
 // Bytes as they are.
-pub fn say_bytes(s: &[u8]) -> usize
+pub fn say_bytes(rt: &(impl Print + Eprint), s: &[u8]) -> usize
     ensures { result ≡ length s.now }
 {
-    write(s, s.len())
+    write(rt, s, s.len())
 }
 
-pub fn say_line(s: &[u8], n: usize) -> usize
+pub fn say_line(rt: &(impl Print + Eprint), s: &[u8], n: usize) -> usize
     ensures { result ≡ length (line_of n s.now) }
 {
     let line = line_of(s, n);
-    write(line, line.len())
+    write(rt, line, line.len())
 }

@@ -10,10 +10,10 @@ mod words;
 ghost use Rattle.std.specs.Prelude.{◌≡◌};
 ghost use Rattle.views.specs.Asked.{view_asked};
 
-use libc::{STDERR_FILENO, STDIN_FILENO, STDOUT_FILENO};
+use std::io;
 use text::Read;
 
-#[derive(Drop)]
+#[derive(Clone, Copy)]
 pub enum Call {
     PacketView,
     DatagramView,
@@ -25,22 +25,22 @@ pub enum Call {
 }
 
 fn call_of(w: &[u8]) -> Call {
-    if check::same(w, b"view_in_packet") {
+    if w == b"view_in_packet".as_slice() {
         return Call::PacketView;
     }
-    if check::same(w, b"view_in_datagram") {
+    if w == b"view_in_datagram".as_slice() {
         return Call::DatagramView;
     }
-    if check::same(w, b"id_view_in_packet") {
+    if w == b"id_view_in_packet".as_slice() {
         return Call::PacketIdView;
     }
-    if check::same(w, b"id_view_in_datagram") {
+    if w == b"id_view_in_datagram".as_slice() {
         return Call::DatagramIdView;
     }
-    if check::same(w, b"last_known_view") {
+    if w == b"last_known_view".as_slice() {
         return Call::LastKnownView;
     }
-    if check::same(w, b"command_text") {
+    if w == b"command_text".as_slice() {
         return Call::CommandText;
     }
     Call::Unknown
@@ -71,18 +71,15 @@ fn view<'a>(
     }
 }
 
-fn write(s: &[u8]) {
-    if io::write_all(STDOUT_FILENO, s) {
-        return;
+fn write(rt: &(impl Print + Eprint), s: &[u8]) {
+    if let Err(e) = rt.write_all(s) {
+        say::fail(rt, "standard output", &e);
     }
-    os::fail(b"standard output");
 }
 
-fn wrong(place: u64, why: &[u8]) {
-    write(b"error\n");
-    io::write_all(STDERR_FILENO, b"views: line ");
-    io::print_decimal(STDERR_FILENO, place);
-    io::write_all(STDERR_FILENO, why);
+fn wrong(rt: &(impl Print + Eprint), place: u64, why: &str) {
+    write(rt, b"error\n");
+    let _ = eprint!(rt; "views: line {place}{why}");
 }
 
 // A digit A to F in lower case.
@@ -108,23 +105,23 @@ fn to_lower(s: &mut [u8], n: usize) {
     }
 }
 
-fn say_digits(page: &mut [u8], n: usize, place: u64) {
+fn say_digits(rt: &(impl Print + Eprint), page: &mut [u8], n: usize, place: u64) {
     to_lower(page, n);
     if n <= page.len() {
-        write(b"bytes ");
-        write(&page[0..n]);
-        return write(b"\n");
+        write(rt, b"bytes ");
+        write(rt, &page[0..n]);
+        return write(rt, b"\n");
     }
-    wrong(place, b": the view is longer than 2048 bytes\n");
+    wrong(rt, place, ": the view is longer than 2048 bytes\n");
 }
 
-fn say_view(v: &[u8], place: u64) {
+fn say_view(rt: &(impl Print + Eprint), v: &[u8], place: u64) {
     if v.len() == 0 {
-        return write(b"bytes -\n");
+        return write(rt, b"bytes -\n");
     }
     let mut page = [0u8; 4096];
     let n = text::encode(v, &mut page);
-    say_digits(&mut page, n, place)
+    say_digits(rt, &mut page, n, place)
 }
 
 // How many words a line of the call has.
@@ -170,7 +167,15 @@ fn id_of(k: usize) -> u16 {
     0
 }
 
-fn answer_with(call: Call, family: usize, line: &[u8], n: usize, k: usize, place: u64) {
+fn answer_with(
+    rt: &(impl Print + Eprint),
+    call: Call,
+    family: usize,
+    line: &[u8],
+    n: usize,
+    k: usize,
+    place: u64,
+) {
     let mut first = [0u8; 69632];
     let mut second = [0u8; 69632];
     let a = words::bytes_of(words::word(line, 2), &mut first);
@@ -180,46 +185,47 @@ fn answer_with(call: Call, family: usize, line: &[u8], n: usize, k: usize, place
             if i <= first.len() {
                 if j <= second.len() {
                     let v = view(call, family, &first[0..i], &second[0..j], n, k, id_of(k));
-                    return say_view(v, place);
+                    return say_view(rt, v, place);
                 }
             }
         }
     }
     wrong(
+        rt,
         place,
-        b": neither '-' nor hex digits of at most 69632 bytes\n",
+        ": neither '-' nor hex digits of at most 69632 bytes\n",
     );
 }
 
-fn answer_line(line: &[u8], place: u64) {
+fn answer_line(rt: &(impl Print + Eprint), line: &[u8], place: u64) {
     let call = call_of(words::word(line, 0));
     let words = words_of(call);
     if words == 0 {
-        return wrong(place, b": no such call\n");
+        return wrong(rt, place, ": no such call\n");
     }
     if words::count(line) != words {
-        return wrong(place, b": not the words of this call\n");
+        return wrong(rt, place, ": not the words of this call\n");
     }
     let Read::Of(family) = text::number_of(words::word(line, 1), usize::MAX) else {
-        return wrong(place, b": not the number of a family\n");
+        return wrong(rt, place, ": not the number of a family\n");
     };
     let Read::Of(n) = record_number(call, line) else {
-        return wrong(place, b": not the number of a record\n");
+        return wrong(rt, place, ": not the number of a record\n");
     };
     let Read::Of(k) = last_number(call, line) else {
-        return wrong(place, b": not the number of an element, or no ID\n");
+        return wrong(rt, place, ": not the number of an element, or no ID\n");
     };
-    answer_with(call, family, line, n, k, place)
+    answer_with(rt, call, family, line, n, k, place)
 }
 
 // ---- the input, line by line
 
 // A line, or the last piece of one whose first pieces did not fit.
-fn answer(line: &[u8], place: u64, cut: bool) {
+fn answer(rt: &(impl Print + Eprint), line: &[u8], place: u64, cut: bool) {
     if cut {
-        return wrong(place, b": longer than 280575 bytes\n");
+        return wrong(rt, place, ": longer than 280575 bytes\n");
     }
-    answer_line(line, place)
+    answer_line(rt, line, place)
 }
 
 // How far the input is answered: bytes held of the line that `place` counts, whether its first pieces did not fit, and
@@ -233,7 +239,7 @@ struct Progress {
 }
 
 // Answers each line that is whole; what is held then starts at `held`.
-fn answer_lines(s: &[u8], place: u64, cut: bool) -> Progress {
+fn answer_lines(rt: &(impl Print + Eprint), s: &[u8], place: u64, cut: bool) -> Progress {
     let mut at = place;
     let mut broken = cut;
     let mut start: usize = 0;
@@ -242,7 +248,7 @@ fn answer_lines(s: &[u8], place: u64, cut: bool) -> Progress {
         let end = i;
         i += 1;
         if s[end] == b'\n' {
-            answer(&s[start..end], at, broken);
+            answer(rt, &s[start..end], at, broken);
             broken = false;
             at = std::num::wrapping_add_u64(at, 1);
             start = i;
@@ -282,7 +288,14 @@ fn ended(place: u64) -> Progress {
 }
 
 // One read. A line without its end is answered at the end of the input.
-fn turn(buf: &mut [u8], held: usize, place: u64, cut: bool) -> Progress {
+fn turn(
+    rt: &(impl Print + Eprint),
+    from: &mut impl io::Read,
+    buf: &mut [u8],
+    held: usize,
+    place: u64,
+    cut: bool,
+) -> Progress {
     if buf.len() <= held {
         return Progress {
             held: 0,
@@ -291,20 +304,21 @@ fn turn(buf: &mut [u8], held: usize, place: u64, cut: bool) -> Progress {
             more: true,
         };
     }
-    let got = libc::read(STDIN_FILENO, &mut buf[held..]);
-    if got < 0 {
-        os::fail(b"standard input");
-        return ended(place);
-    }
-    let more = io::count(got, &buf[held..]);
+    let more = match from.read(&mut buf[held..]) {
+        Ok(more) => more,
+        Err(e) => {
+            say::fail(rt, "standard input", &e);
+            return ended(place);
+        }
+    };
     if more == 0 {
         if 0 < held || cut {
-            answer(&buf[0..held], place, cut);
+            answer(rt, &buf[0..held], place, cut);
         }
         return ended(place);
     }
     let end = held + more;
-    let done = answer_lines(&buf[0..end], place, cut);
+    let done = answer_lines(rt, &buf[0..end], place, cut);
     let kept = keep(buf, done.held, end);
     Progress {
         held: kept,
@@ -314,14 +328,14 @@ fn turn(buf: &mut [u8], held: usize, place: u64, cut: bool) -> Progress {
     }
 }
 
-fn run(buf: &mut [u8]) {
+fn run(rt: &(impl Print + Eprint), from: &mut impl io::Read, buf: &mut [u8]) {
     let mut turns = u64::MAX;
     let mut held: usize = 0;
     let mut place: u64 = 1;
     let mut cut = false;
     while 0 < turns {
         turns -= 1;
-        let t = turn(buf, held, place, cut);
+        let t = turn(rt, from, buf, held, place, cut);
         if !t.more {
             return;
         }
@@ -331,7 +345,7 @@ fn run(buf: &mut [u8]) {
     }
 }
 
-fn main() {
+fn main(rt: HostRuntime) {
     let mut buf = [0u8; 280576];
-    run(&mut buf)
+    run(&rt, &mut rt.reader(), &mut buf)
 }

@@ -48,7 +48,7 @@ pub fn word(line: &[u8], k: usize) -> &[u8]
 // Pairs of hex digits and nothing else, or '-'.
 fn is_bytes(w: &[u8]) -> bool {
     match text::kind_of(w) {
-        Kind::Raw => check::same(w, b"-"),
+        Kind::Raw => w == b"-".as_slice(),
         Kind::Hex(digits) => 0 < digits && digits == w.len() && digits % 2 == 0,
     }
 }

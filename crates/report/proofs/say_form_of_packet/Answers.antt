@@ -1,0 +1,8 @@
+-- The writer's refusal is the one said.
+use mathlib.Core.Path.{ap, ◌∙◌}
+use Rattle.report.specs.Shown.{refusal_number, written_refusal, form_of_packet_refusal}
+use Rattle.report.proofs.say_form_of_packet.Goals as goal
+
+pub returns : goal.returns
+unfolding form_of_packet_refusal written_refusal
+returns g c = c.say_written.ensures ∙ ap refusal_number c.form_of_packet-answer.ensures.answer
