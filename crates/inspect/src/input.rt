@@ -59,17 +59,6 @@ fn place_of(w: &[u8], words: &[u8]) -> usize
     n
 }
 
-// How many arguments there are, the program's name among them.
-pub fn word_count(rt: &impl Env) -> usize {
-    let mut w = [0u8; 1];
-    for i in 0..usize::MAX {
-        if let Err(FillError::NotPresent) = rt.arg(i, &mut w) {
-            return i;
-        }
-    }
-    usize::MAX
-}
-
 // Stores argument `i`, and answers how many bytes it has; 0 for one that is missing or has no room.
 pub fn word_of(rt: &impl Env, i: usize, buf: &mut [u8]) -> usize
     ensures { result ≤ length buf.new }

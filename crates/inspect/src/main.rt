@@ -10,7 +10,7 @@ ghost use Rattle.inspect.specs.declared.Task.{Task};
 ghost use Rattle.inspect.specs.Runs.{refusal_by};
 
 use input::Input;
-use std::env::Env;
+use std::env::{Env, FillError};
 use std::io::Input as StandardInput;
 use std::rt::Files;
 use text::{Kind, Read};
@@ -262,11 +262,22 @@ fn write_task<R: Print + Eprint + Env>(rt: &R, family: usize, i: usize, words: u
     }
 }
 
+// How many arguments there are, the program's name among them.
+fn word_count(rt: &impl Env) -> usize {
+    let mut w = [0u8; 1];
+    for i in 0..usize::MAX {
+        if let Err(FillError::NotPresent) = rt.arg(i, &mut w) {
+            return i;
+        }
+    }
+    usize::MAX
+}
+
 // Does what the words from word `i` on ask for.
 fn do_words<R: Print + Eprint + StandardInput + Env + Files>(rt: &R, family: usize, i: usize)
     requires { i ≤ 3 }
 {
-    let words = input::word_count(rt);
+    let words = word_count(rt);
     let task = task_of(rt, i);
     match task {
         Task::Help => usage(rt),
