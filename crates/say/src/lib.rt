@@ -3,7 +3,7 @@
 // what goes to a stream: the functions that write answer how many of those bytes they hand over.
 #![tactic(auto)]
 
-ghost use Rattle.std.specs.Prelude.{◌≡◌, [], ◌∷◌, ◌+◌, ◌-◌, ◌*◌, ◌≤◌, ◌<◌, min, length, take, drop, get_or, replicate};
+ghost use Rattle.std.specs.Prelude.{◌≡◌, [], ◌∷◌, ◌-◌, ◌*◌, ◌<◌, min, length, take, drop, get_or, replicate};
 ghost use Rattle.say.specs.Page.{OnPage};
 ghost use Rattle.say.specs.Rendering.{padded, width_of, shown, is_mark, rendered, is_plain, quotable, quoted, group, onward, around};
 ghost use Rattle.say.specs.Lines.{line_length, line_of};
@@ -305,14 +305,15 @@ fn reason<'a>(error: &io::Error, page: &'a mut [u8]) -> &'a str {
     }
 }
 
-// A line on standard error: what failed, a colon and why. Answers how many bytes the line has.
+// A line on standard error: what failed, a colon and why. Answers how many bytes of it say what failed: of the
+// system's words for why, no contract can speak.
 pub fn fail(rt: &impl Eprint, what: &str, error: &io::Error) -> usize
-    ensures { length what.now + 3 ≤ result }
+    ensures { result ≡ length what.now }
 {
     let mut page = [0u8; 256];
     let why = reason(error, &mut page);
     let _ = eprintln!(rt; "{what}: {why}");
-    (what.len() + 3).saturating_add(why.len())
+    what.len()
 }
 
 // Hands the first `n` bytes, or all, to standard output. What fails is said on standard error.
