@@ -85,6 +85,13 @@ pub room-first : (base k : ℕ) {n value : ℕ} → 0 < base → value < base �
 room-first base k {n} {value} pos h few =
     le_trans (mul-le-mul_right (base ^ n) h) (subst (λ (x : ℕ). x ≤ base ^ k) (pow-succ' base n) (pow-le-pow_right pos few))
 
+-- before the first of `n` digits
+pub digits-start : (m : Reader ℕ) (base n : ℕ) {most value at : ℕ} {s : List ℕ} → at ≤ length s → suc value * base ^ n ≤ most
+    → DigitsLeft m base most (n - 0) value s at (digits_from m base n value s at)
+digits-start m base n {most} {value} {at} {s} h k =
+    let all : n ≡ n - 0 = omega arith in
+    subst (λ (x : ℕ). DigitsLeft m base most x value s at (digits_from m base n value s at)) all (record { inside = h; room = k; rest = refl })
+
 room-more : (base n value d most : ℕ) → d < base → suc value * base ^ suc n ≤ most → suc (value * base + d) * base ^ n ≤ most
 room-more base n value d most h k =
     let wider : suc (value * base + d) ≤ suc value * base = omega arith in

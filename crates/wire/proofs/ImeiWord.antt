@@ -1,9 +1,16 @@
 -- An IMEI in one word, and the digits of its text by their distance from 48.
 use Prim.Native.Nat.{ℕ, suc, ◌+◌, ◌-◌, ◌*◌, ◌%◌, ◌^◌, ◌≤◌, ◌<◌}
-use native.Mathlib.Nat.{pow-le-pow_right}
+use native.Mathlib.Nat.{pow-le-pow_right, not-suc-le-zero}
+use borrow.Author.Count.{below_more}
+use Rattle.std.proofs.lemmas.Bool.Decides.{nat_tests}
+use Rattle.std.proofs.lemmas.List.Edits.{length-between, get_or-between}
+use Rattle.std.proofs.lemmas.List.Sums.{prefix_len_passes, prefix_len_stops}
+use Rattle.std.specs.List.{between, prefix_len}
+use Rattle.std.specs.Char.{is_ascii_digit}
 use native.Mathlib.Omega.{arith}
-use mathlib.Core.Path.{◌≡◌, refl, sym, ap, ◌∙◌}
+use mathlib.Core.Path.{◌≡◌, refl, sym, ap, ◌∙◌, subst}
 use mathlib.Core.Bool.{Bool, true, false}
+use Rattle.std.proofs.lemmas.Bool.{true≢false}
 use mathlib.Core.List.{List}
 use lib.ListN.{length, get_or}
 use lib.Dec.{leb, lit<}
@@ -12,8 +19,8 @@ use Rattle.wire.specs.Numbers.{Bytes, pick}
 use Rattle.wire.specs.Reading.{got, bad}
 use Rattle.wire.specs.Imei.{imei_of, text_digit}
 use Rattle.wire.proofs.Widths.{bytes-get_d}
-use Rattle.wire.proofs.Accepting.{both_true, pick_true, pick-false}
-use Rattle.wire.proofs.DigitLaws.{numbered_of, numbered-unread, digit-right, digit-wrong, DigitsLeft, digits_from, digits-turn, digits-stop, digits-below, digits-done}
+use Rattle.wire.proofs.Accepting.{by_length, both_true, pick_true, pick-false}
+use Rattle.wire.proofs.DigitLaws.{numbered_of, numbered-unread, digit-right, digit-wrong, DigitsLeft, digits_from, digits-start, digits-turn, digits-stop, digits-below, digits-done}
 use Rattle.wire.proofs.ImeiText.{digit-exact}
 
 module _ (at next n : ℕ) where
@@ -24,6 +31,13 @@ module _ (at next n : ℕ) where
   pub word_none : 10 ^ 15 ≤ n → imei_of at next n ≡ bad (record { number = 15; index = 0; place = at + (n - 10 ^ 15) })
   unfolding imei_of
   word_none h = pick-false (leb (suc n) (10 ^ 15)) _ _ (lt-leb (suc n) (10 ^ 15) (omega arith))
+
+-- a byte that is as near to 48 as a digit is one
+ascii-digit : {c : ℕ} → c < 256 → (c + 208) % 256 ≤ 9 → is_ascii_digit c ≡ true
+ascii-digit {c} h d = let low : 48 ≤ c = omega arith in let high : c ≤ 57 = omega arith in simp (le-leb 48 c low, le-leb c 57 high)
+
+ascii-other : {c : ℕ} → c < 256 → 9 < (c + 208) % 256 → is_ascii_digit c ≡ false
+ascii-other {c} h d = grind (arith, nat_tests)
 
 -- one byte of the text, by its distance from 48
 module _ (s : List ℕ) (at : ℕ) (h : at + 1 ≤ length s) (b : get_or s at 0 < 256) where
@@ -45,40 +59,89 @@ module _ (s : List ℕ) (at : ℕ) (h : at + 1 ≤ length s) (b : get_or s at 0 
           absurd (omega (arith, leb-true 48 (get_or s at 0) t.0, leb-true (get_or s at 0) 57 t.1))
       no false e = e
 
--- ---- a loop over the digits: where it stands, that its number stays small, and what it will answer
+-- ---- a loop over the `n` bytes of the text: where it stands after `i` of them, that its number stays small, and what it will answer
 
-abbrev pub TextLeft : ℕ → List ℕ → ℕ → ℕ → ℕ → ℕ → ℕ → Type 0
-TextLeft n s at skip value next left =
-    (at ≤ next) × (next + left ≡ at + skip + n) × DigitsLeft text_digit 10 (10 ^ 15) left value s next (digits_from text_digit 10 n 0 s (at + skip))
+abbrev pub text_at : ℕ → List ℕ → ℕ → ℕ → List ℕ
+text_at n s at skip = between (at + skip) (at + skip + n) s
 
-module _ (n : ℕ) (s : List ℕ) (at skip : ℕ) where
-  pub text-start : n ≤ 15 → at + skip + n ≤ length s → TextLeft n s at skip 0 (at + skip) n
+pub record TextLeft (n : ℕ) (s : List ℕ) (at skip value i : ℕ) : Type 0 where
+  pub left : DigitsLeft text_digit 10 (10 ^ 15) (n - i) value s (at + skip + i) (digits_from text_digit 10 n 0 s (at + skip))
+  pub digits : (k : ℕ) → k < i → is_ascii_digit (get_or s (at + skip + k) 0) ≡ true
+
+module _ {n : ℕ} {s : List ℕ} {at skip : ℕ} where
+  pub text-start : n ≤ 15 → at + skip + n ≤ length s → TextLeft n s at skip 0 0
   text-start few h =
       let small : 10 ^ n ≤ 10 ^ 15 = pow-le-pow_right (lit< tt) few in
-      (omega arith, refl, record { inside = omega arith; room = omega arith; rest = refl })
+      let place : at + skip ≡ at + skip + 0 = omega arith in
+      let left : DigitsLeft text_digit 10 (10 ^ 15) (n - 0) 0 s (at + skip) (digits_from text_digit 10 n 0 s (at + skip)) = digits-start text_digit 10 n (omega arith) (omega arith) in
+      record {
+        left = subst (λ (j : ℕ). DigitsLeft text_digit 10 (10 ^ 15) (n - 0) 0 s j (digits_from text_digit 10 n 0 s (at + skip))) place left;
+        digits = λ k h. absurd (not-suc-le-zero h);
+      }
 
-  module _ {value next left : ℕ} (k : TextLeft n s at skip value next left) where
-    pub text-below : value < 10 ^ 15
-    text-below = digits-below (lit< tt) k.2
+  module _ (h : at + skip + n ≤ length s) {value i : ℕ} (k : TextLeft n s at skip value i) where
+    size : length (text_at n s at skip) ≡ n
+    size = length-between s (at + skip) (at + skip + n) h ∙ omega arith
 
-    pub text-done : left ≡ 0 → imei_of at (at + skip + n) value ≡ digits_from text_digit 10 n 0 s (at + skip)
-    text-done e =
-        let end : at + skip + n ≡ next = omega (arith, k.1, e) in
-        word-imei at _ value text-below ∙ ap (λ (m : ℕ). got value m) end ∙ sym (digits-done e k.2)
+    pub text-done : i ≤ length (text_at n s at skip) → length (text_at n s at skip) ≤ i → imei_of at (at + skip + n) value ≡ digits_from text_digit 10 n 0 s (at + skip)
+    text-done low high =
+        let end : i ≡ n = omega (arith, size) in
+        let none : n - i ≡ 0 = omega arith in
+        word-imei at _ value (digits-below (lit< tt) k.left) ∙ ap (λ (m : ℕ). got value (at + skip + m)) (sym end) ∙ sym (digits-done none k.left)
 
-    module _ (some : 0 < left) (h : at + skip + n ≤ length s) (b : Bytes s) where
-      there : next + 1 ≤ length s
-      there = omega (arith, k.1)
+    module _ (b : Bytes s) (more : i < length (text_at n s at skip)) where
+      digit : ℕ
+      digit = (get_or s (at + skip + i) 0 + 208) % 256
 
-      byte : get_or s next 0 < 256
-      byte = bytes-get_d s next b
+      within : i < n
+      within = omega (arith, size)
 
-      pub text-turn : (get_or s next 0 + 208) % 256 ≤ 9 → TextLeft n s at skip (value * 10 + (get_or s next 0 + 208) % 256) (next + 1) (left - 1)
-      text-turn d = (omega (arith, k.0), omega (arith, k.1), digits-turn some k.2 digit-exact b (digit-byte s next there byte d))
+      some : 0 < n - i
+      some = omega (arith, within)
 
-      pub text-wrong : 9 < (get_or s next 0 + 208) % 256 → imei_of at (at + skip + n) (10 ^ 15 + (next - at)) ≡ digits_from text_digit 10 n 0 s (at + skip)
-      text-wrong d =
-          let place : at + (10 ^ 15 + (next - at) - 10 ^ 15) ≡ next = omega (arith, k.0) in
+      there : at + skip + i + 1 ≤ length s
+      there = omega (arith, within)
+
+      byte : get_or s (at + skip + i) 0 < 256
+      byte = bytes-get_d s (at + skip + i) b
+
+      same : (k : ℕ) → k < n → get_or (text_at n s at skip) k 0 ≡ get_or s (at + skip + k) 0
+      same k l = get_or-between s (at + skip) (at + skip + n) k 0 (omega arith)
+
+      turn : digit ≤ 9 → TextLeft n s at skip (value * 10 + digit) (i + 1)
+      unfolding digit
+      turn d =
+          let left : n - i - 1 ≡ n - (i + 1) = omega arith in
+          let place : at + skip + i + 1 ≡ at + skip + (i + 1) = omega arith in
+          record {
+            left = rw (left, place) at (digits-turn some k.left digit-exact b (digit-byte s (at + skip + i) there byte d));
+            digits = below_more _ i k.digits (ascii-digit byte d);
+          }
+
+      pub text-turn : (get_or (text_at n s at skip) i 0 + 208) % 256 ≤ 9 → TextLeft n s at skip (value * 10 + (get_or (text_at n s at skip) i 0 + 208) % 256) (i + 1)
+      unfolding digit
+      text-turn = subst (λ (c : ℕ). (c + 208) % 256 ≤ 9 → TextLeft n s at skip (value * 10 + (c + 208) % 256) (i + 1)) (sym (same i within)) turn
+
+      pub text-below : (get_or (text_at n s at skip) i 0 + 208) % 256 ≤ 9 → value * 10 + (get_or (text_at n s at skip) i 0 + 208) % 256 < 10 ^ 15
+      text-below d = digits-below (lit< tt) (text-turn d).left
+
+      -- `i` digits come before a byte that is none
+      pub text-digits : 9 < (get_or (text_at n s at skip) i 0 + 208) % 256 → prefix_len is_ascii_digit (text_at n s at skip) ≡ i
+      text-digits d =
+          let text = text_at n s at skip in
+          let other : is_ascii_digit (get_or text i 0) ≡ false = ascii-other (subst (λ (c : ℕ). c < 256) (sym (same i within)) byte) d in
+          let short : prefix_len is_ascii_digit text ≤ i = by_length (suc i) (prefix_len is_ascii_digit text)
+          (λ l. absurd (true≢false (sym (prefix_len_passes is_ascii_digit text i 0 l) ∙ other)))
+          (λ l. omega arith) in
+          let far : i ≤ prefix_len is_ascii_digit text = by_length i (prefix_len is_ascii_digit text)
+          (λ l. l)
+          (λ l. absurd (true≢false (sym (k.digits (prefix_len is_ascii_digit text) l) ∙ ap is_ascii_digit (sym (same (prefix_len is_ascii_digit text) (omega (arith, within)))) ∙ prefix_len_stops is_ascii_digit text 0 (omega arith))))
+          in omega arith
+
+      pub text-wrong : {r : ℕ} → r ≡ i → 9 < (get_or (text_at n s at skip) i 0 + 208) % 256 → imei_of at (at + skip + n) (10 ^ 15 + (skip + r)) ≡ digits_from text_digit 10 n 0 s (at + skip)
+      text-wrong {r} e d =
+          let wrong : 9 < (get_or s (at + skip + i) 0 + 208) % 256 = subst (λ (c : ℕ). 9 < (c + 208) % 256) (same i within) d in
+          let place : at + (10 ^ 15 + (skip + r) - 10 ^ 15) ≡ at + skip + i = omega arith in
           word_none at _ _ (omega arith)
           ∙ ap (λ (m : ℕ). bad (record { number = 15; index = 0; place = m })) place
-          ∙ sym (digits-stop some k.2 (other_byte s next there byte d))
+          ∙ sym (digits-stop some k.left (other_byte s (at + skip + i) there byte wrong))

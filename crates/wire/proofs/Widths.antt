@@ -7,6 +7,8 @@ use mathlib.Core.Path.{◌≡◌, refl, sym, ap, ap₂, ◌∙◌, subst}
 use mathlib.Core.List.{List, [], ◌∷◌, ◌++◌, append_assoc, append-nil}
 use lib.ListN.{length, take, drop, get_or, length-append}
 use lib.Dec.{lit<}
+use mir.Syntax.{w8}
+use mir.Val.{Fits}
 use lib.Arith.{digits_div, digits_mod, digits_lt, lt-one}
 use lib.Seq.{drop-cons, drop-drop, get_or_at, get_or-drop}
 use Rattle.wire.specs.Numbers.{Bytes, number_at, digits, value_from, be, little_at, le}
@@ -25,6 +27,10 @@ bytes-get_d (b ∷ bs) (suc i) h = bytes-get_d bs i h.1
 pub get_d-bytes : (s : List ℕ) → ((i : ℕ) → get_or s i 0 < 256) → Bytes s
 get_d-bytes [] h = tt
 get_d-bytes (b ∷ bs) h = (h 0, get_d-bytes bs (λ i. h (suc i)))
+
+-- by what the type of a slice of bytes says
+pub bytes-fit : (s : List ℕ) → ((i : ℕ) → Fits w8 (get_or s i 0)) → Bytes s
+bytes-fit s h = get_d-bytes s (λ i. (h i).fits)
 
 pub bytes-append : (a b : List ℕ) → Bytes a → Bytes b → Bytes (a ++ b)
 bytes-append [] b h k = k

@@ -1,7 +1,9 @@
 // Numbers in bytes: big- and little-endian at a width, and the two's complement.
 #![tactic(auto)]
 
-ghost use Rattle.std.specs.Prelude.{◌≡◌, ◌+◌, ◌≤◌, ◌<◌, length};
+ghost use Rattle.std.specs.Prelude.{◌≡◌, ◌+◌, ◌^◌, ◌≤◌, ◌<◌, length};
+ghost use Rattle.std.specs.List.{prefix_len};
+ghost use Rattle.std.specs.Char.{is_ascii_digit};
 ghost use Rattle.std.proofs.lemmas.List.Edits.{sets};
 ghost use Rattle.wire.specs.Numbers.{number_at, little_at, signed, value_from, be, le};
 ghost use Rattle.wire.specs.Limits.{limits_of};
@@ -32,24 +34,22 @@ pub const LARGEST_CONTENTS: usize = LARGEST / 2;
 pub fn limits_of(family: usize) -> Limits
     ensures { result ≡ limits_of family }
 {
-    if family == 1 {
-        return Limits {
+    match family {
+        1 => Limits {
             largest: 512,
             datagram: 512,
             longest: 255,
-        };
-    }
-    if family == 2 {
-        return Limits {
+        },
+        2 => Limits {
             largest: LARGEST,
             datagram: LARGEST,
             longest: LARGEST,
-        };
-    }
-    Limits {
-        largest: 0,
-        datagram: 0,
-        longest: 0,
+        },
+        _ => Limits {
+            largest: 0,
+            datagram: 0,
+            longest: 0,
+        },
     }
 }
 
@@ -87,10 +87,8 @@ pub fn number(s: &[u8], at: usize, w: usize) -> u64
     ensures { result ≡ number_at s.now at w }
 {
     let mut n: u64 = 0;
-    let mut i: usize = 0;
-    while i < w {
-        n = (n << 8) | (s[at + i] as u64);
-        i += 1;
+    for b in &s[at..at + w] {
+        n = (n << 8) | u64::from(*b);
     }
     n
 }
@@ -99,14 +97,14 @@ pub fn be16(s: &[u8], at: usize) -> u16
     requires { at + 2 ≤ length s.now }
     ensures { result ≡ number_at s.now at 2 }
 {
-    number(s, at, 2) as u16
+    u16::from_be_bytes([s[at], s[at + 1]])
 }
 
 pub fn be32(s: &[u8], at: usize) -> u32
     requires { at + 4 ≤ length s.now }
     ensures { result ≡ number_at s.now at 4 }
 {
-    number(s, at, 4) as u32
+    u32::from_be_bytes([s[at], s[at + 1], s[at + 2], s[at + 3]])
 }
 
 // A width that is 2 at most: tested, where a loop over the bytes costs more than reading them.
@@ -114,21 +112,27 @@ pub fn short_number(s: &[u8], at: usize, w: usize) -> u64
     requires { (at + w ≤ length s.now) × (w ≤ 2) }
     ensures { result ≡ number_at s.now at w }
 {
-    if w == 2 {
-        return be16(s, at) as u64;
+    match w {
+        2 => u64::from(be16(s, at)),
+        1 => u64::from(s[at]),
+        _ => 0,
     }
-    if w == 1 {
-        return s[at] as u64;
-    }
-    0
 }
 
-// By two halves it compiles to one load; by a run of eight bytes it does not.
 pub fn be64(s: &[u8], at: usize) -> u64
     requires { at + 8 ≤ length s.now }
     ensures { result ≡ number_at s.now at 8 }
 {
-    (number(s, at, 4) << 32) | number(s, at + 4, 4)
+    u64::from_be_bytes([
+        s[at],
+        s[at + 1],
+        s[at + 2],
+        s[at + 3],
+        s[at + 4],
+        s[at + 5],
+        s[at + 6],
+        s[at + 7],
+    ])
 }
 
 // The same for little-endian numbers.
@@ -137,10 +141,8 @@ pub fn little(s: &[u8], at: usize, w: usize) -> u64
     ensures { result ≡ little_at s.now at w }
 {
     let mut n: u64 = 0;
-    let mut i: usize = w;
-    while i > 0 {
-        i -= 1;
-        n = (s[at + i] as u64) | (n << 8);
+    for i in (0..w).rev() {
+        n = u64::from(s[at + i]) | (n << 8);
     }
     n
 }
@@ -149,26 +151,28 @@ pub fn le64(s: &[u8], at: usize) -> u64
     requires { at + 8 ≤ length s.now }
     ensures { result ≡ little_at s.now at 8 }
 {
-    little(s, at, 4) | (little(s, at + 4, 4) << 32)
+    u64::from_le_bytes([
+        s[at],
+        s[at + 1],
+        s[at + 2],
+        s[at + 3],
+        s[at + 4],
+        s[at + 5],
+        s[at + 6],
+        s[at + 7],
+    ])
 }
 
-// A negative number by its distance from -1, so that each cast keeps the value.
 pub fn signed16(x: u16) -> i16
     ensures { result ≡ signed 2 x }
 {
-    if x < 0x8000 {
-        return x as i16;
-    }
-    -1 - ((0xFFFF - x) as i16)
+    x.cast_signed()
 }
 
 pub fn signed32(x: u32) -> i32
     ensures { result ≡ signed 4 x }
 {
-    if x < 0x8000_0000 {
-        return x as i32;
-    }
-    -1 - ((0xFFFF_FFFF - x) as i32)
+    x.cast_signed()
 }
 
 fn unread(number: usize, place: usize) -> Decimal
@@ -181,25 +185,11 @@ fn unread(number: usize, place: usize) -> Decimal
     })
 }
 
-// The same, and where the first byte that is no digit stands.
-fn placed_number(n: usize, s: &[u8], at: usize, skip: usize) -> u64
-    requires { (n ≤ 15) × (skip ≤ 2) × (at + skip + n ≤ length s.now) }
-    ensures { imei_of at (at + skip + n) result ≡ bind (repeat n text_digit) (λ ds. pure (value_from 10 0 ds)) s.now (at + skip) }
+// How many digits come before the first byte that is none.
+fn leading_digits(text: &[u8]) -> usize
+    ensures { result ≡ prefix_len is_ascii_digit text.now }
 {
-    let mut value: u64 = 0;
-    let mut next = at + skip;
-    let mut left = n;
-    while 0 < left {
-        let c = s[next];
-        let digit = ((c as u64) + 208) % 256;
-        if 9 < digit {
-            return NO_IMEI + ((next - at) as u64);
-        }
-        value = value * 10 + digit;
-        next += 1;
-        left -= 1;
-    }
-    value
+    text.iter().take_while(|b| b.is_ascii_digit()).count()
 }
 
 // The value of `n` ASCII digits, which are there, `skip` bytes behind `at`. A byte less 48 is a digit where that is below 10: one test for both ends. The place of one that is none is looked for anew: kept along, it costs a jump for each digit.
@@ -207,18 +197,14 @@ pub fn text_number(n: usize, s: &[u8], at: usize, skip: usize) -> u64
     requires { (n ≤ 15) × (skip ≤ 2) × (at + skip + n ≤ length s.now) }
     ensures { imei_of at (at + skip + n) result ≡ bind (repeat n text_digit) (λ ds. pure (value_from 10 0 ds)) s.now (at + skip) }
 {
+    let text = &s[at + skip..at + skip + n];
     let mut value: u64 = 0;
-    let mut next = at + skip;
-    let mut left = n;
-    while 0 < left {
-        let c = s[next];
-        let d = ((c as u64) + 208) % 256;
+    for b in text {
+        let d = b.wrapping_sub(b'0');
         if 9 < d {
-            return placed_number(n, s, at, skip);
+            return NO_IMEI + ((skip + leading_digits(text)) as u64);
         }
-        value = value * 10 + d;
-        next += 1;
-        left -= 1;
+        value = value * 10 + u64::from(d);
     }
     value
 }
@@ -240,18 +226,13 @@ fn pair_up_to(most: u8, s: &[u8], at: usize) -> Decimal
     requires { at ≤ length s.now }
     ensures { result ≡ numbered (pair_up_to most s.now at) }
 {
-    let end = at + 1;
-    if s.len() < end {
+    let Some(&b) = s.get(at) else {
         return unread(8, at);
-    }
-    let b = s[at];
-    if most < b / 16 {
+    };
+    if most < b / 16 || 9 < b % 16 {
         return unread(15, at);
     }
-    if 9 < b % 16 {
-        return unread(15, at);
-    }
-    Decimal::Of((b / 16 * 10 + b % 16) as u64, end)
+    Decimal::Of(u64::from(b / 16 * 10 + b % 16), at + 1)
 }
 
 // `n` pairs of digits behind the digits that gave `first`.
@@ -261,8 +242,7 @@ fn pairs_from(first: u64, n: usize, s: &[u8], at: usize) -> Decimal
 {
     let mut value = first;
     let mut next = at;
-    let mut left = n;
-    while 0 < left {
+    for _i in 0..n {
         match pair_up_to(9, s, next) {
             Decimal::Of(d, to) => {
                 value = value * 100 + d;
@@ -270,7 +250,6 @@ fn pairs_from(first: u64, n: usize, s: &[u8], at: usize) -> Decimal
             }
             Decimal::Unread(x) => return Decimal::Unread(x),
         }
-        left -= 1;
     }
     Decimal::Of(value, next)
 }
@@ -295,11 +274,9 @@ pub fn put_be(out: &mut [u8], at: usize, w: usize, n: u64)
     ensures { out.new ≡ sets out.old at (be w n) }
 {
     let mut rest = n;
-    let mut left = w;
-    while 0 < left {
-        left -= 1;
-        out[at + left] = (rest % 256) as u8;
-        rest = rest / 256;
+    for i in (0..w).rev() {
+        out[at + i] = (rest % 256) as u8;
+        rest /= 256;
     }
 }
 
@@ -309,11 +286,9 @@ pub fn put_le(out: &mut [u8], at: usize, w: usize, n: u64)
     ensures { out.new ≡ sets out.old at (le w n) }
 {
     let mut rest = n;
-    let mut i: usize = 0;
-    while i < w {
+    for i in 0..w {
         out[at + i] = (rest % 256) as u8;
-        rest = rest / 256;
-        i += 1;
+        rest /= 256;
     }
 }
 
@@ -322,9 +297,5 @@ pub fn put_bytes(out: &mut [u8], at: usize, src: &[u8])
     requires { at + length src.now ≤ length out.old }
     ensures { out.new ≡ sets out.old at src.now }
 {
-    let mut i: usize = 0;
-    while i < src.len() {
-        out[at + i] = src[i];
-        i += 1;
-    }
+    out[at..at + src.len()].copy_from_slice(src);
 }

@@ -1,15 +1,15 @@
+use Rattle.std.proofs.Common.{rules}
 use Rattle.wire.specs.Limits.{limits_of}
-use borrow.Author.Tests.{eq-eqb, ne_eqb}
 use Rattle.wire.proofs.limits_of.Goals as goal
 
-pub returns-then-family-eq1 : goal.returns-then-family-eq1
+pub returns-in-1 : goal.returns-in-1
 unfolding limits_of
-returns-then-family-eq1 c = simp (eq-eqb _ _ c.if-family-eq1.true)
+returns-in-1 c = simp c.in-1.is
 
-pub returns-then-family-eq2 : goal.returns-then-family-eq2
+pub returns-in-2 : goal.returns-in-2
 unfolding limits_of
-returns-then-family-eq2 c = simp (ne_eqb _ _ c.if-family-eq1.false, eq-eqb _ _ c.if-family-eq2.true)
+returns-in-2 c = simp c.in-2.is
 
-pub returns : goal.returns
+pub returns-in_default : goal.returns-in_default
 unfolding limits_of
-returns c = simp (ne_eqb _ _ c.if-family-eq1.false, ne_eqb _ _ c.if-family-eq2.false)
+returns-in_default c = search rules

@@ -1,24 +1,17 @@
-use Prim.Native.Nat.{◌+◌}
-use native.Mathlib.Omega.{arith}
-use mathlib.Core.Path.{◌≡◌}
-use borrow.Author.Rules.{rules}
+use Rattle.std.proofs.Common.{◌+◌, arith, rules}
+use Rattle.std.proofs.lemmas.List.Edits.{get_or-between}
 use Rattle.wire.proofs.Shifts.{number-one, number-or}
-use Rattle.wire.proofs.Widths.{get_d-bytes}
+use Rattle.wire.proofs.Widths.{bytes-fit}
 use Rattle.wire.specs.Numbers.{number_at}
 use Rattle.wire.proofs.number.Goals as goal
 
-pub loop-i-init : goal.loop-i-init
+pub loop-b-init : goal.loop-b-init
 unfolding number_at
-loop-i-init c = search rules
+loop-b-init c = search rules
 
-pub overflow_cast-n : goal.overflow_cast-n
-overflow_cast-n c = omega (arith, c.type_inv.s (c.args.at + c.loop-i.i))
-
-pub loop-i-preserved : goal.loop-i-preserved
-loop-i-preserved c = let s = c.args.s.now in
+pub loop-b-preserved : goal.loop-b-preserved
+loop-b-preserved c =
+    let s = c.args.s.now in
     let at = c.args.at in
-    let i = c.loop-i.i in
-    (omega arith, cc (number-one s (at + i), number-or s at i 1 64 (get_d-bytes s (λ k. (c.type_inv.s k).fits)) (omega arith)))
-
-pub returns : goal.returns
-returns c = let done : c.loop-i.i ≡ c.args.w = omega arith in cc
+    let i = c.loop-b.b-index in
+    cc (get_or-between s at (at + c.args.w) i 0 (omega arith), number-one s (at + i), number-or s at i 1 64 (bytes-fit s c.type_inv.s) (omega arith))

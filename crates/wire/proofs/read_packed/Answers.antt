@@ -8,7 +8,7 @@ use Rattle.wire.proofs.DigitLaws.{numbered_of, numbered-unread, numbered-bad, di
 use Rattle.wire.proofs.ImeiPacked.{pair-exact}
 use Rattle.wire.proofs.Walking.{then-bad}
 use Rattle.wire.proofs.Exactness.{then-got}
-use Rattle.wire.proofs.Widths.{get_d-bytes}
+use Rattle.wire.proofs.Widths.{bytes-fit}
 use Rattle.wire.specs.Imei.{pair_up_to, read_packed}
 use Rattle.wire.specs.Reading.{got, bad, numbered, pure}
 use Rattle.wire.specs.Numbers.{value_from}
@@ -36,7 +36,7 @@ returns-then-w-eq0 c = sym (ap (λ (w : ℕ). numbered (read_packed w c.args.s.n
 pub pairs_from-requires : goal.pairs_from-requires
 pairs_from-requires c =
     let s = c.args.s.now in
-    let bytes = get_d-bytes s (λ i. (c.type_inv.s i).fits) in
+    let bytes = bytes-fit s c.type_inv.s in
     let first = numbered_of _ (sym c.pair_up_to.ensures ∙ c.in-Of.is) in
     let read = ((pair-exact 0 (lit≤ tt)).sound s c.args.at bytes c.requires.0).if-got _ _ first in
     (omega (arith, read.1), omega (arith, c.if-w-eq0.false), read.0.inside)

@@ -1,18 +1,11 @@
-use native.Mathlib.Omega.{arith}
-use mathlib.Core.Path.{◌≡◌, sym, ap, ◌∙◌}
-use Rattle.wire.specs.Numbers.{number_at}
+use Rattle.std.proofs.Common.{◌≡◌, sym, ap, arith, rules}
 use Rattle.wire.proofs.Shifts.{number-one}
+use Rattle.wire.specs.Numbers.{number_at}
 use Rattle.wire.proofs.short_number.Goals as goal
 
-pub returns-then-w-eq2 : goal.returns-then-w-eq2
-returns-then-w-eq2 c = c.be16.ensures ∙ ap (number_at c.args.s.now c.args.at) (sym c.if-w-eq2.true)
+pub returns-in-1 : goal.returns-in-1
+returns-in-1 c = search (rules, number-one)
 
-pub overflow_cast-result-then-w-eq1 : goal.overflow_cast-result-then-w-eq1
-overflow_cast-result-then-w-eq1 c = omega (arith, c.type_inv.s c.args.at)
-
-pub returns-then-w-eq1 : goal.returns-then-w-eq1
-returns-then-w-eq1 c = sym (number-one c.args.s.now c.args.at) ∙ ap (number_at c.args.s.now c.args.at) (sym c.if-w-eq1.true)
-
-pub returns : goal.returns
+pub returns-in_default : goal.returns-in_default
 unfolding number_at
-returns c = let none : c.args.w ≡ 0 = omega arith in sym (ap (number_at c.args.s.now c.args.at) none)
+returns-in_default c = let none : c.args.w ≡ 0 = omega arith in sym (ap (number_at c.args.s.now c.args.at) none)

@@ -1,17 +1,10 @@
--- Below 2 ^ 15 the number itself, else as far below -1 as it is below 2 ^ 16 - 1.
-use mir.Facts.{sfits_to_z, of_z-to_z}
-use mir.Syntax.{w16}
-use Rattle.wire.proofs.Complement.{to_z-pick, to_z-below}
+-- The library's signed number is the definition's.
+use Rattle.std.proofs.Math.Facts.{of_z-to_z}
+use Rattle.std.specs.Int.{w16}
+use Rattle.wire.proofs.Complement.{to_z-pick}
 use Rattle.wire.specs.Numbers.{signed}
 use Rattle.wire.proofs.signed16.Goals as goal
 
-pub returns-then-x-lt32768 : goal.returns-then-x-lt32768
-unfolding signed
-returns-then-x-lt32768 c = to_z-pick w16 c.args.x
-
-pub overflow_sub-result-2 : goal.overflow_sub-result-2
-overflow_sub-result-2 c = rw (to_z-below w16 c.args.x c.if-x-lt32768.false c.ranges.x) (sfits_to_z c.ranges.x)
-
 pub returns : goal.returns
 unfolding signed
-returns c = simp (to_z-below w16 c.args.x c.if-x-lt32768.false c.ranges.x, of_z-to_z c.ranges.x) (to_z-pick w16 c.args.x)
+returns c = simp (c.cast_signed.ensures, of_z-to_z c.ranges.x) (to_z-pick w16 c.args.x)

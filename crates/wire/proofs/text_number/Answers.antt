@@ -1,32 +1,35 @@
-use Rattle.wire.proofs.Widths.{get_d-bytes}
-use Rattle.wire.proofs.ImeiWord.{text-start, text-below, text-done, text-turn}
-use native.Mathlib.Omega.{arith}
+use Rattle.std.proofs.Common.{◌∙◌, arith}
+use Rattle.wire.proofs.Widths.{bytes-fit}
+use Rattle.wire.proofs.ImeiWord.{text-start, text-below, text-done, text-turn, text-wrong, text-digits}
 use Rattle.wire.proofs.text_number.Goals as goal
 
-pub loop-left-init : goal.loop-left-init
-loop-left-init c = text-start c.args.n c.args.s.now c.args.at c.args.skip c.requires.0 c.requires.2
+pub loop-b-init : goal.loop-b-init
+loop-b-init c = text-start c.requires.0 c.requires.2
 
-pub overflow_cast-d : goal.overflow_cast-d
-overflow_cast-d c = omega (arith, (c.type_inv.s c.loop-left.next).fits)
+pub overflow_add-result : goal.overflow_add-result
+overflow_add-result c =
+    omega (arith, c.leading_digits.ensures, text-digits c.requires.2 c.loop-b.invariant (bytes-fit c.args.s.now c.type_inv.s) c.loop-b-test.true c.if-d-gt9.true)
 
-pub overflow_add-d : goal.overflow_add-d
-overflow_add-d c = omega (arith, (c.type_inv.s c.loop-left.next).fits)
+pub overflow_add-result-then-d-gt9 : goal.overflow_add-result-then-d-gt9
+overflow_add-result-then-d-gt9 c =
+    omega (arith, c.leading_digits.ensures, text-digits c.requires.2 c.loop-b.invariant (bytes-fit c.args.s.now c.type_inv.s) c.loop-b-test.true c.if-d-gt9.true)
 
 pub returns-then-d-gt9 : goal.returns-then-d-gt9
-returns-then-d-gt9 c = c.placed_number.ensures
-
-pub loop-left-preserved : goal.loop-left-preserved
-loop-left-preserved c =
-    let args = c.args in
-    text-turn args.n args.s.now args.at args.skip c.loop-left.invariant c.loop-left-test.true c.requires.2 (get_d-bytes args.s.now (λ i. (c.type_inv.s i).fits)) c.if-d-gt9.false
+returns-then-d-gt9 c =
+    let found = c.leading_digits.ensures ∙ text-digits c.requires.2 c.loop-b.invariant (bytes-fit c.args.s.now c.type_inv.s) c.loop-b-test.true c.if-d-gt9.true in
+    text-wrong c.requires.2 c.loop-b.invariant (bytes-fit c.args.s.now c.type_inv.s) c.loop-b-test.true found c.if-d-gt9.true
 
 pub overflow_mul-value : goal.overflow_mul-value
-overflow_mul-value c = omega (arith, text-below c.args.n c.args.s.now c.args.at c.args.skip (loop-left-preserved c))
+overflow_mul-value c =
+    omega (arith, text-below c.requires.2 c.loop-b.invariant (bytes-fit c.args.s.now c.type_inv.s) c.loop-b-test.true c.if-d-gt9.false)
 
 pub overflow_add-value : goal.overflow_add-value
-overflow_add-value c = omega (arith, text-below c.args.n c.args.s.now c.args.at c.args.skip (loop-left-preserved c))
+overflow_add-value c =
+    omega (arith, c.from.ensures, text-below c.requires.2 c.loop-b.invariant (bytes-fit c.args.s.now c.type_inv.s) c.loop-b-test.true c.if-d-gt9.false)
+
+pub loop-b-preserved : goal.loop-b-preserved
+loop-b-preserved c =
+    simp c.from.ensures (text-turn c.requires.2 c.loop-b.invariant (bytes-fit c.args.s.now c.type_inv.s) c.loop-b-test.true c.if-d-gt9.false)
 
 pub returns : goal.returns
-returns c =
-    let args = c.args in
-    text-done args.n args.s.now args.at args.skip c.loop-left.invariant (omega (arith, c.loop-left-test.false))
+returns c = text-done c.requires.2 c.loop-b.invariant c.loop-b.auto.b-index-end c.loop-b-test.false
