@@ -1,14 +1,12 @@
 -- Little-endian numbers, byte by byte.
-use Prim.Native.Nat.{ℕ, zero, suc, ◌+◌, ◌-◌, ◌*◌, ◌≤◌, ◌<◌, ◌^◌}
-use native.Mathlib.Nat.{lt_of_lt_of_le, pow-le-pow_right}
+use Prim.Native.Nat.{ℕ, zero, suc, ◌+◌, ◌-◌, ◌*◌, ◌≤◌, ◌^◌}
 use native.Mathlib.Omega.{arith}
-use mathlib.Core.Path.{◌≡◌, refl, ap, ap₂, ◌∙◌}
+use mathlib.Core.Path.{◌≡◌, refl, sym, ap, ap₂, ◌∙◌}
 use mathlib.Core.List.{List}
-use lib.ListN.{drop, get_or}
-use lib.Dec.{lit<}
+use lib.ListN.{length, drop, get_or-eq_default}
 use lib.Seq.{get_or-drop}
-use Rattle.wire.specs.Numbers.{Bytes, little_at}
-use Rattle.wire.proofs.Widths.{little-lt}
+use Rattle.wire.specs.Numbers.{little_at}
+use Rattle.wire.proofs.Shifts.{little-add}
 
 pub little-drop : (f : List ℕ) (at k w : ℕ) → little_at (drop at f) k w ≡ little_at f (at + k) w
 unfolding little_at
@@ -16,15 +14,17 @@ little-drop f at k zero = refl
 little-drop f at k (suc w) =
     ap₂ (λ (a b : ℕ). a + 256 * b) (get_or-drop at f k 0) (little-drop f at (k + 1) w ∙ ap (λ (j : ℕ). little_at f j w) (omega arith))
 
--- one byte more, in front
-pub little-more : (f : List ℕ) (at w i : ℕ) → 0 < i → i ≤ w
-    → little_at f (at + i) (w - i) * 256 + get_or f (at + (i - 1)) 0 ≡ little_at f (at + (i - 1)) (w - (i - 1))
+-- past the end each byte is 0
+pub little-past : (f : List ℕ) (at w : ℕ) → length f ≤ at → little_at f at w ≡ 0
 unfolding little_at
-little-more f at w i pos h =
-    let left : w - (i - 1) ≡ suc (w - i) = omega arith in
-    let place : at + (i - 1) + 1 ≡ at + i = omega arith in
-    rw left (rw place (omega arith))
+little-past f at zero h = refl
+little-past f at (suc w) h = omega (arith, get_or-eq_default f 0 {n = at} h, little-past f (at + 1) w (omega arith))
 
--- a number of less than eight bytes leaves room for one more
-pub little-room : (f : List ℕ) (at w : ℕ) → Bytes f → w ≤ 7 → little_at f at w < 2 ^ 56
-little-room f at w h k = lt_of_lt_of_le (little-lt f at w h) (pow-le-pow_right (lit< tt) k)
+-- so the bytes that are there make up the number
+pub little-there : (f : List ℕ) (at w : ℕ) → at ≤ length f → length f ≤ at + w → little_at f at (length f - at) ≡ little_at f at w
+little-there f at w h k =
+    let n : ℕ = length f - at in
+    let whole : n + (w - n) ≡ w = omega arith in
+    let past : little_at f (at + n) (w - n) ≡ 0 = little-past f (at + n) (w - n) (omega arith) in
+    let high : little_at f (at + n) (w - n) * 2 ^ (8 * n) ≡ 0 = rw past (omega arith) in
+    sym (ap (little_at f at) (sym whole) ∙ little-add f at n (w - n) ∙ omega (arith, high))

@@ -49,20 +49,7 @@ pub entries-end : (f : List ℕ) (at : ℕ) → length f ≤ at → entries_at f
 unfolding entries_at entries_of entries_from
 entries-end f at h = ap entries_of (drop_of_length-le f {i = at} h)
 
--- ---- a part that is clipped to the list
-
-take-clipped : (n : ℕ) (f : List ℕ) → take (min n (length f)) f ≡ take n f
-take-clipped zero f = rw zero-min
-take-clipped (suc n) [] = rw min-zero
-take-clipped (suc n) (b ∷ f) = rw suc-min-suc (ap (λ (l : List ℕ). b ∷ l) (take-clipped n f))
-
-pub clipped-part : (f : List ℕ) (a n : ℕ) → take (min (a + n) (length f) - min a (length f)) (drop (min a (length f)) f) ≡ take n (drop a f)
-clipped-part f zero n = simp (zero-add, zero-min, sub-zero) (take-clipped n f)
-clipped-part [] (suc a) n = simp (min-zero, take-nil)
-clipped-part (b ∷ f) (suc a) n = simp (suc-add, suc-min-suc, suc-sub-suc) (clipped-part f a n)
-
-pub body-part : (f : List ℕ) (at start end : ℕ) → start ≡ min (at + 4) (length f) → end ≡ min (next_at f at) (length f) → take (end - start) (drop start f) ≡ body_at f at
-body-part f at start end s e = ap₂ (λ (a b : ℕ). take (b - a) (drop a f)) s e ∙ clipped-part f (at + 4) (little_at f at 2)
+-- ---- the body
 
 pub body-short : (f : List ℕ) (at : ℕ) → length (body_at f at) ≤ length f
 body-short f at = omega (arith, length-take (little_at f at 2) (drop (at + 4) f), length-drop (at + 4) f)
