@@ -6,6 +6,8 @@ use native.Mathlib.Omega.{arith}
 use mathlib.Core.Path.{◌≡◌, refl, sym, ap, ap₂, ◌∙◌, subst}
 use mathlib.Core.List.{List, [], ◌∷◌, ◌++◌, append_assoc, append-nil}
 use lib.ListN.{length, take, drop, get_or, length-append}
+use Rattle.std.specs.List.{between}
+use Rattle.std.proofs.lemmas.List.Edits.{get_or-between}
 use lib.Dec.{lit<}
 use mir.Syntax.{w8}
 use mir.Val.{Fits}
@@ -165,3 +167,18 @@ little-le (suc w) n s at rest h e =
     let first : get_or s at 0 ≡ n % 256 = ap (λ (k : ℕ). get_or s k 0) (sym (add-zero at)) ∙ sym (get_or-drop at s 0 0) ∙ ap (λ (l : List ℕ). get_or l 0 0) e in
     let more : drop (at + 1) s ≡ le w (n / 256) ++ rest = sym (drop-drop 1 at s) ∙ ap (λ (l : List ℕ). drop 1 l) e in
     ap₂ (λ (a b : ℕ). a + 256 * b) first (little-le w (n / 256) s (at + 1) rest (high_lt 256 w n byte_pos h) more) ∙ omega (arith, div-add-mod' n 256)
+
+-- ---- a number in a part of the list
+
+pub number-part : (s : List ℕ) (at w v : ℕ) → v ≤ w → number_at (between at (at + w) s) 0 v ≡ number_at s at v
+unfolding number_at
+number-part s at w zero h = refl
+number-part s at w (suc v) h =
+    ap₂ (λ (a b : ℕ). a * 256 + b) (number-part s at w v (omega arith)) (rw zero-add (get_or-between s at (at + w) v 0 (omega arith)))
+
+pub little-part : (s : List ℕ) (at w i v : ℕ) → i + v ≤ w → little_at (between at (at + w) s) i v ≡ little_at s (at + i) v
+unfolding little_at
+little-part s at w i zero h = refl
+little-part s at w i (suc v) h =
+    let place : at + (i + 1) ≡ at + i + 1 = omega arith in
+    ap₂ (λ (a b : ℕ). a + 256 * b) (get_or-between s at (at + w) i 0 (omega arith)) (little-part s at w (i + 1) v (omega arith) ∙ ap (λ (j : ℕ). little_at s j v) place)

@@ -1,8 +1,8 @@
 // Numbers in bytes: big- and little-endian at a width, and the two's complement.
 #![tactic(auto)]
 
-ghost use Rattle.std.specs.Prelude.{◌≡◌, ◌+◌, ◌^◌, ◌≤◌, ◌<◌, length};
-ghost use Rattle.std.specs.List.{prefix_len};
+ghost use Rattle.std.specs.Prelude.{◌≡◌, ◌+◌, ◌≤◌, ◌<◌, length};
+ghost use Rattle.std.specs.List.{between, prefix_len};
 ghost use Rattle.std.specs.Char.{is_ascii_digit};
 ghost use Rattle.std.proofs.lemmas.List.Edits.{sets};
 ghost use Rattle.wire.specs.Numbers.{number_at, little_at, signed, value_from, be, le};
@@ -93,18 +93,26 @@ pub fn number(s: &[u8], at: usize, w: usize) -> u64
     n
 }
 
+// The `N` bytes from `at` on.
+fn bytes_at<const N: usize>(s: &[u8], at: usize) -> [u8; N]
+    requires { at + N ≤ length s.now }
+    ensures { result ≡ between at (at + N) s.now }
+{
+    s[at..at + N].try_into().unwrap()
+}
+
 pub fn be16(s: &[u8], at: usize) -> u16
     requires { at + 2 ≤ length s.now }
     ensures { result ≡ number_at s.now at 2 }
 {
-    u16::from_be_bytes([s[at], s[at + 1]])
+    u16::from_be_bytes(bytes_at(s, at))
 }
 
 pub fn be32(s: &[u8], at: usize) -> u32
     requires { at + 4 ≤ length s.now }
     ensures { result ≡ number_at s.now at 4 }
 {
-    u32::from_be_bytes([s[at], s[at + 1], s[at + 2], s[at + 3]])
+    u32::from_be_bytes(bytes_at(s, at))
 }
 
 // A width that is 2 at most: tested, where a loop over the bytes costs more than reading them.
@@ -123,16 +131,7 @@ pub fn be64(s: &[u8], at: usize) -> u64
     requires { at + 8 ≤ length s.now }
     ensures { result ≡ number_at s.now at 8 }
 {
-    u64::from_be_bytes([
-        s[at],
-        s[at + 1],
-        s[at + 2],
-        s[at + 3],
-        s[at + 4],
-        s[at + 5],
-        s[at + 6],
-        s[at + 7],
-    ])
+    u64::from_be_bytes(bytes_at(s, at))
 }
 
 // The same for little-endian numbers.
@@ -151,16 +150,7 @@ pub fn le64(s: &[u8], at: usize) -> u64
     requires { at + 8 ≤ length s.now }
     ensures { result ≡ little_at s.now at 8 }
 {
-    u64::from_le_bytes([
-        s[at],
-        s[at + 1],
-        s[at + 2],
-        s[at + 3],
-        s[at + 4],
-        s[at + 5],
-        s[at + 6],
-        s[at + 7],
-    ])
+    u64::from_le_bytes(bytes_at(s, at))
 }
 
 pub fn signed16(x: u16) -> i16
@@ -268,7 +258,7 @@ pub fn read_packed(s: &[u8], at: usize, w: usize) -> Decimal
     }
 }
 
-// Stores the `w` lowest bytes of `n`, the highest first.
+// Stores the `w` lowest bytes of `n`, the highest first. A loop and not `to_be_bytes`: any width is allowed, more than the 8 bytes of a `u64` too.
 pub fn put_be(out: &mut [u8], at: usize, w: usize, n: u64)
     requires { at + w ≤ length out.old }
     ensures { out.new ≡ sets out.old at (be w n) }
