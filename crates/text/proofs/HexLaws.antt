@@ -4,12 +4,14 @@ use native.Mathlib.Nat.{zero-add, add-zero}
 use native.Mathlib.Numerals.{add-one}
 use native.Mathlib.Omega.{arith}
 use mathlib.Core.Path.{◌≡◌, refl, sym, ap, ◌∙◌}
-use mathlib.Core.Bool.{Bool, true, false}
+use mathlib.Core.Bool.{Bool, true, false, ◌&&◌}
 use mathlib.Core.List.{List, [], ◌∷◌}
 use lib.ListN.{length, drop, get_or, set, length-set, drop_of_length-le}
 use lib.Seq.{sets, drop-cons}
-use lib.Dec.{leb, ltb, eqb}
-use borrow.Author.Tests.{leb-true, lt-ltb, le-ltb}
+use lib.Dec.{leb, eqb}
+use borrow.Author.Tests.{leb-true}
+use Rattle.std.specs.Prelude.{Option, Some, None, IfSome}
+use Rattle.std.specs.List.{list_all}
 use Rattle.wire.specs.Numbers.{pick}
 use Rattle.text.specs.declared.Mark.{Mark}
 use Rattle.text.specs.declared.Mark.TheVariants.{Digit, Space, Other}
@@ -84,73 +86,87 @@ module _ (s : List ℕ) (i : ℕ) (inside : i < length s) where
   unfolding kind_from is_hex digits
   kind-other n e = rw next (simp e)
 
--- ---- the bytes of what is left, with a first digit before it if that is below 16
+-- ---- the bytes of what is left, behind a first digit if there is one
 
-unfoldable pub bytes_from : ℕ → List ℕ → List ℕ
-bytes_from high s = pick (ltb high 16) (paired (high ∷ digits s)) (paired (digits s))
+unfoldable pub bytes_from : Option ℕ → List ℕ → List ℕ
+bytes_from None s = paired (digits s)
+bytes_from (Some h) s = paired (h ∷ digits s)
 
-single : (high : ℕ) → bytes_from high [] ≡ []
+no_bytes : (high : Option ℕ) → bytes_from high [] ≡ []
 unfolding bytes_from digits paired
-single high = both (ltb high 16)
-  where
-    both : (t : Bool) → pick {A = List ℕ} t [] [] ≡ []
-    both true = refl
-    both false = refl
+no_bytes None = refl
+no_bytes (Some h) = refl
 
 module _ (s : List ℕ) (i : ℕ) (inside : i < length s) where
-  pub bytes_pair : (high : ℕ) {d : ℕ} → high < 16 → mark_of (get_or s i 0) ≡ Digit d → bytes_from high (drop i s) ≡ (high * 16 + d) ∷ bytes_from 16 (drop (i + 1) s)
+  bytes_pair : (h : ℕ) {d : ℕ} → mark_of (get_or s i 0) ≡ Digit d → bytes_from (Some h) (drop i s) ≡ (h * 16 + d) ∷ bytes_from None (drop (i + 1) s)
   unfolding bytes_from digits paired
-  bytes_pair high small e = rw (next s i inside) (simp (e, lt-ltb high 16 small))
+  bytes_pair h e = rw (next s i inside) (simp e)
 
-  pub bytes-first : (high : ℕ) {d : ℕ} → 16 ≤ high → mark_of (get_or s i 0) ≡ Digit d → bytes_from high (drop i s) ≡ bytes_from d (drop (i + 1) s)
+  bytes_first : {d : ℕ} → mark_of (get_or s i 0) ≡ Digit d → bytes_from None (drop i s) ≡ bytes_from (Some d) (drop (i + 1) s)
   unfolding bytes_from digits
-  bytes-first high {d} none e = rw (next s i inside) (simp (e, le-ltb high 16 none, lt-ltb d 16 (digit-small (get_or s i 0) e)))
+  bytes_first e = rw (next s i inside) (simp e)
 
-  pub bytes-space : (high : ℕ) → mark_of (get_or s i 0) ≡ Space → bytes_from high (drop i s) ≡ bytes_from high (drop (i + 1) s)
-  unfolding bytes_from digits
-  bytes-space high e = rw (next s i inside) (simp e)
+  bytes_same : (high : Option ℕ) → digits (drop i s) ≡ digits (drop (i + 1) s) → bytes_from high (drop i s) ≡ bytes_from high (drop (i + 1) s)
+  unfolding bytes_from
+  bytes_same None e = simp e
+  bytes_same (Some h) e = simp e
 
-  pub bytes-other : (high : ℕ) → mark_of (get_or s i 0) ≡ Other → bytes_from high (drop i s) ≡ bytes_from high (drop (i + 1) s)
-  unfolding bytes_from digits
-  bytes-other high e = rw (next s i inside) (simp e)
+  digits_space : mark_of (get_or s i 0) ≡ Space → digits (drop i s) ≡ digits (drop (i + 1) s)
+  unfolding digits
+  digits_space e = rw (next s i inside) (simp e)
+
+  digits_other : mark_of (get_or s i 0) ≡ Other → digits (drop i s) ≡ digits (drop (i + 1) s)
+  unfolding digits
+  digits_other e = rw (next s i inside) (simp e)
 
 -- what is left of decoding `s` into `out₀`
-pub record DecodeLeft (s out₀ out : List ℕ) (to high i : ℕ) : Type 0 where
+pub record DecodeLeft (s out₀ out : List ℕ) (to : ℕ) (high : Option ℕ) (i : ℕ) : Type 0 where
   pub inside : i ≤ length s
   pub behind : to ≤ i
+  pub small : IfSome high (λ h. h < 16)
   pub size : length out ≡ length out₀
   pub count : to + length (bytes_from high (drop i s)) ≡ length (hex_bytes s)
   pub stored : sets out to (bytes_from high (drop i s)) ≡ sets out₀ 0 (hex_bytes s)
 
-pub decode-first : (s out : List ℕ) → DecodeLeft s out out 0 16 0
+pub decode-start : (s out : List ℕ) → DecodeLeft s out out 0 None 0
 unfolding bytes_from hex_bytes
-decode-first s out = record { inside = omega arith; behind = omega arith; size = refl; count = omega arith; stored = refl }
+decode-start s out = record { inside = omega arith; behind = omega arith; small = tt; size = refl; count = omega arith; stored = refl }
 
-module _ {s out₀ out : List ℕ} {to high i : ℕ} (left : DecodeLeft s out₀ out to high i) (more : i < length s) where
-  pub decode-pair : {d : ℕ} → high < 16 → mark_of (get_or s i 0) ≡ Digit d → DecodeLeft s out₀ (set out to (high * 16 + d)) (to + 1) 16 (i + 1)
-  decode-pair small e =
-      let step = bytes_pair s i more high small e in
+module _ {s out₀ out : List ℕ} {to i : ℕ} where
+  pub decode-pair : {h d : ℕ} → DecodeLeft s out₀ out to (Some h) i → i < length s → mark_of (get_or s i 0) ≡ Digit d → DecodeLeft s out₀ (set out to (h * 16 + d)) (to + 1) None (i + 1)
+  decode-pair {h} {d} left more e =
+      let step = bytes_pair s i more h e in
       record {
         inside = omega arith;
         behind = omega (arith, left.behind);
+        small = tt;
         size = simp length-set left.size;
         count = omega (arith, left.count, ap length step);
         stored = rw (add-one to) (sym (ap (sets out to) step) ∙ left.stored);
       }
 
-  pub decode-skip : {next : ℕ} → bytes_from high (drop i s) ≡ bytes_from next (drop (i + 1) s) → DecodeLeft s out₀ out to next (i + 1)
-  decode-skip step =
+  skip : {high next : Option ℕ} → DecodeLeft s out₀ out to high i → i < length s → IfSome next (λ h. h < 16) → bytes_from high (drop i s) ≡ bytes_from next (drop (i + 1) s) → DecodeLeft s out₀ out to next (i + 1)
+  skip left more small step =
       record {
         inside = omega arith;
         behind = omega (arith, left.behind);
+        small = small;
         size = left.size;
         count = rw step at left.count;
         stored = rw step at left.stored;
       }
 
-pub decode-done : {s out₀ out : List ℕ} {to high i : ℕ} → DecodeLeft s out₀ out to high i → length s ≤ i → (to ≡ length (hex_bytes s)) × (out ≡ sets out₀ 0 (hex_bytes s))
+  pub decode-first : {d : ℕ} → DecodeLeft s out₀ out to None i → i < length s → mark_of (get_or s i 0) ≡ Digit d → DecodeLeft s out₀ out to (Some d) (i + 1)
+  decode-first left more e = skip left more (digit-small (get_or s i 0) e) (bytes_first s i more e)
+
+  pub decode-skip : {high : Option ℕ} (m : Mark) → DecodeLeft s out₀ out to high i → i < length s → mark_of (get_or s i 0) ≡ m → ((d : ℕ) → m ≡ Digit d → ⊥) → DecodeLeft s out₀ out to high (i + 1)
+  decode-skip (Digit d) left more e none = absurd (none d refl)
+  decode-skip {high} Space left more e _ = skip left more left.small (bytes_same s i more high (digits_space s i more e))
+  decode-skip {high} Other left more e _ = skip left more left.small (bytes_same s i more high (digits_other s i more e))
+
+pub decode-done : {s out₀ out : List ℕ} {to : ℕ} {high : Option ℕ} {i : ℕ} → DecodeLeft s out₀ out to high i → length s ≤ i → (to ≡ length (hex_bytes s)) × (out ≡ sets out₀ 0 (hex_bytes s))
 decode-done {s} {out₀} {out} {to} {high} {i} left h =
-    let none : bytes_from high (drop i s) ≡ [] = ap (bytes_from high) (drop_of_length-le s {i = i} h) ∙ single high in
+    let none : bytes_from high (drop i s) ≡ [] = ap (bytes_from high) (drop_of_length-le s {i = i} h) ∙ no_bytes high in
     (omega (arith, left.count, ap length none), sym (ap (sets out to) none) ∙ left.stored)
 
 -- ---- what is left of writing bytes as hex text
@@ -180,15 +196,11 @@ encode-done {s} {out₀} {out} {i} left h = rw (drop_of_length-le s {i = i} h) a
 
 -- ---- printable text
 
-module _ (s : List ℕ) (i : ℕ) (inside : i < length s) where
-  pub printable-on : among 32 126 (get_or s i 0) ≡ true → printable (drop (i + 1) s) ≡ printable (drop i s)
-  unfolding printable
-  printable-on e = rw (next s i inside) (simp e)
-
-  pub printable-off : among 32 126 (get_or s i 0) ≡ false → printable (drop i s) ≡ false
-  unfolding printable
-  printable-off e = rw (next s i inside) (simp e)
-
-pub printable-done : (s : List ℕ) (i : ℕ) → length s ≤ i → printable (drop i s) ≡ true
+pub printable-all : (s : List ℕ) → list_all (among 32 126) s ≡ printable s
 unfolding printable
-printable-done s i h = rw (drop_of_length-le s {i = i} h) refl
+printable-all [] = refl
+printable-all (b ∷ s) = and-pick (among 32 126 b) (printable-all s)
+  where
+    and-pick : (p : Bool) {x y : Bool} → x ≡ y → (p && x) ≡ pick p y false
+    and-pick true e = e
+    and-pick false e = refl

@@ -1,7 +1,8 @@
 // Hex text to bytes and back, a decimal number, and the calendar date of a day.
 #![tactic(auto)]
 
-ghost use Rattle.std.specs.Prelude.{◌≡◌, ◌*◌, ◌<◌, length, nat_abs};
+ghost use Rattle.std.specs.Prelude.{◌≡◌, ◌+◌, ◌*◌, ◌^◌, ◌<◌, length, nat_abs};
+ghost use Rattle.std.specs.Option.{SomeIff};
 ghost use Rattle.std.proofs.lemmas.List.Edits.{sets};
 ghost use Rattle.text.specs.Hex.{among, mark_of, kind_of, hex_bytes, glyph_of, hex_text, printable};
 ghost use Rattle.text.specs.Decimal.{number_read};
@@ -10,7 +11,7 @@ ghost use Rattle.text.specs.Calendar.{leap_day, year_days, month_days, InYear, D
 // ---- hex text: digits in either case, white space anywhere
 
 // What a character is in hex text.
-#[derive(Drop)]
+#[derive(Clone, Copy)]
 enum Mark {
     Digit(u8),
     Space,
@@ -24,39 +25,25 @@ pub enum Kind {
     Raw,
 }
 
-fn is_among(a: u8, b: u8, c: u8) -> bool
-    ensures { result ≡ among a b c }
-{
-    if a <= c { c <= b } else { false }
-}
-
+#[tactic(auto, unfolding(crate::specs::Hex::mark_of))]
 fn mark_of(c: u8) -> Mark
     ensures { result ≡ mark_of c }
 {
-    if is_among(48, 57, c) {
-        return Mark::Digit(c - 48);
+    match c {
+        b'0'..=b'9' => Mark::Digit(c - b'0'),
+        b'A'..=b'F' => Mark::Digit(c - b'A' + 10),
+        b'a'..=b'f' => Mark::Digit(c - b'a' + 10),
+        b'\t'..=b'\r' | b' ' => Mark::Space,
+        _ => Mark::Other,
     }
-    if is_among(65, 70, c) {
-        return Mark::Digit(c - 55);
-    }
-    if is_among(97, 102, c) {
-        return Mark::Digit(c - 87);
-    }
-    if is_among(9, 13, c) {
-        return Mark::Space;
-    }
-    if c == 32 { Mark::Space } else { Mark::Other }
 }
 
 pub fn kind_of(s: &[u8]) -> Kind
     ensures { result ≡ kind_of s.now }
 {
     let mut n: usize = 0;
-    let mut i: usize = 0;
-    while i < s.len() {
-        let c = s[i];
-        i += 1;
-        match mark_of(c) {
+    for c in s {
+        match mark_of(*c) {
             Mark::Digit(_) => n += 1,
             Mark::Space => {}
             Mark::Other => return Kind::Raw,
@@ -71,34 +58,29 @@ pub fn decode(s: &[u8], out: &mut [u8]) -> usize
     ensures buffer { out.new ≡ sets out.old 0 (hex_bytes s.now) }
 {
     let mut to: usize = 0;
-    let mut high: u8 = 16;
-    let mut i: usize = 0;
-    while i < s.len() {
-        let c = s[i];
-        i += 1;
-        match mark_of(c) {
-            Mark::Digit(d) => {
-                if high < 16 {
-                    store::store_byte(out, to, high * 16 + d);
+    let mut high: Option<u8> = None;
+    for c in s {
+        if let Mark::Digit(d) = mark_of(*c) {
+            match high {
+                Some(h) => {
+                    store::store_byte(out, to, h * 16 + d);
                     to += 1;
-                    high = 16;
-                } else {
-                    high = d;
+                    high = None;
                 }
+                None => high = Some(d),
             }
-            Mark::Space => {}
-            Mark::Other => {}
         }
     }
     to
 }
 
 // A hex digit, in upper case.
+#[tactic(auto, unfolding(crate::specs::Hex::glyph_of))]
 pub fn glyph_of(d: u8) -> u8
     requires { d < 16 }
     ensures { result ≡ glyph_of d }
 {
-    if d < 10 { 48 + d } else { 55 + d }
+    if d < 10 { b'0' + d } else { b'A' + (d - 10) }
 }
 
 // Stores the two digits of each byte, as far as there is room, and answers how many digits there are.
@@ -106,12 +88,9 @@ pub fn encode(s: &[u8], out: &mut [u8]) -> usize
     ensures count { result ≡ 2 * length s.now }
     ensures buffer { out.new ≡ sets out.old 0 (hex_text s.now) }
 {
-    let mut i: usize = 0;
-    while i < s.len() {
-        let b = s[i];
+    for (i, b) in s.iter().enumerate() {
         store::store_byte(out, 2 * i, glyph_of(b / 16));
         store::store_byte(out, 2 * i + 1, glyph_of(b % 16));
-        i += 1;
     }
     2 * s.len()
 }
@@ -121,21 +100,13 @@ pub fn encode(s: &[u8], out: &mut [u8]) -> usize
 pub fn is_printable(b: u8) -> bool
     ensures { result ≡ among 32 126 b }
 {
-    is_among(32, 126, b)
+    matches!(b, b' '..=b'~')
 }
 
 pub fn is_printable_text(s: &[u8]) -> bool
     ensures { result ≡ printable s.now }
 {
-    let mut i: usize = 0;
-    while i < s.len() {
-        let b = s[i];
-        i += 1;
-        if is_printable(b) {} else {
-            return false;
-        }
-    }
-    true
+    s.iter().all(|b| is_printable(*b))
 }
 
 // ---- numbers
@@ -147,32 +118,32 @@ pub enum Read {
     Wrong,
 }
 
+// A number with one digit more, unless that is too large for a word.
+fn with_digit(n: usize, d: usize) -> Option<usize>
+    ensures { SomeIff result (n * 10 + d < 2 ^ 64) (n * 10 + d) }
+{
+    n.checked_mul(10)?.checked_add(d)
+}
+
 // A decimal number that is not above `limit`.
 pub fn number_of(w: &[u8], limit: usize) -> Read
     ensures { result ≡ number_read limit w.now }
 {
-    if w.len() == 0 {
+    if w.is_empty() {
         return Read::Wrong;
     }
     let mut n: usize = 0;
-    let mut i: usize = 0;
-    while i < w.len() {
-        let c = w[i];
-        i += 1;
-        if c < 48 {
+    for c in w {
+        if !c.is_ascii_digit() {
             return Read::Wrong;
         }
-        if 57 < c {
+        let Some(next) = with_digit(n, usize::from(*c - b'0')) else {
+            return Read::Wrong;
+        };
+        if limit < next {
             return Read::Wrong;
         }
-        let d = (c - 48) as usize;
-        if limit / 10 < n {
-            return Read::Wrong;
-        }
-        if limit - n * 10 < d {
-            return Read::Wrong;
-        }
-        n = n * 10 + d;
+        n = next;
     }
     Read::Of(n)
 }
@@ -181,15 +152,12 @@ pub fn number_of(w: &[u8], limit: usize) -> Read
 pub fn distance(x: i32) -> u64
     ensures { result ≡ nat_abs x }
 {
-    if x < 0 {
-        return ((-1 - x) as u64) + 1;
-    }
-    x as u64
+    u64::from(x.unsigned_abs())
 }
 
 // ---- the calendar
 
-#[derive(Drop)]
+#[derive(Clone, Copy)]
 pub struct Date {
     pub year: u64,
     pub month: u64,
@@ -197,34 +165,30 @@ pub struct Date {
 }
 
 // The 29th of February, 1 or 0.
+#[tactic(auto, unfolding(crate::specs::Calendar::leap_day))]
 fn leap_day(year: u64) -> u64
     ensures { result ≡ leap_day year }
 {
-    if year % 400 == 0 {
-        return 1;
-    }
-    if year % 100 == 0 {
-        return 0;
-    }
-    if year % 4 == 0 { 1 } else { 0 }
+    u64::from(year % 4 == 0 && (year % 100 != 0 || year % 400 == 0))
 }
 
+// The days of a year.
+#[tactic(auto, using(crate::proofs::CalendarLaws::leap_small))]
+fn year_days(year: u64) -> u64
+    ensures { result ≡ year_days year }
+{
+    365 + leap_day(year)
+}
+
+#[tactic(auto, using(crate::proofs::CalendarLaws::leap_small), unfolding(crate::specs::Calendar::month_days))]
 fn month_days(year: u64, month: u64) -> u64
     ensures { result ≡ month_days year month }
 {
-    if month == 2 {
-        return 28 + leap_day(year);
+    match month {
+        2 => 28 + leap_day(year),
+        4 | 6 | 9 | 11 => 30,
+        _ => 31,
     }
-    if month == 4 {
-        return 30;
-    }
-    if month == 6 {
-        return 30;
-    }
-    if month == 9 {
-        return 30;
-    }
-    if month == 11 { 30 } else { 31 }
 }
 
 // The date `rest` days after the year's first.
@@ -232,15 +196,22 @@ fn within_year(year: u64, rest: u64) -> Date
     requires { rest < year_days year }
     ensures { InYear year rest result }
 {
-    let mut months: u64 = 0;
     let mut left = rest;
-    while month_days(year, months + 1) <= left {
-        left -= month_days(year, months + 1);
-        months += 1;
+    for month in 1..12 {
+        let days = month_days(year, month);
+        if left < days {
+            return Date {
+                year,
+                month,
+                day: left + 1,
+            };
+        }
+        left -= days;
     }
+    // What the first eleven months leave is in the last.
     Date {
         year,
-        month: months + 1,
+        month: 12,
         day: left + 1,
     }
 }
@@ -249,11 +220,12 @@ fn within_year(year: u64, rest: u64) -> Date
 pub fn date_of(days: u64) -> Date
     ensures { DateOf days result }
 {
-    let mut years: u64 = 0;
+    // No `for`: the years have no last one, and behind a range with one an answer would be made up.
+    let mut year: u64 = 1970;
     let mut rest = days;
-    while 365 + leap_day(1970 + years) <= rest {
-        rest -= 365 + leap_day(1970 + years);
-        years += 1;
+    while year_days(year) <= rest {
+        rest -= year_days(year);
+        year += 1;
     }
-    within_year(1970 + years, rest)
+    within_year(year, rest)
 }

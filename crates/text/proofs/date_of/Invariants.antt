@@ -1,11 +1,10 @@
 -- Invariant: the years passed and the days left make up the days.
 use Rattle.text.specs.Calendar.{years_long}
-use mathlib.Core.Path.{◌≡◌}
-use Prim.Native.Nat.{◌+◌}
+use Rattle.std.proofs.Common.{◌≡◌, ◌+◌, ◌-◌, ◌≤◌}
 use Rattle.text.proofs.date_of.Given as goal
 
 abbrev pub invariant-loop-rest : goal.invariant-loop-rest
-invariant-loop-rest l = years_long l.years + l.rest ≡ l.days
+invariant-loop-rest l = (1970 ≤ l.year) × (years_long (l.year - 1970) + l.rest ≡ l.days)
 
 abbrev pub decreases-loop-rest : goal.decreases-loop-rest
 decreases-loop-rest l = l.rest

@@ -1,28 +1,24 @@
-use Rattle.text.proofs.HexLaws.{digit-small, decode-first, decode-pair, decode-skip, decode-done, bytes-first, bytes-space, bytes-other}
-use mathlib.Core.Path.{sym, ◌∙◌}
-use native.Mathlib.Omega.{arith}
+use Rattle.std.proofs.Common.{sym, ◌∙◌, arith}
+use Rattle.text.proofs.HexLaws.{digit-small, decode-start, decode-pair, decode-first, decode-skip, decode-done}
 use Rattle.text.proofs.decode.Goals as goal
+use Rattle.text.proofs.decode.Goals.{in-Digit+in-Some, in-Digit+in-None, in_default}
 
-pub loop-i-init : goal.loop-i-init
-loop-i-init c = decode-first _ _
+pub loop-c-init : goal.loop-c-init
+loop-c-init c = decode-start _ _
 
-pub overflow_add-high : goal.overflow_add-high
-overflow_add-high c = omega (arith, digit-small _ (sym c.mark_of.ensures ∙ c.in-Digit.is))
+pub overflow_add-h : goal.overflow_add-h
+overflow_add-h c = omega (arith, rw c.in-Some.is at c.loop-c.invariant.small, digit-small _ (sym c.mark_of.ensures ∙ c.in-Digit.is))
 
-pub loop-i-preserved-then-high-lt16 : goal.loop-i-preserved-then-high-lt16
-loop-i-preserved-then-high-lt16 c = rw c.store_byte.ensures (decode-pair c.loop-i.invariant c.loop-i-test.true c.if-high-lt16.true (sym c.mark_of.ensures ∙ c.in-Digit.is))
+pub loop-c-preserved : goal.loop-c-preserved
+loop-c-preserved c =
+    elim c.match-mark_of.branch [
+      | in-Digit+in-Some w ↦ rw (w.out-is, w.to-is, w.high-is, w.store_byte.ensures) (decode-pair (rw w.in-Some.is at c.loop-c.invariant) c.loop-c-test.true (sym c.mark_of.ensures ∙ w.in-Digit.is))
+      | in-Digit+in-None w ↦ rw (w.out-is, w.to-is, w.high-is) (decode-first (rw w.in-None.is at c.loop-c.invariant) c.loop-c-test.true (sym c.mark_of.ensures ∙ w.in-Digit.is))
+      | in_default w ↦ rw (w.out-is, w.to-is, w.high-is) (decode-skip c.mark_of.result c.loop-c.invariant c.loop-c-test.true (sym c.mark_of.ensures) w.in_default.not-Digit)
+    ]
 
-pub loop-i-preserved-else-high-lt16 : goal.loop-i-preserved-else-high-lt16
-loop-i-preserved-else-high-lt16 c = decode-skip c.loop-i.invariant c.loop-i-test.true (bytes-first _ _ c.loop-i-test.true _ c.if-high-lt16.false (sym c.mark_of.ensures ∙ c.in-Digit.is))
+pub returns-clause-count : goal.returns-clause-count
+returns-clause-count c = (decode-done c.loop-c.invariant c.loop-c-test.false).0
 
-pub loop-i-preserved-in-Space : goal.loop-i-preserved-in-Space
-loop-i-preserved-in-Space c = decode-skip c.loop-i.invariant c.loop-i-test.true (bytes-space _ _ c.loop-i-test.true _ (sym c.mark_of.ensures ∙ c.in-Space.is))
-
-pub loop-i-preserved : goal.loop-i-preserved
-loop-i-preserved c = decode-skip c.loop-i.invariant c.loop-i-test.true (bytes-other _ _ c.loop-i-test.true _ (sym c.mark_of.ensures ∙ c.in-Other.is))
-
-pub shape_of-out : goal.shape_of-out
-shape_of-out c = c.loop-i.invariant.size
-
-pub returns : goal.returns
-returns c = record { count = (decode-done c.loop-i.invariant c.loop-i-test.false).0; buffer = (decode-done c.loop-i.invariant c.loop-i-test.false).1 }
+pub returns-clause-buffer : goal.returns-clause-buffer
+returns-clause-buffer c = (decode-done c.loop-c.invariant c.loop-c-test.false).1

@@ -1,19 +1,20 @@
+use Rattle.std.proofs.Common.{sym, ◌∙◌, arith}
 use Rattle.text.proofs.HexLaws.{kind-first, kind-digit, kind-space, kind-other, kind-done}
-use mathlib.Core.Path.{sym, ◌∙◌}
-use native.Mathlib.Omega.{arith}
 use Rattle.text.proofs.kind_of.Goals as goal
+use Rattle.text.proofs.kind_of.Goals.{in-Digit, in-Space}
 
-pub loop-i-init : goal.loop-i-init
-loop-i-init c = (omega arith, omega arith, kind-first _)
+pub loop-c-init : goal.loop-c-init
+loop-c-init c = (omega arith, kind-first _)
 
-pub loop-i-preserved-in-Digit : goal.loop-i-preserved-in-Digit
-loop-i-preserved-in-Digit c = (omega arith, omega arith, kind-digit _ _ c.loop-i-test.true _ (sym c.mark_of.ensures ∙ c.in-Digit.is) ∙ c.loop-i.invariant.2)
-
-pub loop-i-preserved : goal.loop-i-preserved
-loop-i-preserved c = (omega arith, omega arith, kind-space _ _ c.loop-i-test.true _ (sym c.mark_of.ensures ∙ c.in-Space.is) ∙ c.loop-i.invariant.2)
+pub loop-c-preserved : goal.loop-c-preserved
+loop-c-preserved c =
+    elim c.match-mark_of.branch [
+      | in-Digit w ↦ rw w.n-is (omega arith, kind-digit _ _ c.loop-c-test.true _ (sym c.mark_of.ensures ∙ w.in-Digit.is) ∙ c.loop-c.invariant.1)
+      | in-Space w ↦ rw w.n-is (omega arith, kind-space _ _ c.loop-c-test.true _ (sym c.mark_of.ensures ∙ w.in-Space.is) ∙ c.loop-c.invariant.1)
+    ]
 
 pub returns-in-Other : goal.returns-in-Other
-returns-in-Other c = sym (kind-other _ _ c.loop-i-test.true _ (sym c.mark_of.ensures ∙ c.in-Other.is)) ∙ c.loop-i.invariant.2
+returns-in-Other c = sym (kind-other _ _ c.loop-c-test.true c.loop-c.n (sym c.mark_of.ensures ∙ c.in-Other.is)) ∙ c.loop-c.invariant.1
 
 pub returns : goal.returns
-returns c = sym (kind-done _ _ _ c.loop-i-test.false) ∙ c.loop-i.invariant.2
+returns c = sym (kind-done _ _ _ c.loop-c-test.false) ∙ c.loop-c.invariant.1

@@ -1,28 +1,31 @@
-use Rattle.text.proofs.NumberLaws.{number-first, number-none, number-low, number-high, number-over, number-on, number-done}
-use mathlib.Core.Path.{sym, ◌∙◌}
-use native.Mathlib.Omega.{arith}
+use Rattle.std.proofs.Common.{◌≡◌, ◌+◌, ◌-◌, ◌*◌, get_or, sym, ◌∙◌, arith}
+use Rattle.text.proofs.NumberLaws.{number-first, number-none, number-other, number-over, number-on, number-done}
 use Rattle.text.proofs.number_of.Goals as goal
 
-pub returns-then-w-eq0 : goal.returns-then-w-eq0
-returns-then-w-eq0 c = sym (number-none _ _ c.if-w-eq0.true)
+pub returns-then-is_empty : goal.returns-then-is_empty
+returns-then-is_empty c = sym (number-none _ _ c.if-is_empty.ensures)
 
-pub loop-i-init : goal.loop-i-init
-loop-i-init c = (omega arith, number-first _ _ c.if-w-eq0.false)
+pub loop-c-init : goal.loop-c-init
+loop-c-init c = number-first _ _ c.if-is_empty.ensures
 
-pub returns-then-c-lt48 : goal.returns-then-c-lt48
-returns-then-c-lt48 c = sym (number-low _ _ c.loop-i-test.true _ _ c.if-c-lt48.true) ∙ c.loop-i.invariant.1
+pub returns-then-not-is_ascii_digit : goal.returns-then-not-is_ascii_digit
+returns-then-not-is_ascii_digit c = sym (number-other _ _ c.loop-c-test.true _ _ c.if-not-is_ascii_digit.ensures.cases) ∙ c.loop-c.invariant
 
-pub returns-then-c-gt57 : goal.returns-then-c-gt57
-returns-then-c-gt57 c = sym (number-high _ _ c.loop-i-test.true _ _ c.if-c-gt57.true) ∙ c.loop-i.invariant.1
+pub returns-in_default : goal.returns-in_default
+returns-in_default c =
+    let digit = c.if-not-is_ascii_digit.ensures.cases in
+    sym (number-over _ _ c.loop-c-test.true _ c.loop-c.n digit.0 digit.1 (omega (arith, c.in_default.ensures, c.ranges.limit.fits))) ∙ c.loop-c.invariant
 
-pub returns-then-limit-n : goal.returns-then-limit-n
-returns-then-limit-n c = sym (number-over _ _ c.loop-i-test.true _ _ c.if-c-lt48.false c.if-c-gt57.false (omega (arith, c.if-limit-n.true))) ∙ c.loop-i.invariant.1
+pub returns-then-limit-next : goal.returns-then-limit-next
+returns-then-limit-next c =
+    let digit = c.if-not-is_ascii_digit.ensures.cases in
+    sym (number-over _ _ c.loop-c-test.true _ c.loop-c.n digit.0 digit.1 (omega (arith, c.in-Some.ensures))) ∙ c.loop-c.invariant
 
-pub returns-then-limit-n-2 : goal.returns-then-limit-n-2
-returns-then-limit-n-2 c = sym (number-over _ _ c.loop-i-test.true _ _ c.if-c-lt48.false c.if-c-gt57.false (omega (arith, c.if-limit-n-2.true))) ∙ c.loop-i.invariant.1
-
-pub loop-i-preserved : goal.loop-i-preserved
-loop-i-preserved c = (omega arith, sym (number-on _ _ c.loop-i-test.true _ _ c.if-c-lt48.false c.if-c-gt57.false (omega (arith, c.if-limit-n.false, c.if-limit-n-2.false))) ∙ c.loop-i.invariant.1)
+pub loop-c-preserved : goal.loop-c-preserved
+loop-c-preserved c =
+    let digit = c.if-not-is_ascii_digit.ensures.cases in
+    let next : c.in-Some.next ≡ c.loop-c.n * 10 + (get_or c.args.w.now c.loop-c.c-index 0 - 48) = omega (arith, c.in-Some.ensures) in
+    rw next (sym (number-on _ _ c.loop-c-test.true _ c.loop-c.n digit.0 digit.1 (omega arith)) ∙ c.loop-c.invariant)
 
 pub returns : goal.returns
-returns c = sym (number-done _ _ _ _ c.loop-i-test.false) ∙ c.loop-i.invariant.1
+returns c = sym (number-done _ _ _ _ c.loop-c-test.false) ∙ c.loop-c.invariant

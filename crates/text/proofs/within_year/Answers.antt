@@ -1,17 +1,20 @@
-use Rattle.text.proofs.CalendarLaws.{month-more, month-turn, month-done}
-use Rattle.text.specs.Calendar.{month_days, months_long}
-use mathlib.Core.Path.{◌∙◌}
-use native.Mathlib.Omega.{arith}
-use Prim.Native.Nat.{◌+◌, ◌≤◌}
+use Rattle.std.proofs.Common.{◌≡◌, arith}
+use Rattle.text.specs.Calendar.{months_long}
+use Rattle.text.proofs.CalendarLaws.{leap_small, month-turn, december}
 use Rattle.text.proofs.within_year.Goals as goal
 
-pub loop-left-init : goal.loop-left-init
+pub loop-month-init : goal.loop-month-init
 unfolding months_long
-loop-left-init c = (omega arith, omega arith)
+loop-month-init c = omega arith
 
-pub loop-left-preserved : goal.loop-left-preserved
-loop-left-preserved c = let whole : month_days c.args.year (c.loop-left.months + 1) ≤ c.loop-left.left = omega arith in
-    (omega (arith, month-more c.args.year c.loop-left.months c.loop-left.left c.loop-left.invariant.0 (omega arith) whole), rw c.month_days-left.ensures (month-turn c.args.year c.loop-left.months c.loop-left.left whole ∙ c.loop-left.invariant.1))
+pub loop-month-preserved : goal.loop-month-preserved
+loop-month-preserved c =
+    rw c.month_days-days.ensures (month-turn c.args.year c.loop-month.month c.loop-month.left c.args.rest c.loop-month.auto.month (omega arith) c.loop-month.invariant)
+
+pub overflow_add-result-2 : goal.overflow_add-result-2
+overflow_add-result-2 c = omega (arith, leap_small c.args.year, c.ranges.rest.fits)
 
 pub returns : goal.returns
-returns c = month-done c.args.year c.args.rest c.loop-left.months c.loop-left.left c.loop-left.invariant.0 c.loop-left.invariant.1 (omega arith)
+returns c =
+    let last : c.loop-month.month ≡ 12 = omega (arith, c.loop-month.auto.month-end (omega arith)) in
+    december c.args.year c.loop-month.left c.args.rest c.requires (rw last at c.loop-month.invariant)
