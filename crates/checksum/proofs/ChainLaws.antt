@@ -187,14 +187,14 @@ unfolding gathered
 turning-start b s at p h = (lit≤ tt, h, λ i f. absurd (omega arith), λ i f. refl, refl)
 
 pub turning-next : (b s : List ℕ) (at q : ℕ) (v : List ℕ) (p k w : ℕ) → Turning b s at q v p k → k < 14 → w < 2 ^ 64 → w ≡ words_at s at k
-    → Turning b s at q (set v k (bit_xor (bit_xor (get_or v k 0) (get_or v (k + 1) 0)) w)) (bit_xor p w) (k + 1)
+    → Turning b s at q (set v k (bit_xor (get_or v k 0) (bit_xor (get_or v (k + 1) 0) w))) (bit_xor p w) (k + 1)
 unfolding gathered
 turning-next b s at q v p k w (f, h, done, left, parity) g hw e =
-    let x : ℕ = bit_xor (bit_xor (get_or v k 0) (get_or v (k + 1) 0)) w in
-    let hx : x < 2 ^ 64 = xor_lt 64 (bit_xor (get_or v k 0) (get_or v (k + 1) 0)) w (xor_lt 64 (get_or v k 0) (get_or v (k + 1) 0) (h.1 k) (h.1 (k + 1))) hw in
+    let x : ℕ = bit_xor (get_or v k 0) (bit_xor (get_or v (k + 1) 0) w) in
+    let hx : x < 2 ^ 64 = xor_lt 64 (get_or v k 0) (bit_xor (get_or v (k + 1) 0) w) (h.1 k) (xor_lt 64 (get_or v (k + 1) 0) w (h.1 (k + 1)) hw) in
     let one : k + 1 ≡ suc k = add-one k in
     let new : get_or (set v k x) k 0 ≡ bit_xor (bit_xor (get_or b k 0) (get_or b (suc k) 0)) (words_at s at k) =
-    get_or-set_same v k x 0 (omega (arith, h.0)) ∙ ap₂ (λ (m n : ℕ). bit_xor m n) (ap₂ bit_xor (left k (omega arith)) (left (k + 1) (omega arith) ∙ ap (λ (i : ℕ). get_or b i 0) one)) e in (
+    get_or-set_same v k x 0 (omega (arith, h.0)) ∙ sym (xor_assoc (get_or v k 0) (get_or v (k + 1) 0) w) ∙ ap₂ (λ (m n : ℕ). bit_xor m n) (ap₂ bit_xor (left k (omega arith)) (left (k + 1) (omega arith) ∙ ap (λ (i : ℕ). get_or b i 0) one)) e in (
       omega arith,
       set-fifteen v k x h hx,
       λ i r. ⊎_elim

@@ -162,14 +162,15 @@ two-words a b n v w e =
 
 pub next-two : (s : List ℕ) (at l h a b p v w : ℕ) → Bytes s → at + 16 ≤ length s → v < 2 ^ 64 → w < 2 ^ 64 → v ≡ little_at s at 8 → w ≡ little_at s (at + 8) 8
     → Alike (shifts 64 (joined 64 a b)) (shifts 128 (shifts 64 (joined 64 l h))) → Reached s at (joined 64 l h) p
-    → Reached s (at + 16) (joined 64 (bit_xor a v) (bit_xor b w)) (bit_xor (bit_xor p v) w)
+    → Reached s (at + 16) (joined 64 (bit_xor a v) (bit_xor b w)) (bit_xor p (bit_xor v w))
 next-two s at l h a b p v w d f hv hw ev ew e r =
     let n : ℕ = joined 64 l h in
     let place : at + 8 + 8 ≡ at + 16 = omega arith in
     let two : Reached s (at + 8 + 8) (joined 64 (joined 64 n v) w) (bit_xor (bit_xor p v) w) =
     next_word s (at + 8) (joined 64 n v) (bit_xor p v) w d (omega arith) hw ew (next_word s at n p v d (omega arith) hv ev r) in
-    subst (λ (m : ℕ). Reached s m (joined 64 (bit_xor a v) (bit_xor b w)) (bit_xor (bit_xor p v) w)) place
-    (otherwise s (at + 8 + 8) (joined 64 (joined 64 n v) w) (joined 64 (bit_xor a v) (bit_xor b w)) (bit_xor (bit_xor p v) w) (two-words a b n v w e) two)
+    subst (Reached s (at + 16) (joined 64 (bit_xor a v) (bit_xor b w))) (xor_assoc p v w)
+    (subst (λ (m : ℕ). Reached s m (joined 64 (bit_xor a v) (bit_xor b w)) (bit_xor (bit_xor p v) w)) place
+    (otherwise s (at + 8 + 8) (joined 64 (joined 64 n v) w) (joined 64 (bit_xor a v) (bit_xor b w)) (bit_xor (bit_xor p v) w) (two-words a b n v w e) two))
 
 -- ---- at the end
 

@@ -7,25 +7,17 @@ mod words;
 ghost use Rattle.std.specs.Prelude.{◌≡◌};
 ghost use Rattle.checksum.specs.Crc.{crc};
 
-fn wide(b: u8) -> u16
-    ensures { result ≡ b }
-{
-    b as u16
-}
-
 // The last byte is in `c`, its eight shifts are still to come: so the next byte is put in without waiting for the entry.
 fn by_table(s: &[u8]) -> u16
     ensures { result ≡ crc s.now }
 {
     let t = table::entries();
     let mut c: u16 = 0;
-    let mut at: usize = 0;
-    while at < s.len() {
-        let k = (c % 256) as usize;
-        c = ((c >> 8) ^ wide(s[at])) ^ t[k];
-        at += 1;
+    for b in s {
+        let k = usize::from(c % 256);
+        c = ((c >> 8) ^ u16::from(*b)) ^ t[k];
     }
-    let k = (c % 256) as usize;
+    let k = usize::from(c % 256);
     (c >> 8) ^ t[k]
 }
 

@@ -23,6 +23,7 @@ fn fold128(low: u64, high: u64) -> Pair
     }
 }
 
+// A function for each width: at one type each shift would want a mask, and a trait would hold these lines in three impls.
 fn fold64(a: u64) -> u64
     ensures { Alike (shifts 64 result) (shifts 64 (shifts 64 a)) }
 {
@@ -57,7 +58,7 @@ fn narrowed(low: u64, high: u64) -> u16
 fn with_parity(r: u16, p: u64) -> u16
     ensures { Alike result r × (ones 16 result % 2 ≡ ones 64 p % 2) }
 {
-    if u64::count_ones(p ^ (r as u64)) % 2 == 1 {
+    if (p ^ u64::from(r)).count_ones() % 2 == 1 {
         return r ^ 0xC001;
     }
     r
@@ -77,24 +78,25 @@ fn to_the_end(s: &[u8], from: Lanes) -> u16
     requires { Ready s.now from.at (joined 64 from.low from.high) from.parity }
     ensures { result ≡ crc s.now }
 {
-    let mut at = from.at;
-    let mut low = from.low;
-    let mut high = from.high;
-    let mut parity = from.parity;
+    let Lanes {
+        mut at,
+        mut low,
+        mut high,
+        mut parity,
+    } = from;
     if (s.len() - at) % 16 >= 8 {
         low = fold64(low) ^ high;
         high = wire::le64(s, at);
-        parity = parity ^ high;
+        parity ^= high;
         at += 8;
     }
-    while at < s.len() {
-        let first = wire::le64(s, at);
-        let second = wire::le64(s, at + 8);
+    for k in 0..(s.len() - at) / 16 {
+        let first = wire::le64(s, at + 16 * k);
+        let second = wire::le64(s, at + 16 * k + 8);
         let p = fold128(low, high);
         low = p.low ^ first;
         high = p.high ^ second;
-        parity = (parity ^ first) ^ second;
-        at += 16;
+        parity ^= first ^ second;
     }
     with_parity(narrowed(low, high), parity)
 }
@@ -106,17 +108,15 @@ fn fold960(v: &mut [u64; 15], s: &[u8], at: usize, parity: u64) -> u64
     requires { (at + 120 ≤ length s.now) × Fifteen v.old × Reached s.now at (held v.old) parity }
     ensures { Fifteen v.new × Reached s.now (at + 120) (held v.new) result }
 {
-    v[14] = v[14] ^ v[0];
+    v[14] ^= v[0];
     let mut p = parity;
-    let mut k: usize = 0;
-    while k < 14 {
+    for k in 0..14 {
         let w = wire::le64(s, at + 8 * k);
-        v[k] = (v[k] ^ v[k + 1]) ^ w;
-        p = p ^ w;
-        k += 1;
+        v[k] ^= v[k + 1] ^ w;
+        p ^= w;
     }
     let w = wire::le64(s, at + 112);
-    v[14] = v[14] ^ w;
+    v[14] ^= w;
     p ^ w
 }
 
@@ -125,17 +125,12 @@ fn paired(v: &[u64; 15]) -> Pair
 {
     let mut low: u64 = 0;
     let mut high = v[0];
-    let mut k: usize = 1;
-    while k < 15 {
+    for k in 0..7 {
         let p = fold128(low, high);
-        low = p.low ^ v[k];
-        high = p.high ^ v[k + 1];
-        k += 2;
+        low = p.low ^ v[2 * k + 1];
+        high = p.high ^ v[2 * k + 2];
     }
-    Pair {
-        low: low,
-        high: high,
-    }
+    Pair { low, high }
 }
 
 fn by_fifteen(s: &[u8], from: usize, first: u64) -> Lanes
@@ -144,20 +139,17 @@ fn by_fifteen(s: &[u8], from: usize, first: u64) -> Lanes
 {
     let mut v = [0u64; 15];
     v[14] = first;
-    let mut at = from;
     let mut parity = first;
-    let mut left = (s.len() - from) / 120;
-    while left > 0 {
-        parity = fold960(&mut v, s, at, parity);
-        at += 120;
-        left -= 1;
+    let steps = (s.len() - from) / 120;
+    for k in 0..steps {
+        parity = fold960(&mut v, s, from + 120 * k, parity);
     }
-    let p = paired(&v);
+    let Pair { low, high } = paired(&v);
     Lanes {
-        at: at,
-        low: p.low,
-        high: p.high,
-        parity: parity,
+        at: from + 120 * steps,
+        low,
+        high,
+        parity,
     }
 }
 

@@ -1,31 +1,22 @@
-use Prim.Native.Nat.{ℕ}
-use native.Mathlib.Omega.{arith}
-use mathlib.Core.Path.{◌≡◌, refl, ap, ◌∙◌}
-use lib.ListN.{get_or}
-use lib.Dec.{lit≤}
-use Rattle.checksum.specs.Crc.{shifts}
-use Rattle.checksum.specs.Fold.{raised, chain, held}
+use Rattle.std.proofs.Common.{◌≡◌, ◌+◌, ◌*◌, refl, arith}
+use Rattle.checksum.specs.Fold.{chain, held}
 use Rattle.checksum.proofs.ChainLaws.{chain-two}
 use Rattle.checksum.proofs.words.paired.Goals as goal
 
 pub loop-k-init : goal.loop-k-init
 unfolding chain
-loop-k-init c = (lit≤ tt, refl, refl)
+loop-k-init c = refl
 
 pub loop-k-preserved : goal.loop-k-preserved
 loop-k-preserved c =
-    let v = c.args.v.now in
-    let loop = c.loop-k in
-    let p = c.fold128-p in (
-      omega (arith, c.loop-k-test.true, loop.invariant.0, loop.invariant.1),
-      omega (arith, loop.invariant.1),
-      chain-two v loop.k loop.low loop.high p.result.low p.result.high p.ensures loop.invariant.2,
-    )
+    let k = c.loop-k.k in
+    let p = c.fold128-p in
+    let passed : 2 * (k + 1) + 1 ≡ 2 * k + 1 + 2 = omega arith in
+    let second : 2 * k + 2 ≡ 2 * k + 1 + 1 = omega arith in
+    rw (passed, second) (chain-two c.args.v.now (2 * k + 1) c.loop-k.low c.loop-k.high p.result.low p.result.high p.ensures c.loop-k.invariant)
 
 pub returns : goal.returns
 unfolding held
 returns c =
-    let v = c.args.v.now in
-    let loop = c.loop-k in
-    let all : 15 ≡ loop.k = omega (arith, c.loop-k-test.false, loop.invariant.0) in
-    ap (λ (n : ℕ). raised (shifts 64 (chain 0 (λ (i : ℕ). get_or v i 0) n))) all ∙ loop.invariant.2
+    let all : 2 * c.loop-k.k + 1 ≡ 15 = omega arith in
+    rw all at c.loop-k.invariant
