@@ -9,12 +9,12 @@ use mathlib.Core.Logic.{⊎_elim}
 use lib.ListN.{length, get_or, set, replicate, length-set}
 use lib.Dec.{lit<, lit≤}
 use lib.Seq.{get_or-set_same, get_or-set_other}
-use lib.Bits.{bit_xor, xor_comm, xor_zero_l, xor_zero_r, xor_lt}
+use lib.Bits.{bit_xor, xor_comm, xor_zero_l, xor_zero_r, xor_lt, xor_assoc}
 use Rattle.wire.specs.Numbers.{Bytes, little_at}
 use Rattle.wire.proofs.Widths.{little-lt}
 use Rattle.checksum.specs.Crc.{shifts}
 use Rattle.checksum.specs.Fold.{raised, Alike, joined, chain, Fifteen, held, Reached}
-use Rattle.checksum.proofs.XorLaws.{xor_assoc, xor-swap, xor-right, xor-undo}
+use Rattle.checksum.proofs.XorLaws.{xor-swap, xor-right, xor-undo}
 use Rattle.checksum.proofs.CrcLaws.{shifts-linear}
 use Rattle.checksum.proofs.ModuloLaws.{shifts-add, shifts-comm, shifts-word, alike-xor, alike-cancel, beside, beside-linear, beside-shifts, factor-64}
 use Rattle.checksum.proofs.WordLaws.{state-fits, otherwise, behind, next_word, two-words}

@@ -5,11 +5,11 @@ use native.Mathlib.Omega.{arith}
 use mathlib.Core.Path.{◌≡◌, refl, sym, ap, ap₂, ◌∙◌}
 use lib.Dec.{lit≤}
 use lib.Pow.{pow_mono, pow_pos, pow-add, mod-pow-add, shl-shr, shr_le}
-use lib.Bits.{bit_xor, xor_comm, xor_zero_r, xor_self, xor_lt, xor_mod}
+use lib.Bits.{bit_xor, xor_comm, xor_zero_r, xor_self, xor_lt, xor_mod, xor_assoc}
 use Rattle.checksum.specs.Crc.{feedback, shift, shifts}
 use Rattle.checksum.specs.Bits.{ones}
 use Rattle.checksum.specs.Fold.{raised, Alike, joined}
-use Rattle.checksum.proofs.XorLaws.{xor-odd, xor_assoc, xor-swap, xor-undo, xor-cancel, xor-equal}
+use Rattle.checksum.proofs.XorLaws.{xor-odd, xor-swap, xor-undo, xor-cancel, xor-equal}
 use Rattle.checksum.proofs.BitLaws.{ones-xor}
 use Rattle.checksum.proofs.CrcLaws.{shifts-linear, shifts-lt, shifts-injective, shifts-up}
 use Rattle.checksum.proofs.ModuloLaws.{shifts-add, shifts-comm, shifts-split, shifts-below, shifts-word, raised-linear, raised-shifts, raised_lt, alike-shifts, alike-xor, alike-cancel, beside, beside-linear, beside-shifts, Factor, factor-1}

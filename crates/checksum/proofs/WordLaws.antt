@@ -8,14 +8,14 @@ use lib.ListN.{length, get_or, drop}
 use lib.Dec.{lit<, lit≤}
 use lib.Count.{ones as count, ones_step}
 use lib.Pow.{pow-add, mod-mod-pow, low, shr_lt}
-use lib.Bits.{bit_xor, xor_comm, xor_zero_l, xor_zero_r, xor_lt, xor_shifted}
+use lib.Bits.{bit_xor, xor_comm, xor_zero_l, xor_zero_r, xor_lt, xor_shifted, xor_assoc}
 use Rattle.wire.specs.Numbers.{Bytes, little_at}
 use Rattle.wire.proofs.Widths.{bytes-get_d}
 use Rattle.wire.proofs.Shifts.{little-bits, little-add}
 use Rattle.checksum.specs.Crc.{shifts, absorb, crc_from, crc}
 use Rattle.checksum.specs.Bits.{ones}
 use Rattle.checksum.specs.Fold.{raised, Alike, joined, Reached}
-use Rattle.checksum.proofs.XorLaws.{xor_assoc, xor-swap}
+use Rattle.checksum.proofs.XorLaws.{xor-swap}
 use Rattle.checksum.proofs.CrcLaws.{crc_from-at, crc_from-end, shifts-linear, shifts-up}
 use Rattle.checksum.proofs.BitLaws.{ones-zero, ones-more, ones-xor, shifts-parity}
 use Rattle.checksum.proofs.ModuloLaws.{shifts-add, shifts-word, alike-shifts, alike-xor}

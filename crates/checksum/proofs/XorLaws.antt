@@ -1,26 +1,15 @@
 -- The exclusive or of numbers, as a group.
 use Prim.Native.Nat.{ℕ, ◌+◌, ◌/◌, ◌%◌}
 use native.Mathlib.Omega.{arith}
-use mathlib.Core.Path.{◌≡◌, refl, sym, ap, ◌∙◌}
+use mathlib.Core.Path.{◌≡◌, sym, ap, ◌∙◌}
 use mathlib.Core.List.{List, [], ◌∷◌}
-use lib.Arith.{bin_ind}
-use lib.Bits.{bit_xor, xor_comm, xor_zero_r, xor_self, xor_shr, xor_add_and}
+use lib.Bits.{bit_xor, xor_assoc, xor_comm, xor_zero_r, xor_self, xor_shr, xor_add_and}
 
 pub xor-half : (a b : ℕ) → bit_xor a b / 2 ≡ bit_xor (a / 2) (b / 2)
 xor-half a b = xor_shr a b 1
 
 pub xor-odd : (a b : ℕ) → bit_xor a b % 2 ≡ (a + b) % 2
 xor-odd a b = omega (arith, xor_add_and a b)
-
-pub xor_assoc : (a b c : ℕ) → bit_xor (bit_xor a b) c ≡ bit_xor a (bit_xor b c)
-xor_assoc = bin_ind (λ (a : ℕ). (b c : ℕ) → bit_xor (bit_xor a b) c ≡ bit_xor a (bit_xor b c)) (λ b c. refl) (λ a ih b c. digits a b c (ih (b / 2) (c / 2)))
-  where
-    digits : (a b c : ℕ) → bit_xor (bit_xor (a / 2) (b / 2)) (c / 2) ≡ bit_xor (a / 2) (bit_xor (b / 2) (c / 2)) → bit_xor (bit_xor a b) c ≡ bit_xor a (bit_xor b c)
-    digits a b c ih =
-        let high : bit_xor (bit_xor a b) c / 2 ≡ bit_xor a (bit_xor b c) / 2 = cc (xor-half (bit_xor a b) c, xor-half a b, xor-half a (bit_xor b c), xor-half b c) in
-        let sums : (bit_xor a b + c) % 2 ≡ (a + bit_xor b c) % 2 = omega (arith, xor_add_and a b, xor_add_and b c) in
-        let low : bit_xor (bit_xor a b) c % 2 ≡ bit_xor a (bit_xor b c) % 2 = xor-odd (bit_xor a b) c ∙ sums ∙ sym (xor-odd a (bit_xor b c)) in
-        omega (arith, high, low)
 
 pub xor-swap : (a b c d : ℕ) → bit_xor (bit_xor a b) (bit_xor c d) ≡ bit_xor (bit_xor a c) (bit_xor b d)
 xor-swap a b c d = cc (xor_assoc a b (bit_xor c d), xor_assoc b c d, xor_comm b c, xor_assoc c b d, xor_assoc a c (bit_xor b d))
