@@ -1,14 +1,14 @@
 -- The packet of a form is found by writing its data field and comparing that field's form.
-use Prim.Native.Nat.{ℕ, ◌+◌, ◌-◌, ◌*◌, ◌≤◌, ◌<◌}
-use native.Mathlib.Numerals.{add-one}
+use Prim.Native.Nat.{ℕ, ◌+◌, ◌*◌, ◌≤◌, ◌<◌}
 use native.Mathlib.Omega.{arith}
-use mathlib.Core.Path.{◌≡◌, refl, sym, ap, ap₂, ◌∙◌, subst}
-use mathlib.Core.Bool.{Bool, true, false}
+use mathlib.Core.Path.{◌≡◌, refl, sym, ap, ◌∙◌, subst}
+use mathlib.Core.Bool.{Bool, true, false, ◌&&◌}
 use mathlib.Core.List.{List, [], ◌∷◌, ◌++◌}
-use lib.ListN.{length, take, drop, get_or, drop_of_length-le}
-use lib.Seq.{sets, length-sets, take_at, drop-cons}
+use lib.ListN.{length, take, drop}
+use lib.Seq.{sets, length-sets, take_at}
 use lib.Dec.{leb, eqb}
-use borrow.Author.Tests.{le-leb, lt-leb, leb-true, eq-eqb, ne_eqb}
+use borrow.Author.Tests.{le-leb, lt-leb, leb-true}
+use Rattle.std.specs.Str.{bytes_eq}
 use Rattle.wire.specs.declared.Limits.{Limits}
 use Rattle.wire.specs.Limits.{largest_of_all}
 use Rattle.wire.specs.declared.Refusal.{Refusal}
@@ -20,7 +20,7 @@ use Rattle.wire.specs.declared.Written.{Written}
 use Rattle.wire.proofs.BufferLaws.{written-fits, sets-front, writing-done, writing-short, leaving-done, leaving-short}
 use Rattle.wire.proofs.Storing.{drop-sets, drop-at-sets}
 use Rattle.wire.proofs.Enclosed.{length-enclosed}
-use Rattle.wire.proofs.Accepting.{pick_true, pick-false, pick-either, check-accepted, check-passed, check-failed, on_accepted-accepted, on_accepted-passed, from-passed}
+use Rattle.wire.proofs.Accepting.{check-accepted, check-passed, check-failed, on_accepted-accepted, on_accepted-passed, from-passed}
 use Rattle.avl.specs.Codecs.{widths_of}
 use Rattle.avl.specs.Records.{record_bytes}
 use Rattle.avl.specs.DataField.{AvlData, data_bytes, read_data}
@@ -134,10 +134,10 @@ module _ (limits : Limits) (room : Roomy limits) (f : List ℕ) where
   -- the data field at the start of an array, and what the comparison tells
   module _ (z : List ℕ) {d : List ℕ} (n : ℕ) (stored : d ≡ sets z 0 field) (size : n ≡ length field) (fits : n ≤ length z) where
     abbrev part : List ℕ
-    part = take (n - 0) (drop 0 d)
+    part = take n d
 
     front : part ≡ field
-    front = ap (take (n - 0)) (stored ∙ sets-front field z (omega arith)) ∙ take_at field (drop (length field) z) (n - 0) (omega arith)
+    front = ap (take n) (stored ∙ sets-front field z (omega arith)) ∙ take_at field (drop (length field) z) n (sym size)
 
     pub part-size : (length part ≡ n) × (3 ≤ n)
     part-size = (ap length front ∙ sym size, omega (arith, size, data-long (decoded f)))
@@ -152,38 +152,17 @@ module _ (limits : Limits) (room : Roomy limits) (f : List ℕ) where
       pub part-other : r ≡ false → packet_within limits f ≡ refused (refusal 17)
       part-other k = other-refused b (seen k)
 
--- ---- bytes compared one by one
+-- ---- bytes compared
 
-pub same_length : (p q : List ℕ) → (length p ≡ length q → ⊥) → same p q ≡ false
-same_length [] [] h = absurd (h refl)
-same_length [] (b ∷ q) h = refl
-same_length (a ∷ p) [] h = refl
-same_length (a ∷ p) (b ∷ q) h = pick-either (λ (x : Bool). x ≡ false) (eqb a b) (same p q) false (same_length p q (λ e. h (omega (arith, e)))) refl
-
--- the bytes before number `i` are alike or not, and what follows decides only if they are
-module _ (p q : List ℕ) (long : length p ≡ length q) (alike : Bool) (i : ℕ) where
-  abbrev pub Compared : Type 0
-  Compared = pick alike (same (drop i p) (drop i q)) false ≡ same p q
-
-  module _ (c : Compared) where
-    same_ends : i < length p → same (drop i p) (drop i q) ≡ pick (eqb (get_or p i 0) (get_or q i 0)) (same (drop (i + 1) p) (drop (i + 1) q)) false
-    same_ends h = rw add-one (ap₂ same (drop-cons p i 0 h) (drop-cons q i 0 (omega arith)))
-
-    pub same-on : i < length p → get_or p i 0 ≡ get_or q i 0 → pick alike (same (drop (i + 1) p) (drop (i + 1) q)) false ≡ same p q
-    same-on h e = sym (ap (λ (x : Bool). pick alike x false) (same_ends h ∙ pick_true _ _ _ (eq-eqb _ _ e))) ∙ c
-
-    pub same-off : i < length p → (get_or p i 0 ≡ get_or q i 0 → ⊥) → false ≡ same p q
-    same-off h n =
-        sym (pick-either (λ (x : Bool). x ≡ false) alike false false refl refl) ∙ sym (ap (λ (x : Bool). pick alike x false) (same_ends h ∙ pick-false _ _ _ (ne_eqb _ _ n))) ∙ c
-
-    pub same-done : length p ≤ i → alike ≡ same p q
-    same-done h =
-        let ends : same (drop i p) (drop i q) ≡ true = ap₂ same (drop_of_length-le p h) (drop_of_length-le q {i = i} (omega arith)) in
-        whole alike ∙ sym (ap (λ (x : Bool). pick alike x false) ends) ∙ c
-      where
-        whole : (b : Bool) → b ≡ pick b true false
-        whole true = refl
-        whole false = refl
+pub same-bytes : (p q : List ℕ) → bytes_eq p q ≡ same p q
+same-bytes [] [] = refl
+same-bytes [] (b ∷ q) = refl
+same-bytes (a ∷ p) [] = refl
+same-bytes (a ∷ p) (b ∷ q) = go (eqb a b) (same-bytes p q)
+  where
+    go : (t : Bool) → bytes_eq p q ≡ same p q → t && bytes_eq p q ≡ pick t (same p q) false
+    go true h = h
+    go false h = refl
 
 -- ---- what a writer's answer tells
 
@@ -202,12 +181,12 @@ form-refused longest d g f {x} b l room e = go (form_of_field longest d) refl
     go (refused y) is = sym (ap (λ r. has_form r f) is)
 
 pub form-written : (result : Answer (List ℕ)) (before after f : List ℕ) {n : ℕ} → accepted n ≡ writing result before → after ≡ leaving result before
-    → same (take (n - 0) (drop 0 after)) f ≡ has_form result f
+    → bytes_eq (take n after) f ≡ has_form result f
 unfolding has_form
 form-written result before after f {n} e k =
     let g = written-fits result before e in
     let left = k ∙ ap (λ r. leaving r before) g.1 ∙ leaving-done g.0 before (omega (arith, g.2, g.3)) in
-    ap (λ (x : List ℕ). same (take (n - 0) x) f) left ∙ ap (λ (x : List ℕ). same x f) (take_at g.0 _ (n - 0) (omega (arith, g.2))) ∙ sym (ap (λ r. has_form r f) g.1)
+    same-bytes (take n after) f ∙ ap (λ (x : List ℕ). same (take n x) f) left ∙ ap (λ (x : List ℕ). same x f) (take_at g.0 _ n (omega (arith, g.2))) ∙ sym (ap (λ r. has_form r f) g.1)
 
 -- ---- the answer
 

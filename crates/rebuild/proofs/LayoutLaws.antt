@@ -18,7 +18,7 @@ use Rattle.rebuild.proofs.OffsetLaws.{decoded-at, value-part}
 
 -- ---- an element
 
-module _ (w : Widths) (kind : ℕ) (b : List ℕ) (start : ℕ) (e : start ≡ min 2 (length b)) where
+module _ (w : Widths) (kind : ℕ) (b : List ℕ) (start : ℕ) (e : start ≡ min (length b) 2) where
   pub element-plain : (kind ≡ 9 → ⊥) → be w.id (little_at b 0 2) ++ take (length b - start) (drop start b) ≡ element_bytes w kind (entry_element (record { kind = kind; body = b }))
   unfolding element_bytes length_bytes entry_element
   element-plain n = simp (value-part b start e, ne_eqb _ _ n)

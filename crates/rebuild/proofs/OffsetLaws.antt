@@ -1,6 +1,6 @@
 -- The entries of a form, met by their offsets.
-use Prim.Native.Nat.{ℕ, zero, suc, ◌-◌, ◌≤◌, ◌<◌, min}
-use native.Mathlib.Nat.{le_refl, zero-min, min-zero, suc-min-suc}
+use Prim.Native.Nat.{ℕ, ◌-◌, ◌≤◌, ◌<◌, min}
+use native.Mathlib.Nat.{le_refl}
 use native.Mathlib.Omega.{arith}
 use mathlib.Core.Path.{◌≡◌, refl, sym, ap, ◌∙◌}
 use mathlib.Core.Bool.{Bool, true, false}
@@ -8,6 +8,7 @@ use mathlib.Core.List.{List, [], ◌∷◌}
 use lib.ListN.{length, take, drop, get_or, length-drop}
 use lib.Dec.{eqb}
 use lib.Seq.{take_all, take-nil}
+use Rattle.std.proofs.lemmas.List.{drop_min}
 use borrow.Author.Tests.{eq-eqb, ne_eqb, eqb-true}
 use Rattle.wire.specs.Numbers.{pick}
 use Rattle.wire.specs.Sequences.{All}
@@ -78,11 +79,8 @@ decoded-at (b ∷ s) = ap data_of (entries-on (b ∷ s) 0 (omega arith))
 
 -- ---- the value of an element
 
-drop-clipped : (n : ℕ) (f : List ℕ) → drop (min n (length f)) f ≡ drop n f
-drop-clipped zero f = rw zero-min
-drop-clipped (suc n) [] = rw min-zero
-drop-clipped (suc n) (b ∷ f) = rw suc-min-suc (drop-clipped n f)
-
 -- what is behind the first two bytes
-pub value-part : (b : List ℕ) (start : ℕ) → start ≡ min 2 (length b) → take (length b - start) (drop start b) ≡ drop 2 b
-value-part b start e = take_all (length b - start) (drop start b) (simp length-drop (le_refl _)) ∙ ap (λ (k : ℕ). drop k b) e ∙ drop-clipped 2 b
+pub value-part : (b : List ℕ) (start : ℕ) → start ≡ min (length b) 2 → take (length b - start) (drop start b) ≡ drop 2 b
+value-part b start e =
+    let least : start ≡ min 2 (length b) = omega (arith, e) in
+    take_all (length b - start) (drop start b) (simp length-drop (le_refl _)) ∙ ap (λ (k : ℕ). drop k b) least ∙ drop_min 2 b

@@ -1,8 +1,7 @@
 -- The loops over entries: what is left, read and stored from here on, gives the whole.
 use Prim.Native.Nat.{ℕ, ◌+◌, ◌^◌, ◌≤◌, ◌<◌}
-use native.Mathlib.Nat.{zero-add}
 use native.Mathlib.Omega.{arith}
-use mathlib.Core.Path.{◌≡◌, refl, sym, ap, ap₂, ◌∙◌, subst}
+use mathlib.Core.Path.{◌≡◌, sym, ap, ap₂, ◌∙◌, subst}
 use mathlib.Core.List.{List, [], ◌∷◌, ◌++◌}
 use lib.ListN.{length, drop, get_or, length-append, drop_of_length-le}
 use Rattle.wire.specs.Numbers.{be}
@@ -21,7 +20,7 @@ use Rattle.store.specs.Stores.{Stored}
 use Rattle.rebuild.specs.FormPlaces.{behind_all, record_at, RecordFrom, Goes}
 use Rattle.store.proofs.PlaceLaws.{entries-end}
 use Rattle.rebuild.proofs.OffsetLaws.{NoRun, run_on, behind-on, records-own, records-end, records-behind-all}
-use Rattle.store.proofs.StoredLaws.{stored-then, stored-as, stored-before, Left, left-all, left_as, left-more, left-done}
+use Rattle.store.proofs.StoredLaws.{stored-then, stored-as, stored-before, Left, left_as, left-more, left-done}
 
 -- ---- a run
 
@@ -38,9 +37,6 @@ module _ (w : Widths) (kind : ℕ) (f : List ℕ) (from : ℕ) where
     pub count : n + length (elements at) ≡ length (elements from)
     pub ahead : from ≤ at
     pub few : n ≤ at
-
-  pub running-start : (out : List ℕ) (to : ℕ) → Running out to out from to 0
-  running-start out to = record { left = left-all (written from) out to; rest = refl; count = omega arith; ahead = omega arith; few = omega arith }
 
   module _ {before : List ℕ} {to : ℕ} {out : List ℕ} {at next n : ℕ} (r : Running before to out at next n) where
     pub running-first : at < length f → kind_at f at ≡ kind → Left (element_bytes w kind (entry_element (entry_at f at)) ++ written (next_at f at)) (written from) before out to next
@@ -87,9 +83,6 @@ module _ (w : Widths) (f : List ℕ) (from : ℕ) where
     pub rest : behind_all (drop k (kinds w)) (entries_at f at) ≡ behind_all (kinds w) (entries_at f from)
     pub count : sum + element_count (groups_at (drop k (kinds w)) at) ≡ element_count (groups_at (kinds w) from)
     pub ahead : from ≤ at
-
-  pub grouping-start : (out : List ℕ) (to : ℕ) → Grouping out to out from to 0 0
-  grouping-start out to = record { left = left-all (laid (kinds w) from) out to; rest = refl; count = zero-add _; ahead = omega arith }
 
   module _ {before : List ℕ} {to : ℕ} {out : List ℕ} {at next sum k : ℕ} (g : Grouping before to out at next sum k) where
     module _ {kind : ℕ} (h : k < length (kinds w)) (e : kind ≡ get_or (kinds w) k 0) where
@@ -179,16 +172,6 @@ module _ (w : Widths) (f : List ℕ) (from : ℕ) where
     pub starts : at < length f → kind_at f at ≡ 101
     pub ahead : from ≤ at
     pub few : n ≤ at
-
-  pub recording-start : (out : List ℕ) (to : ℕ) {at : ℕ} → RecordFrom f from at → Recording out to out at to 0
-  recording-start out to r =
-      record {
-        left = left_as (ap (joined (record_bytes w)) (sym (r.records (kinds w)))) (left-all (records_at from) out to);
-        count = zero-add _ ∙ ap length (r.records (kinds w));
-        starts = r.starts;
-        ahead = r.ahead;
-        few = omega arith;
-      }
 
   module _ {before : List ℕ} {to : ℕ} {out : List ℕ} {at next n : ℕ} (r : Recording before to out at next n) where
     pub recording-first : at < length f → Left (record_bytes w (record_at (kinds w) f at) ++ records_at (next_at f at)) (records_at from) before out to next

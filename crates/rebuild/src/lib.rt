@@ -1,7 +1,7 @@
 // The TCP data packet of a TLV form: entries are read leniently, bytes are stored as far as the buffer goes, and what comes of it is judged.
 #![tactic(auto)]
 
-ghost use Rattle.std.specs.Prelude.{◌≡◌, ◌+◌, ◌*◌, ◌^◌, ◌≤◌, ◌<◌, [], length};
+ghost use Rattle.std.specs.Prelude.{◌≡◌, ◌+◌, ◌*◌, ◌^◌, ◌≤◌, ◌<◌, [], length, MatchOption};
 ghost use Rattle.std.proofs.lemmas.List.Edits.{sets};
 ghost use Rattle.wire.specs.Numbers.{be, little_at};
 ghost use Rattle.wire.specs.Sequences.{joined};
@@ -13,7 +13,7 @@ ghost use Rattle.avl.specs.DataField.{data_bytes};
 ghost use Rattle.frame.specs.Frame.{framed};
 ghost use Rattle.walk.specs.Walks.{Narrow};
 ghost use Rattle.tlv.specs.Decoding.{entry_element, run, behind, fixed_of, groups_of, records_of, decoded};
-ghost use Rattle.tlv.specs.PacketOf.{same, packet_within, packet_of_form};
+ghost use Rattle.tlv.specs.PacketOf.{packet_within, packet_of_form};
 ghost use Rattle.rebuild.specs.Candidates.{Roomy, form_within, has_form};
 ghost use Rattle.wire.specs.Limits.{limits_of};
 ghost use Rattle.store.specs.Stores.{Stored};
@@ -21,10 +21,10 @@ ghost use Rattle.store.specs.Entries.{next_at, entry_at, entries_at};
 ghost use Rattle.rebuild.specs.FormPlaces.{record_at, behind_all, Goes, RecordFrom};
 
 use avl::Widths;
-use wire::{Limits, Refusal, Written};
+use wire::{LARGEST_FORM, Limits, Refusal, Written};
 
 // Where reading and storing go on, and how many elements or records were stored.
-#[derive(Drop)]
+#[derive(Clone, Copy)]
 struct Run {
     from: usize,
     to: usize,
@@ -68,7 +68,7 @@ fn put_element(w: Widths, kind: usize, b: &[u8], out: &mut [u8], to: usize) -> u
     requires to_bound { to ≤ 2 ^ 40 }
     ensures { Stored (element_bytes w kind (entry_element (record { kind = kind; body = b.now }))) out.old out.new to result }
 {
-    let start = store::clipped(2, b.len());
+    let start = b.len().min(2);
     let a1 = turned(b, 0, 2, out, to, w.id);
     if kind == 9 {
         let size = b.len() - start;
@@ -89,32 +89,19 @@ fn put_entry(w: Widths, kind: usize, f: &[u8], at: usize, out: &mut [u8], to: us
 }
 
 // The elements of a kind from `from` on.
-fn put_run(w: Widths, kind: usize, f: &[u8], from: usize, out: &mut [u8], to: usize) -> Run
+fn put_run(w: Widths, kind: usize, f: &[u8], mut from: usize, out: &mut [u8], mut to: usize) -> Run
     requires narrow { Narrow w }
     requires f_len_bound { length f.now ≤ 65536 }
     requires from_bound { to + length (joined (element_bytes w kind) (run kind (entries_at f.now from))) ≤ 2 ^ 40 }
     ensures { Goes f.now from (behind kind (entries_at f.now from)) (joined (element_bytes w kind) (run kind (entries_at f.now from))) out.old out.new to (length (run kind (entries_at f.now from))) result }
 {
-    let mut at = from;
-    let mut next = to;
-    let mut n: usize = 0;
-    while at < f.len() {
-        if store::entry_kind(f, at) != kind {
-            return Run {
-                from: at,
-                to: next,
-                count: n,
-            };
-        }
-        next = put_entry(w, kind, f, at, out, next);
-        at = store::next_at(f, at);
-        n += 1;
+    let mut count = 0;
+    while from < f.len() && store::entry_kind(f, from) == kind {
+        to = put_entry(w, kind, f, from, out, to);
+        from = store::next_at(f, from);
+        count += 1;
     }
-    Run {
-        from: at,
-        to: next,
-        count: n,
-    }
+    Run { from, to, count }
 }
 
 // A group: its elements, and their count in front of them.
@@ -131,29 +118,20 @@ fn put_group(w: Widths, kind: usize, f: &[u8], from: usize, out: &mut [u8], to: 
 }
 
 // The groups from `from` on, in the order of their kinds, and how many elements they have.
-fn put_groups(w: Widths, f: &[u8], from: usize, out: &mut [u8], to: usize) -> Run
+fn put_groups(w: Widths, f: &[u8], mut from: usize, out: &mut [u8], mut to: usize) -> Run
     requires narrow { Narrow w }
     requires f_len_bound { length f.now ≤ 65536 }
     requires from_bound { to + length (groups_bytes w (kinds w) (groups_of (kinds w) (entries_at f.now from))) ≤ 2 ^ 40 }
     ensures { Goes f.now from (behind_all (kinds w) (entries_at f.now from)) (groups_bytes w (kinds w) (groups_of (kinds w) (entries_at f.now from))) out.old out.new to (element_count (groups_of (kinds w) (entries_at f.now from))) result }
 {
-    let n = walk::kind_count(w);
-    let mut at = from;
-    let mut next = to;
-    let mut sum: usize = 0;
-    let mut k: usize = 0;
-    while k < n {
-        let group = put_group(w, walk::kind_at(k), f, at, out, next);
-        at = group.from;
-        next = group.to;
-        sum += group.count;
-        k += 1;
+    let mut count = 0;
+    for k in 0..walk::kind_count(w) {
+        let group = put_group(w, walk::kind_at(k), f, from, out, to);
+        from = group.from;
+        to = group.to;
+        count += group.count;
     }
-    Run {
-        from: at,
-        to: next,
-        count: sum,
-    }
+    Run { from, to, count }
 }
 
 // The record whose entry 101 is at `at`: its fixed fields, its groups, and the total in front of these.
@@ -172,41 +150,32 @@ fn put_record(w: Widths, f: &[u8], at: usize, out: &mut [u8], to: usize) -> Run
 }
 
 // The first entry 101 from `from` on, or the end.
-fn next_record(f: &[u8], from: usize) -> usize
+fn next_record(f: &[u8], mut from: usize) -> usize
     requires { length f.now ≤ 65536 }
     ensures { RecordFrom f.now from result }
 {
-    let mut at = from;
-    while at < f.len() {
-        if store::entry_kind(f, at) == 101 {
-            return at;
-        }
-        at = store::next_at(f, at);
+    while from < f.len() && store::entry_kind(f, from) != 101 {
+        from = store::next_at(f, from);
     }
-    at
+    from
 }
 
 // The records from `from` on.
-fn put_records(w: Widths, f: &[u8], from: usize, out: &mut [u8], to: usize) -> Run
+fn put_records(w: Widths, f: &[u8], mut from: usize, out: &mut [u8], mut to: usize) -> Run
     requires narrow { Narrow w }
     requires f_len_bound { length f.now ≤ 65536 }
     requires from_bound { to + length (joined (record_bytes w) (records_of (kinds w) (entries_at f.now from))) ≤ 2 ^ 40 }
     ensures { Goes f.now from [] (joined (record_bytes w) (records_of (kinds w) (entries_at f.now from))) out.old out.new to (length (records_of (kinds w) (entries_at f.now from))) result }
 {
-    let mut at = next_record(f, from);
-    let mut next = to;
-    let mut n: usize = 0;
-    while at < f.len() {
-        let stored = put_record(w, f, at, out, next);
-        at = next_record(f, stored.from);
-        next = stored.to;
-        n += 1;
+    let mut count = 0;
+    from = next_record(f, from);
+    while from < f.len() {
+        let record = put_record(w, f, from, out, to);
+        from = next_record(f, record.from);
+        to = record.to;
+        count += 1;
     }
-    Run {
-        from: at,
-        to: next,
-        count: n,
-    }
+    Run { from, to, count }
 }
 
 // The data field of a form, and how long it is; a buffer that is too short gets its first bytes.
@@ -224,24 +193,6 @@ fn decode_form(f: &[u8], out: &mut [u8]) -> usize
     store::store_be(out, records.to, 1, count)
 }
 
-// Whether two sequences of bytes are the same. No early exit, so that many bytes are compared at once.
-fn equal(a: &[u8], b: &[u8]) -> bool
-    ensures { result ≡ same a.now b.now }
-{
-    if a.len() != b.len() {
-        return false;
-    }
-    let mut alike = true;
-    let mut i: usize = 0;
-    while i < a.len() {
-        if a[i] != b[i] {
-            alike = false;
-        }
-        i += 1;
-    }
-    alike
-}
-
 // Whether `d` is the data field of an acceptable packet and has the form `f`; its form is written into `g`.
 fn same_form(limits: Limits, d: &[u8], f: &[u8], g: &mut [u8]) -> bool
     requires { (3 ≤ length d.now) × (length d.now < 2 ^ 32) × (4 * length d.now ≤ length g.old) }
@@ -252,7 +203,7 @@ fn same_form(limits: Limits, d: &[u8], f: &[u8], g: &mut [u8]) -> bool
     }
     match form::form_of_field(limits.longest, d, g) {
         Written::Refused(_) => false,
-        Written::Bytes(n) => equal(&g[0..n], f),
+        Written::Bytes(n) => &g[..n] == f,
     }
 }
 
@@ -281,42 +232,46 @@ fn put_packet(d: &[u8], out: &mut [u8]) -> Written
     Written::Bytes(n + 12)
 }
 
-// The packet of a form, in arrays long enough for the longest.
-fn long_packet(limits: Limits, f: &[u8], out: &mut [u8]) -> Written
+// The packet of a form, of which the data field takes at most `FIELD` bytes; none where it takes more.
+fn packet_in<const FIELD: usize, const FORM: usize>(
+    limits: Limits,
+    f: &[u8],
+    out: &mut [u8],
+) -> Option<Written>
+    requires room { (4 * FIELD ≤ FORM) × (FORM < 2 ^ 32) }
     requires roomy { Roomy limits }
     requires f_len_bound { length f.now ≤ 65536 }
-    ensures answer { written_as result ≡ writing (packet_within limits f.now) out.old }
-    ensures buffer { out.new ≡ leaving (packet_within limits f.now) out.old }
+    ensures answer { MatchOption result (FIELD < length (data_bytes (decoded f.now))) (λ r. written_as r ≡ writing (packet_within limits f.now) out.old) }
+    ensures buffer { MatchOption result (out.new ≡ out.old) (λ r. out.new ≡ leaving (packet_within limits f.now) out.old) }
 {
     let mut d = [0u8; FIELD];
     let n = decode_form(f, &mut d);
     if FIELD < n {
-        return refused(17);
+        return None;
     }
-    let mut g = [0u8; wire::LARGEST_FORM];
-    if same_form(limits, &d[0..n], f, &mut g) {
-        return put_packet(&d[0..n], out);
+    let mut g = [0u8; FORM];
+    if same_form(limits, &d[..n], f, &mut g) {
+        return Some(put_packet(&d[..n], out));
     }
-    refused(17)
+    Some(refused(17))
 }
 
-// The same in short arrays, where they are enough: clearing long ones costs time.
-fn short_packet(limits: Limits, f: &[u8], out: &mut [u8]) -> Written
+// The packet of a form, in short arrays where they are enough: clearing long ones costs time.
+fn packet_within(limits: Limits, f: &[u8], out: &mut [u8]) -> Written
     requires roomy { Roomy limits }
     requires f_len_bound { length f.now ≤ 65536 }
     ensures answer { written_as result ≡ writing (packet_within limits f.now) out.old }
     ensures buffer { out.new ≡ leaving (packet_within limits f.now) out.old }
 {
-    let mut d = [0u8; 64];
-    let n = decode_form(f, &mut d);
-    if 64 < n {
-        return long_packet(limits, f, out);
+    if f.len() <= 96 {
+        if let Some(written) = packet_in::<64, 256>(limits, f, out) {
+            return written;
+        }
     }
-    let mut g = [0u8; 256];
-    if same_form(limits, &d[0..n], f, &mut g) {
-        return put_packet(&d[0..n], out);
+    match packet_in::<FIELD, LARGEST_FORM>(limits, f, out) {
+        Some(written) => written,
+        None => refused(17),
     }
-    refused(17)
 }
 
 // The TCP data packet of a form; 17 where no acceptable packet has it.
@@ -328,11 +283,8 @@ pub fn packet_of_form(family: usize, f: &[u8], out: &mut [u8]) -> Written
     if limits.largest < 1 {
         return refused(21);
     }
-    if wire::LARGEST_FORM < f.len() {
+    if LARGEST_FORM < f.len() {
         return refused(17);
     }
-    if f.len() <= 96 {
-        return short_packet(limits, f, out);
-    }
-    long_packet(limits, f, out)
+    packet_within(limits, f, out)
 }

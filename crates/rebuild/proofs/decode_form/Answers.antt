@@ -11,8 +11,11 @@ use native.Mathlib.Omega.{arith}
 use Prim.Native.Nat.{ℕ}
 use Rattle.rebuild.proofs.decode_form.Goals as goal
 
-pub put_records-records-requires : goal.put_records-records-requires
-put_records-records-requires c = let thin : Narrow c.widths_of.result = rw c.widths_of.ensures (narrow c.byte_or_zero-codec.result) in record { narrow = thin; f_len_bound = c.requires; from_bound = omega (arith, c.store_be-a1.ensures.value, records-room c.widths_of.result thin c.args.f.now c.next_at-from.result c.requires) }
+pub put_records-records-requires-clause-narrow : goal.put_records-records-requires-clause-narrow
+put_records-records-requires-clause-narrow c = rw c.widths_of.ensures (narrow c.byte_or_zero-codec.result)
+
+pub put_records-records-requires-clause-from_bound : goal.put_records-records-requires-clause-from_bound
+put_records-records-requires-clause-from_bound c = omega (arith, c.store_be-a1.ensures.value, records-room c.widths_of.result (put_records-records-requires-clause-narrow c) c.args.f.now c.next_at-from.result c.requires)
 
 pub store_be-requires-2 : goal.store_be-requires-2
 store_be-requires-2 c = let thin : Narrow c.widths_of.result = rw c.widths_of.ensures (narrow c.byte_or_zero-codec.result) in

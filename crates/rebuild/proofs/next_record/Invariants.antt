@@ -6,8 +6,8 @@ use mathlib.Core.Path.{◌≡◌}
 use Prim.Native.Nat.{ℕ, ◌-◌, ◌≤◌}
 use Rattle.rebuild.proofs.next_record.Given as goal
 
-abbrev pub invariant-loop-at : goal.invariant-loop-at
-invariant-loop-at l = (l.from ≤ l.at) × ((ks : List ℕ) → records_of ks (entries_at l.f l.at) ≡ records_of ks (entries_at l.f l.from))
+abbrev pub invariant-loop-from : goal.invariant-loop-from
+invariant-loop-from l = (l.fn.from ≤ l.from) × ((ks : List ℕ) → records_of ks (entries_at l.f l.from) ≡ records_of ks (entries_at l.f l.fn.from))
 
-abbrev pub decreases-loop-at : goal.decreases-loop-at
-decreases-loop-at l = length l.f - l.at
+abbrev pub decreases-loop-from : goal.decreases-loop-from
+decreases-loop-from l = length l.f - l.from

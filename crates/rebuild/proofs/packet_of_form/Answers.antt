@@ -14,20 +14,20 @@ roomy : (family : ℕ) {limits : Limits} → limits ≡ limits_of family → Roo
 roomy family e = let most = limits-most family in subst Roomy (sym e) (record { packets = most.packets; records = omega (arith, most.records) })
 
 pub returns-then-limits-lt1 : goal.returns-then-limits-lt1
-returns-then-limits-lt1 c = record { answer = rw (← c.limits_of-limits.ensures) (answers-refused (unknown-form c.limits_of-limits.result c.args.f.now c.if-limits-lt1.true) c.refused.ensures).0; buffer = rw (← c.limits_of-limits.ensures) (answers-refused (unknown-form c.limits_of-limits.result c.args.f.now c.if-limits-lt1.true) c.refused.ensures).1 }
+returns-then-limits-lt1 c = let refused = answers-refused (unknown-form c.limits_of-limits.result c.args.f.now c.if-limits-lt1.true) c.refused.ensures in
+    record { answer = rw (← c.limits_of-limits.ensures) refused.0; buffer = rw (← c.limits_of-limits.ensures) refused.1 }
 
 pub returns-then-f-gt-LARGEST_FORM : goal.returns-then-f-gt-LARGEST_FORM
 returns-then-f-gt-LARGEST_FORM c = let f = c.args.f.now in
-    let b = get_d-bytes f (λ k. (c.type_inv.f k).fits) in record { answer = rw (← c.limits_of-limits.ensures) (answers-refused (known-form c.limits_of-limits.result f c.if-limits-lt1.false ∙ long-refused c.limits_of-limits.result (roomy c.args.family c.limits_of-limits.ensures) f b c.if-f-gt-LARGEST_FORM.true) c.refused-then-f-gt-LARGEST_FORM.ensures).0; buffer = rw (← c.limits_of-limits.ensures) (answers-refused (known-form c.limits_of-limits.result f c.if-limits-lt1.false ∙ long-refused c.limits_of-limits.result (roomy c.args.family c.limits_of-limits.ensures) f b c.if-f-gt-LARGEST_FORM.true) c.refused-then-f-gt-LARGEST_FORM.ensures).1 }
+    let limits = c.limits_of-limits.result in
+    let b = get_d-bytes f (λ k. (c.type_inv.f k).fits) in
+    let long = known-form limits f c.if-limits-lt1.false ∙ long-refused limits (roomy c.args.family c.limits_of-limits.ensures) f b c.if-f-gt-LARGEST_FORM.true in
+    let refused = answers-refused long c.refused-then-f-gt-LARGEST_FORM.ensures in
+    record { answer = rw (← c.limits_of-limits.ensures) refused.0; buffer = rw (← c.limits_of-limits.ensures) refused.1 }
 
-pub short_packet-requires : goal.short_packet-requires
-short_packet-requires c = record { roomy = roomy c.args.family c.limits_of-limits.ensures; f_len_bound = omega arith }
-
-pub returns-then-f-le96 : goal.returns-then-f-le96
-returns-then-f-le96 c = record { answer = rw (← c.limits_of-limits.ensures) (rw (known-form c.limits_of-limits.result c.args.f.now c.if-limits-lt1.false) c.short_packet.ensures.answer); buffer = rw (← c.limits_of-limits.ensures) (rw (known-form c.limits_of-limits.result c.args.f.now c.if-limits-lt1.false) c.short_packet.ensures.buffer) }
-
-pub long_packet-requires : goal.long_packet-requires
-long_packet-requires c = record { roomy = roomy c.args.family c.limits_of-limits.ensures; f_len_bound = omega arith }
+pub packet_within-requires-clause-roomy : goal.packet_within-requires-clause-roomy
+packet_within-requires-clause-roomy c = roomy c.args.family c.limits_of-limits.ensures
 
 pub returns : goal.returns
-returns c = record { answer = rw (← c.limits_of-limits.ensures) (rw (known-form c.limits_of-limits.result c.args.f.now c.if-limits-lt1.false) c.long_packet.ensures.answer); buffer = rw (← c.limits_of-limits.ensures) (rw (known-form c.limits_of-limits.result c.args.f.now c.if-limits-lt1.false) c.long_packet.ensures.buffer) }
+returns c = let known = known-form c.limits_of-limits.result c.args.f.now c.if-limits-lt1.false in
+    record { answer = rw (← c.limits_of-limits.ensures) (rw known c.packet_within.ensures.answer); buffer = rw (← c.limits_of-limits.ensures) (rw known c.packet_within.ensures.buffer) }

@@ -11,11 +11,12 @@ use mathlib.Core.Path.{ap}
 use native.Mathlib.Omega.{arith}
 use Rattle.rebuild.proofs.put_group.Goals as goal
 
-pub put_run-elements-requires : goal.put_run-elements-requires
+pub put_run-elements-requires-clause-from_bound : goal.put_run-elements-requires-clause-from_bound
 unfolding group_bytes
-put_run-elements-requires c = let w = c.args.w in
+put_run-elements-requires-clause-from_bound c = let w = c.args.w in
     let kind = c.args.kind in
-    let g = run kind (entries_at c.args.f.now c.args.from) in record { narrow = c.requires.narrow; f_len_bound = c.requires.f_len_bound; from_bound = omega (arith, c.requires.from_bound, length-append (be w.count (length g)) (joined (element_bytes w kind) g), length_digits 256 w.count (length g)) }
+    let g = run kind (entries_at c.args.f.now c.args.from) in
+    omega (arith, c.requires.from_bound, length-append (be w.count (length g)) (joined (element_bytes w kind) g), length_digits 256 w.count (length g))
 
 pub returns : goal.returns
 unfolding group_bytes

@@ -2,7 +2,9 @@ use Rattle.rebuild.proofs.CandidateLaws.{answers-short, answers-done}
 use Rattle.rebuild.proofs.put_packet.Goals as goal
 
 pub returns-then-out-n : goal.returns-then-out-n
-returns-then-out-n c = record { answer = (answers-short _ _ c.if-out-n.true c.refused.ensures).0; buffer = (answers-short _ _ c.if-out-n.true c.refused.ensures).1 }
+returns-then-out-n c = let short = answers-short c.args.d.now c.args.out.now c.if-out-n.true c.refused.ensures in
+    record { answer = short.0; buffer = short.1 }
 
 pub returns : goal.returns
-returns c = record { answer = (answers-done c.args.d.now _ c.if-out-n.false c.put_bytes.ensures c.put_frame.ensures).0; buffer = (answers-done c.args.d.now _ c.if-out-n.false c.put_bytes.ensures c.put_frame.ensures).1 }
+returns c = let done = answers-done c.args.d.now c.args.out.now c.if-out-n.false c.put_bytes.ensures c.put_frame.ensures in
+    record { answer = done.0; buffer = done.1 }

@@ -3,8 +3,8 @@ use lib.ListN.{length}
 use Prim.Native.Nat.{◌-◌}
 use Rattle.rebuild.proofs.put_run.Given as goal
 
-abbrev pub invariant-loop-at : goal.invariant-loop-at
-invariant-loop-at l = Running l.w l.kind l.f l.from l.initial.out l.to l.out l.at l.next l.n
+abbrev pub invariant-loop-from : goal.invariant-loop-from
+invariant-loop-from l = Running l.w l.kind l.f l.fn.from l.initial.out l.fn.to l.out l.from l.to l.count
 
-abbrev pub decreases-loop-at : goal.decreases-loop-at
-decreases-loop-at l = length l.f - l.at
+abbrev pub decreases-loop-from : goal.decreases-loop-from
+decreases-loop-from l = length l.f - l.from
