@@ -1,12 +1,11 @@
 -- Fields that fit are read back as they were written.
-use Prim.Native.Nat.{ℕ, ◌+◌, ◌*◌, ◌/◌, ◌%◌, ◌^◌, ◌<◌}
+use Prim.Native.Nat.{ℕ, ◌+◌, ◌*◌, ◌^◌, ◌<◌}
 use native.Mathlib.Nat.{add-zero}
 use native.Mathlib.Omega.{arith}
 use mathlib.Core.Path.{◌≡◌, sym, ap, ◌∙◌}
 use mathlib.Core.List.{List, ◌++◌}
 use lib.ListN.{get_or, drop}
 use lib.Seq.{get_or-drop}
-use lib.IntN.{ℤ}
 use Rattle.wire.specs.Numbers.{signed}
 use Rattle.avl.specs.declared.Widths.{Widths}
 use Rattle.avl.specs.Records.{Fixed, FixedRules}
@@ -16,11 +15,6 @@ use Rattle.datagram.specs.Datagrams.{HeaderRules}
 use Rattle.element.specs.declared.RecordFields.{RecordFields}
 use Rattle.element.specs.declared.Value.{Value}
 use Rattle.contents.specs.Words.{quad, title_words, record_words, value_word, bits, title_result, title_header, record_of, value_of}
-
--- the lowest bits
-pub bits-low : (word n : ℕ) → word % 2 ^ n ≡ bits word 0 n
-unfolding bits
-bits-low word n = ap (λ (k : ℕ). k % 2 ^ n) (omega arith)
 
 -- four fields of 16 bits
 module _ (a b c d : ℕ) (ha : a < 2 ^ 16) (hb : b < 2 ^ 16) (hc : c < 2 ^ 16) (hd : d < 2 ^ 16) where
@@ -175,54 +169,11 @@ module _ (d : DataResult) (h : Header) (codec : d.codec < 2 ^ 16) (count : d.cou
     imei = h.imei;
   }
 
--- ---- as the code reads them
-
-pub value_made : (word : ℕ)
-    → ◌≡◌ {A = Value} (record { id = word % 65536; kind = word / 65536 % 256; offset = word / 4294967296 % 65536; size = word / 281474976710656 % 65536 }) (value_of word)
-unfolding value_of bits
-value_made word =
-    let low : word % 65536 ≡ word / 2 ^ 0 % 2 ^ 16 = bits-low word 16 in
-    λ i. record { id = low i; kind = word / 65536 % 256; offset = word / 4294967296 % 65536; size = word / 281474976710656 % 65536 }
+-- ---- a record by its words
 
 module _ (t : List ℕ) (at : ℕ) where
-  behind : (k : ℕ) → get_or t (at + k) 0 ≡ get_or (drop at t) k 0
-  behind k = sym (get_or-drop at t k 0)
+  pub first-behind : get_or t at 0 ≡ get_or (drop at t) 0 0
+  first-behind = ap (λ (n : ℕ). get_or t n 0) (sym (add-zero at)) ∙ sym (get_or-drop at t 0 0)
 
-  pub record-made : {latitude longitude altitude : ℤ} → latitude ≡ signed 4 (get_or t (at + 1) 0 % 4294967296)
-      → longitude ≡ signed 4 (get_or t (at + 1) 0 / 4294967296 % 4294967296)
-      → altitude ≡ signed 2 (get_or t (at + 2) 0 / 1099511627776 % 65536)
-      → ◌≡◌ {A = RecordFields} (record {
-        timestamp = get_or t at 0;
-        latitude = latitude;
-        longitude = longitude;
-        speed = get_or t (at + 2) 0 % 65536;
-        satellites = get_or t (at + 2) 0 / 65536 % 256;
-        angle = get_or t (at + 2) 0 / 16777216 % 65536;
-        altitude = altitude;
-        priority = get_or t (at + 2) 0 / 72057594037927936 % 16;
-        generation = get_or t (at + 2) 0 / 1152921504606846976 % 16;
-        event = get_or t (at + 3) 0 % 65536;
-        elements = get_or t (at + 3) 0 / 281474976710656 % 65536;
-      }) (record_of (drop at t))
-  unfolding record_of bits
-  record-made a b c =
-      let first : get_or t at 0 ≡ get_or (drop at t) 0 0 = ap (λ (n : ℕ). get_or t n 0) (sym (add-zero at)) ∙ behind 0 in
-      let south : _ ≡ signed 4 (get_or (drop at t) 1 0 / 2 ^ 0 % 2 ^ 32) = a ∙ ap (λ (n : ℕ). signed 4 (n % 2 ^ 32)) (behind 1) ∙ ap (signed 4) (bits-low (get_or (drop at t) 1 0) 32) in
-      let speed : get_or t (at + 2) 0 % 65536 ≡ get_or (drop at t) 2 0 / 2 ^ 0 % 2 ^ 16 = ap (λ (n : ℕ). n % 2 ^ 16) (behind 2) ∙ bits-low (get_or (drop at t) 2 0) 16 in
-      let event : get_or t (at + 3) 0 % 65536 ≡ get_or (drop at t) 3 0 / 2 ^ 0 % 2 ^ 16 = ap (λ (n : ℕ). n % 2 ^ 16) (behind 3) ∙ bits-low (get_or (drop at t) 3 0) 16 in
-      let east = b ∙ ap (λ (n : ℕ). signed 4 (n / 4294967296 % 4294967296)) (behind 1) in
-      let height = c ∙ ap (λ (n : ℕ). signed 2 (n / 1099511627776 % 65536)) (behind 2) in
-      λ i.
-      record {
-        timestamp = first i;
-        latitude = south i;
-        longitude = east i;
-        speed = speed i;
-        satellites = behind 2 i / 65536 % 256;
-        angle = behind 2 i / 16777216 % 65536;
-        altitude = height i;
-        priority = behind 2 i / 72057594037927936 % 16;
-        generation = behind 2 i / 1152921504606846976 % 16;
-        event = event i;
-        elements = behind 3 i / 281474976710656 % 65536;
-      }
+  pub word-behind : (k from n : ℕ) → bits (get_or t (at + k) 0) from n ≡ bits (get_or (drop at t) k 0) from n
+  word-behind k from n = ap (λ (x : ℕ). bits x from n) (sym (get_or-drop at t k 0))

@@ -14,7 +14,7 @@ ghost use Rattle.walk.specs.Walks.{Narrow};
 ghost use Rattle.traverse.specs.Texts.{element_text, group_text, groups_text, record_text, records_text};
 ghost use Rattle.traverse.specs.Copying.{Ready, Copies};
 ghost use Rattle.traverse.specs.Fields.{field_text, Field, Writes};
-ghost use Rattle.contents.specs.Words.{quad, record_words, title_result, record_of, value_of};
+ghost use Rattle.contents.specs.Words.{quad, bits, record_words, title_result, record_of, value_of};
 ghost use Rattle.contents.specs.Contents.{contents_of_packet, contents_of_datagram};
 ghost use Rattle.contents.specs.Listing.{listed_word, head_text, field_contents};
 
@@ -330,12 +330,21 @@ pub fn contents_of_datagram(family: usize, p: &[u8], out: &mut [u64]) -> Written
 
 // ---- reading a table
 
+// `n` bits of a word, from bit `at` on.
+fn bits(word: u64, at: u32, n: u32) -> u64
+    requires { (at < 64) × (n < 64) }
+    ensures value { result ≡ bits word at n }
+    ensures below { result < 2 ^ n }
+{
+    (word >> at) % (1 << n)
+}
+
 // How many records the packet has.
 pub fn record_count(t: &[u64]) -> usize
     requires { 1 ≤ length t.now }
     ensures { result ≡ (title_result t.now).count }
 {
-    (t[0] / 0x1_0000 % 0x1_0000) as usize
+    bits(t[0], 16, 16) as usize
 }
 
 // The record whose words begin at `at`.
@@ -348,16 +357,16 @@ pub fn record_at(t: &[u64], at: usize) -> RecordFields
     let extent = t[at + 3];
     RecordFields {
         timestamp: t[at],
-        latitude: wire::signed32((place % 0x1_0000_0000) as u32),
-        longitude: wire::signed32((place / 0x1_0000_0000 % 0x1_0000_0000) as u32),
-        speed: (motion % 0x1_0000) as u16,
-        satellites: (motion / 0x1_0000 % 0x100) as u8,
-        angle: (motion / 0x100_0000 % 0x1_0000) as u16,
-        altitude: wire::signed16((motion / 0x100_0000_0000 % 0x1_0000) as u16),
-        priority: (motion / 0x100_0000_0000_0000 % 0x10) as u8,
-        generation: (motion / 0x1000_0000_0000_0000 % 0x10) as u8,
-        event: (extent % 0x1_0000) as u16,
-        elements: (extent / 0x1_0000_0000_0000 % 0x1_0000) as usize,
+        latitude: wire::signed32(bits(place, 0, 32) as u32),
+        longitude: wire::signed32(bits(place, 32, 32) as u32),
+        speed: bits(motion, 0, 16) as u16,
+        satellites: bits(motion, 16, 8) as u8,
+        angle: bits(motion, 24, 16) as u16,
+        altitude: wire::signed16(bits(motion, 40, 16) as u16),
+        priority: bits(motion, 56, 4) as u8,
+        generation: bits(motion, 60, 4) as u8,
+        event: bits(extent, 0, 16) as u16,
+        elements: bits(extent, 48, 16) as usize,
     }
 }
 
@@ -366,9 +375,9 @@ pub fn value_of(word: u64) -> Value
     ensures { result ≡ value_of word }
 {
     Value {
-        id: (word % 0x1_0000) as u16,
-        kind: (word / 0x1_0000 % 0x100) as u8,
-        offset: (word / 0x1_0000_0000 % 0x1_0000) as usize,
-        size: (word / 0x1_0000_0000_0000 % 0x1_0000) as usize,
+        id: bits(word, 0, 16) as u16,
+        kind: bits(word, 16, 8) as u8,
+        offset: bits(word, 32, 16) as usize,
+        size: bits(word, 48, 16) as usize,
     }
 }

@@ -1,5 +1,6 @@
-use Rattle.contents.proofs.WordLaws.{value_made}
+use Rattle.contents.specs.Words.{value_of}
 use Rattle.contents.proofs.value_of.Goals as goal
 
 pub returns : goal.returns
-returns c = value_made c.args.word
+unfolding value_of
+returns c = λ i. record { id = c.bits.ensures.value i; kind = c.bits-2.ensures.value i; offset = c.bits-3.ensures.value i; size = c.bits-4.ensures.value i }
