@@ -25,7 +25,7 @@ use traverse::Moved;
 use walk::DataWalk;
 use wire::{Refusal, Written};
 
-// Four numbers of 16 bits in a word, the first in the lowest.
+// Four numbers of 16 bits in a word, the first in the lowest: the sum that the definition states; `from_le_bytes` would take eight bytes.
 fn quad_word(a: u64, b: u64, c: u64, d: u64) -> u64
     requires { (a < 2 ^ 16) × (b < 2 ^ 16) × (c < 2 ^ 16) × (d < 2 ^ 16) }
     ensures { result ≡ quad a b c d }
@@ -123,6 +123,7 @@ fn motion(w: Widths, s: &[u8], at: usize) -> u64
 {
     let event = w.event;
     let generation = w.generation;
+    // The number of seven bytes by one load; `wire::number` would load each byte.
     let low = wire::be64(s, at + 16) % 0x100_0000_0000_0000;
     let priority = wire::short_number(s, at + 8, 1);
     let reason = wire::short_number(s, at + 24 + event, generation);

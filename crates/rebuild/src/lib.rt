@@ -96,6 +96,7 @@ fn put_run(w: Widths, kind: usize, f: &[u8], mut from: usize, out: &mut [u8], mu
     ensures { Goes f.now from (behind kind (entries_at f.now from)) (joined (element_bytes w kind) (run kind (entries_at f.now from))) out.old out.new to (length (run kind (entries_at f.now from))) result }
 {
     let mut count = 0;
+    // By offset, here and in the walks below: the next walk goes on where one stops, and an iterator would have to give that back.
     while from < f.len() && store::entry_kind(f, from) == kind {
         to = put_entry(w, kind, f, from, out, to);
         from = store::next_at(f, from);
