@@ -1,4 +1,8 @@
 -- From the walk to the answers: a line's fields, where it is wrong, and its elements one by one.
+use Rattle.std.specs.List.{position, position_or_len}
+use Rattle.std.proofs.lemmas.Option.{cond_some, none-some}
+use Rattle.std.proofs.lemmas.List.Recursion.{is_position_or_len}
+use Rattle.std.specs.Prelude.{cond, Some, None, Ok, Err}
 use Prim.Native.Nat.{ℕ, zero, suc, ◌+◌, ◌-◌, ◌*◌, ◌^◌, ◌≤◌, ◌<◌}
 use native.Mathlib.Nat.{not-suc-le-zero, le_of_suc-le-suc}
 use native.Mathlib.Omega.{arith}
@@ -7,13 +11,14 @@ use mathlib.Core.Bool.{Bool, true, false, not}
 use mathlib.Core.List.{List, [], ◌∷◌, ◌++◌}
 use lib.ListN.{length, drop, get_or, length-drop, length-append, length-take, drop_of_length-le}
 use lib.Seq.{drop-drop, drop-append-add}
-use lib.Dec.{eqb, leb}
-use borrow.Author.Tests.{le-leb, lt-leb, ne_eqb}
+use lib.Dec.{eqb, leb, ltb}
+use borrow.Author.Tests.{le-leb, lt-leb, ltb-false}
 use Rattle.wire.specs.Sequences.{joined}
 use Rattle.wire.specs.declared.Refusal.{Refusal}
 use Rattle.wire.specs.Answers.{Answer, accepted, refused, refusal, on_accepted, told, unplaced, check, check_at}
 use Rattle.wire.specs.Reading.{Read, got, bad, and_then}
 use Rattle.wire.specs.Buffers.{leaving}
+use Rattle.wire.specs.Numbers.{pick}
 use Rattle.wire.proofs.Accepting.{by_length, pick-either, on_accepted-passed, on_accepted-refused}
 use Rattle.text.specs.Decimal.{decimal}
 use Rattle.text.specs.Hex.{among}
@@ -31,13 +36,11 @@ use Rattle.line.proofs.CountLaws.{length-texts}
 use Rattle.line.proofs.LineLaws.{line-inverse, read-pieces}
 use Rattle.line.proofs.WalkLaws.{element-stands, element-cursor}
 use Rattle.scan.specs.declared.Item.{Item}
-use Rattle.scan.specs.declared.Judged.{Judged}
 use Rattle.scan.specs.declared.LineFields.{LineFields}
 use Rattle.scan.specs.declared.LineElementAnswer.{LineElementAnswer}
 use Rattle.scan.specs.Fields.{field_from, field_end, tag_start, item_as}
 use Rattle.scan.specs.Walking.{pieces_from, judged_as, line_result, standing}
 use Rattle.scan.specs.Answers.{tag_bytes, element_result, answer_element, leaving_element, element_as}
-use Rattle.scan.proofs.FieldLaws.{field-behind, field-comma, field-byte}
 use Rattle.scan.proofs.WalkLaws.{pieces_none, pieces-some, start-on}
 
 -- ---- whatever is wrong is 20
@@ -81,46 +84,52 @@ twenty-line s =
 -- ---- the line
 
 module _ (s : List ℕ) (start : ℕ) where
-  pub line_taken : {f : LineFields} → Judged.Taken f ≡ judged_as start (judge_line s) → (l : Line) × (read_line s ≡ accepted l) × (f ≡ line_result start l) × (f.elements ≡ length l.elements)
+  pub line_taken : {f : LineFields} → Ok f ≡ judged_as start (judge_line s) → (l : Line) × (read_line s ≡ accepted l) × (f ≡ line_result start l) × (f.elements ≡ length l.elements)
   unfolding read_line told unplaced judged_as line_result
   line_taken {f} e = go (judge_line s) e
     where
-      go : (r : Read Line) → Judged.Taken f ≡ judged_as start r → (l : Line) × (unplaced (told 0 r) ≡ accepted l) × (f ≡ line_result start l) × (f.elements ≡ length l.elements)
+      go : (r : Read Line) → Ok f ≡ judged_as start r → (l : Line) × (unplaced (told 0 r) ≡ accepted l) × (f ≡ line_result start l) × (f.elements ≡ length l.elements)
       go (got l n) e = let same : f ≡ line_result start l = cc in (l, refl, same, ap (λ (x : LineFields). x.elements) same)
       go (bad x) e = absurd (let z : ◌≡◌ {A = ℕ} 0 1 = cc in omega arith)
 
-  pub line-wrong : {place : ℕ} → Judged.Wrong place ≡ judged_as start (judge_line s) → (read_line s ≡ refused (refusal 20)) × (place ≡ wrong_at s)
+  pub line-wrong : {place : ℕ} → Err place ≡ judged_as start (judge_line s) → (read_line s ≡ refused (refusal 20)) × (place ≡ wrong_at s)
   unfolding read_line told unplaced judged_as wrong_at place_in
   line-wrong {place} e = go (judge_line s) (twenty-line s) e
     where
-      go : (r : Read Line) → Twenty r → Judged.Wrong place ≡ judged_as start r → (unplaced (told 0 r) ≡ refused (refusal 20)) × (place ≡ place_in (length s) r)
+      go : (r : Read Line) → Twenty r → Err place ≡ judged_as start r → (unplaced (told 0 r) ≡ refused (refusal 20)) × (place ≡ place_in (length s) r)
       go (got l n) h e = absurd (let z : ◌≡◌ {A = ℕ} 0 1 = cc in omega arith)
       go (bad x) h e = (ap refused h, cc)
 
-  pub line-right : {f : LineFields} → Judged.Taken f ≡ judged_as start (judge_line s) → length s ≡ wrong_at s
+  pub line-right : {f : LineFields} → Ok f ≡ judged_as start (judge_line s) → length s ≡ wrong_at s
   unfolding judged_as wrong_at place_in
   line-right {f} e = go (judge_line s) e
     where
-      go : (r : Read Line) → Judged.Taken f ≡ judged_as start r → length s ≡ place_in (length s) r
+      go : (r : Read Line) → Ok f ≡ judged_as start r → length s ≡ place_in (length s) r
       go (got l n) e = refl
       go (bad x) e = absurd (let z : ◌≡◌ {A = ℕ} 0 1 = cc in omega arith)
 
 -- ---- where fields end and start
 
+-- the comma's place, counted
+before-place : (s : List ℕ) → length (before 44 s) ≡ position_or_len (λ c. eqb c 44) s
+unfolding before
+before-place = is_position_or_len (λ s. length (before 44 s)) (λ c. eqb c 44) refl (λ c s. step c s (eqb c 44))
+  where
+    step : (c : ℕ) (s : List ℕ) (b : Bool) → length (pick b [] (c ∷ before 44 s)) ≡ cond b 0 (1 + length (before 44 s))
+    step c s true = refl
+    step c s false = omega arith
+
 module _ (t : List ℕ) (at : ℕ) where
-  abbrev pub EndLeft : ℕ → Type 0
-  EndLeft i = (i ≤ length t) × (field_end t i ≡ field_end t at)
+  pub end-comma : {n : ℕ} → position (λ c. eqb c 44) (drop at t) ≡ Some n → at + n ≡ field_end t at
+  end-comma {n} e = ap (λ (m : ℕ). at + m) (sym (before-place (drop at t) ∙ (cond_some _ _ _ e).1))
 
-  pub end-comma : {i : ℕ} → EndLeft i → i < length t → get_or t i 0 ≡ 44 → i ≡ field_end t at
-  end-comma {i} l h e = omega (arith, l.1, ap length (field-comma t i h e))
-
-  pub end-turn : {i : ℕ} → EndLeft i → i < length t → (get_or t i 0 ≡ 44 → ⊥) → EndLeft (i + 1)
-  end-turn {i} l h e =
-      let more = field-byte t i h (ne_eqb (get_or t i 0) 44 e) in
-      (omega arith, omega (arith, ap length more, l.1))
-
-  pub end-done : {i : ℕ} → EndLeft i → length t ≤ i → i ≡ field_end t at
-  end-done {i} l h = omega (arith, l.1, ap length (field-behind t i h))
+  pub end-none : at ≤ length t → position (λ c. eqb c 44) (drop at t) ≡ None → length t ≡ field_end t at
+  end-none h e = go (ltb (position_or_len (λ c. eqb c 44) (drop at t)) (length (drop at t))) refl e
+    where
+      go : (b : Bool) → ltb (position_or_len (λ c. eqb c 44) (drop at t)) (length (drop at t)) ≡ b
+          → cond b (Some (position_or_len (λ c. eqb c 44) (drop at t))) None ≡ None → length t ≡ field_end t at
+      go true l e = absurd (none-some _ (sym e))
+      go false l e = omega (arith, h, ltb-false _ _ l, before-place (drop at t), before-short 44 (drop at t), length-drop at t)
 
 start_none : (n at : ℕ) → start_from n at [] ≡ at
 unfolding start_from
@@ -128,20 +137,24 @@ start_none zero at = refl
 start_none (suc n) at = refl
 
 module _ (t : List ℕ) (at n : ℕ) where
+  -- `i` fields are passed
   abbrev pub StartLeft : ℕ → ℕ → Type 0
-  StartLeft next left = (next ≤ length t + 1) × (start_from left next (pieces_from t next) ≡ start_from n at (pieces_from t at))
+  StartLeft next i = (next ≤ length t + 1) × (start_from (n - i) next (pieces_from t next) ≡ start_from n at (pieces_from t at))
 
-  pub start-end : (left : ℕ) {next : ℕ} → StartLeft next left → length t < next → next ≡ start_from n at (pieces_from t at)
-  start-end left {next} l h = sym (ap (start_from left next) (pieces_none t next h) ∙ start_none left next) ∙ l.1
+  pub start-first : at ≤ length t + 1 → StartLeft at 0
+  start-first h = let all : n - 0 ≡ n = omega arith in (h, ap (λ (k : ℕ). start_from k at (pieces_from t at)) all)
 
-  pub start-turn : {next left end : ℕ} → StartLeft next left → next ≤ length t → 0 < left → end ≡ field_end t next → end ≤ length t → StartLeft (end + 1) (left - 1)
-  start-turn {next} {left} {end} l h some is inside =
-      let one : suc (left - 1) ≡ left = omega arith in
-      (omega (arith, inside), start-on (left - 1) t next h is ∙ ap (λ (k : ℕ). start_from k next (pieces_from t next)) one ∙ l.1)
+  pub start-end : (i : ℕ) {next : ℕ} → StartLeft next i → length t < next → next ≡ start_from n at (pieces_from t at)
+  start-end i {next} l h = sym (ap (start_from (n - i) next) (pieces_none t next h) ∙ start_none (n - i) next) ∙ l.1
 
-  pub start-done : {next left : ℕ} → StartLeft next left → left ≤ 0 → next ≡ start_from n at (pieces_from t at)
+  pub start-turn : {next i end : ℕ} → StartLeft next i → next ≤ length t → i < n → end ≡ field_end t next → end ≤ length t → StartLeft (end + 1) (i + 1)
+  start-turn {next} {i} {end} l h some is inside =
+      let one : suc (n - (i + 1)) ≡ n - i = omega arith in
+      (omega (arith, inside), start-on (n - (i + 1)) t next h is ∙ ap (λ (k : ℕ). start_from k next (pieces_from t next)) one ∙ l.1)
+
+  pub start-done : {next i : ℕ} → StartLeft next i → n ≤ i → next ≡ start_from n at (pieces_from t at)
   unfolding start_from
-  start-done {next} {left} l h = let none : left ≡ 0 = omega arith in ap (λ (k : ℕ). start_from k next (pieces_from t next)) (sym none) ∙ l.1
+  start-done {next} {i} l h = let none : n - i ≡ 0 = omega arith in ap (λ (k : ℕ). start_from k next (pieces_from t next)) (sym none) ∙ l.1
 
 -- ---- an element
 
@@ -187,7 +200,7 @@ module _ (t : List ℕ) (at id : ℕ) (b : List ℕ) (e : read_printed false (fi
 
 -- what an element tells
 module _ (start end : ℕ) where
-  pub number-item : (r : Answer Printed) {id n last : ℕ} → Item.Number id n last ≡ item_as start end r → (r ≡ accepted (number id n)) × (last ≡ end)
+  pub number-item : (r : Answer Printed) {id n last : ℕ} → Some (Item.Number id n last) ≡ item_as start end r → (r ≡ accepted (number id n)) × (last ≡ end)
   unfolding item_as
   number-item (accepted (number i m)) {id} {n} e =
       let a : i ≡ id = cc in
@@ -196,14 +209,14 @@ module _ (start end : ℕ) where
   number-item (accepted (tag i b)) e = absurd (let z : ◌≡◌ {A = ℕ} 0 1 = cc in omega arith)
   number-item (refused x) e = absurd (let z : ◌≡◌ {A = ℕ} 0 1 = cc in omega arith)
 
-  pub tag-item : (r : Answer Printed) {id from size last : ℕ} → Item.Tag id from size last ≡ item_as start end r
+  pub tag-item : (r : Answer Printed) {id from size last : ℕ} → Some (Item.Tag id from size last) ≡ item_as start end r
       → (b : List ℕ) × (r ≡ accepted (tag id b)) × (from ≡ start) × (size ≡ length b) × (last ≡ end)
   unfolding item_as
   tag-item (accepted (number i m)) e = absurd (let z : ◌≡◌ {A = ℕ} 0 1 = cc in omega arith)
   tag-item (accepted (tag i b)) {id} e = let a : i ≡ id = cc in (b, (λ j. accepted (tag (a j) b)), cc, cc, cc)
   tag-item (refused x) e = absurd (let z : ◌≡◌ {A = ℕ} 0 1 = cc in omega arith)
 
-  pub no_item : (r : Answer Printed) → Item.Wrong ≡ item_as start end r → (x : Refusal) × (r ≡ refused x)
+  pub no_item : (r : Answer Printed) → None ≡ item_as start end r → (x : Refusal) × (r ≡ refused x)
   unfolding item_as
   no_item (accepted (number i m)) e = absurd (let z : ◌≡◌ {A = ℕ} 0 1 = cc in omega arith)
   no_item (accepted (tag i b)) e = absurd (let z : ◌≡◌ {A = ℕ} 0 1 = cc in omega arith)
@@ -303,11 +316,11 @@ module _ (t : List ℕ) (at : ℕ) where
   standing-is {e} k is =
       on_accepted-passed (read_printed false (field_from t at)) _ k ∙ ap (λ (n : ℕ). accepted (record { content = e; next = n + 1 })) (sym is)
 
-  pub standing-none : Item.Wrong ≡ item_as (tag_start t at) (field_end t at) (read_printed false (field_from t at)) → standing t at ≡ refused (refusal 20)
+  pub standing-none : None ≡ item_as (tag_start t at) (field_end t at) (read_printed false (field_from t at)) → standing t at ≡ refused (refusal 20)
   standing-none e =
       on_accepted-refused (read_printed false (field_from t at)) _ (printed-refused false (field_from t at) (no_item (tag_start t at) (field_end t at) (read_printed false (field_from t at)) e).1)
 
-  module _ {id from size last : ℕ} (e : Item.Tag id from size last ≡ item_as (tag_start t at) (field_end t at) (read_printed false (field_from t at))) where
+  module _ {id from size last : ℕ} (e : Some (Item.Tag id from size last) ≡ item_as (tag_start t at) (field_end t at) (read_printed false (field_from t at))) where
     pub record Tagged : Type 0 where
       pub bytes : List ℕ
       pub standing : standing t at ≡ accepted (record { content = tag id bytes; next = last + 1 })

@@ -1,4 +1,5 @@
 -- Degrees from a text's digits: whole degrees, the point, seven places, the sign.
+use Rattle.std.specs.Prelude.{Option, Some, None}
 use Prim.Native.Nat.{ℕ, suc, ◌+◌, ◌-◌, ◌*◌, ◌^◌, ◌≤◌, ◌<◌}
 use native.Mathlib.Omega.{arith}
 use mathlib.Core.Path.{◌≡◌, refl, sym, ap, ◌∙◌, subst}
@@ -13,8 +14,6 @@ use Rattle.wire.specs.Answers.{Answer, accepted, refused, refusal, on_accepted, 
 use Rattle.wire.proofs.Accepting.{check-failed, check-passed, pick_true, pick-false}
 use Rattle.line.specs.Pieces.{before, behind}
 use Rattle.line.specs.LineReader.{all_digits, said, no_spare_zero, read_decimal, read_unsigned, read_degrees, positive, negative}
-use Rattle.scan.specs.declared.Number.{Number}
-use Rattle.scan.specs.declared.Degrees.{Degrees}
 use Rattle.scan.specs.Fields.{field_from, field_end, stands_at, ends_at, run, number_as, run_as, places_of, degrees_as, signed_as}
 use Rattle.scan.proofs.RunLaws.{run-digits, run-right, run-wrong, check-refused, said-below}
 use Rattle.scan.proofs.FieldLaws.{stands-yes, stands-no, FirstNot, first-not, field-first, field-run, field-other, split-open, split-end, split-on, split-wrong, run_decimal}
@@ -35,36 +34,36 @@ module _ (whole : ℕ) (s : List ℕ) where
   places-good e d = check-passed (eqb (length s) 7) 20 _ _ (eq-eqb (length s) 7 e) ∙ check-passed (all_digits s) 20 _ _ d
 
 module _ (t : List ℕ) (at whole : ℕ) (inside : at ≤ length t) where
-  abbrev field_places : Number
+  abbrev field_places : Option (ℕ × ℕ)
   field_places = number_as (field_end t at) (places_of whole (field_from t at))
 
-  no-places : places_of whole (field_from t at) ≡ refused (refusal 20) → Number.Wrong ≡ field_places
+  no-places : places_of whole (field_from t at) ≡ refused (refusal 20) → None ≡ field_places
   unfolding number_as
   no-places e = ap (number_as (field_end t at)) (sym e)
 
   -- by where the digits end
-  either : (ends_at t (at + length (run (drop at t))) ≡ true → (length (run (drop at t)) ≡ 7 → ⊥)) → Number.Wrong ≡ field_places
+  either : (ends_at t (at + length (run (drop at t))) ≡ true → (length (run (drop at t)) ≡ 7 → ⊥)) → None ≡ field_places
   either h = go (ends_at t (at + length (run (drop at t)))) refl
     where
-      go : (b : Bool) → ends_at t (at + length (run (drop at t))) ≡ b → Number.Wrong ≡ field_places
+      go : (b : Bool) → ends_at t (at + length (run (drop at t))) ≡ b → None ≡ field_places
       go true k = no-places (places-size whole (field_from t at) (λ e. h k (sym (ap length (field-run t at inside k)) ∙ e)))
       go false k = no-places (places-other whole (field_from t at) (field-other t at inside k))
 
   -- seven digits fit 64 bits
-  pub places-over : Number.Wrong ≡ run_as at (run (drop at t)) → Number.Wrong ≡ field_places
+  pub places-over : None ≡ run_as at (run (drop at t)) → None ≡ field_places
   places-over e =
       either (λ k seven.
       let below = subst (λ (n : ℕ). said (run (drop at t)) < 10 ^ n) seven (said-below (run (drop at t)) (run-digits (drop at t))) in
       omega (arith, run-wrong t at e, below))
 
-  module _ {n end : ℕ} (e : Number.Of n end ≡ run_as at (run (drop at t))) where
-    pub places-short : (end ≡ at + 7 → ⊥) → Number.Wrong ≡ field_places
+  module _ {n end : ℕ} (e : Some (n, end) ≡ run_as at (run (drop at t))) where
+    pub places-short : (end ≡ at + 7 → ⊥) → None ≡ field_places
     places-short h = either (λ k seven. h (omega (arith, (run-right t at e).1, seven)))
 
-    pub places-open : ends_at t end ≡ false → Number.Wrong ≡ field_places
+    pub places-open : ends_at t end ≡ false → None ≡ field_places
     places-open k = no-places (places-other whole (field_from t at) (field-other t at inside (ap (ends_at t) (sym (run-right t at e).1) ∙ k)))
 
-    pub places-read : end ≡ at + 7 → ends_at t end ≡ true → Number.Of (whole * 10000000 + n) end ≡ field_places
+    pub places-read : end ≡ at + 7 → ends_at t end ≡ true → Some (whole * 10000000 + n, end) ≡ field_places
     unfolding number_as
     places-read seven k =
         let r = run-right t at e in
@@ -72,7 +71,7 @@ module _ (t : List ℕ) (at whole : ℕ) (inside : at ≤ length t) where
         let reads = places-good whole (field_from t at) (ap length same ∙ omega (arith, r.1, seven)) (ap all_digits same ∙ run-digits (drop at t)) in
         let value : whole * 10000000 + n ≡ whole * 10 ^ 7 + said (field_from t at) = ap (λ (m : ℕ). whole * 10000000 + m) (r.0 ∙ ap said (sym same)) in
         let place : end ≡ field_end t at = r.1 ∙ ap (λ (s : List ℕ). at + length s) (sym same) in
-        (λ j. Number.Of (value j) (place j)) ∙ ap (number_as (field_end t at)) (sym reads)
+        (λ j. Some (value j, place j)) ∙ ap (number_as (field_end t at)) (sym reads)
 
     -- seven digits are below 10 ^ 7
     pub places-small : end ≡ at + 7 → n < 10 ^ 7
@@ -85,22 +84,22 @@ module _ (t : List ℕ) (at whole : ℕ) (inside : at ≤ length t) where
 -- ---- whole degrees and places
 
 module _ (t : List ℕ) (at : ℕ) (inside : at ≤ length t) where
-  abbrev field_unsigned : Number
+  abbrev field_unsigned : Option (ℕ × ℕ)
   field_unsigned = number_as (field_end t at) (read_unsigned (field_from t at))
 
   no_number : (n : ℕ) → places_of n [] ≡ refused (refusal 20)
   no_number n = places-size n [] (λ e. omega (arith, e))
 
-  not-unsigned : read_unsigned (field_from t at) ≡ refused (refusal 20) → Number.Wrong ≡ field_unsigned
+  not-unsigned : read_unsigned (field_from t at) ≡ refused (refusal 20) → None ≡ field_unsigned
   unfolding number_as
   not-unsigned e = ap (number_as (field_end t at)) (sym e)
 
-  pub unsigned-wrong : Number.Wrong ≡ run_decimal t at 214 → Number.Wrong ≡ field_unsigned
+  pub unsigned-wrong : None ≡ run_decimal t at 214 → None ≡ field_unsigned
   unfolding read_unsigned places_of
   unsigned-wrong e = not-unsigned (split-wrong t at inside 46 refl refl 214 places_of no_number e)
 
-  module _ {whole point : ℕ} (e : Number.Of whole point ≡ run_decimal t at 214) (is : point ≡ at + length (run (drop at t))) where
-    pub unsigned-open : stands_at t point 46 ≡ false → Number.Wrong ≡ field_unsigned
+  module _ {whole point : ℕ} (e : Some (whole, point) ≡ run_decimal t at 214) (is : point ≡ at + length (run (drop at t))) where
+    pub unsigned-open : stands_at t point 46 ≡ false → None ≡ field_unsigned
     unfolding read_unsigned places_of
     unsigned-open h =
         not-unsigned (split-open t at inside 46 refl refl 214 places_of no_number (subst (λ (n : ℕ). n < length t → get_or t n 0 ≡ 46 → ⊥) is (stands-no t point 46 h)))
@@ -118,30 +117,30 @@ module _ (t : List ℕ) (at : ℕ) (inside : at ≤ length t) where
 -- ---- the sign
 
 module _ (n end : ℕ) where
-  pub positive-read : (z : ℤ) → z ≡ signed 4 n → n ≤ 2 ^ 31 - 1 → Degrees.Of z end ≡ signed_as positive (Number.Of n end)
+  pub positive-read : (z : ℤ) → z ≡ signed 4 n → n ≤ 2 ^ 31 - 1 → Some (z, end) ≡ signed_as positive (Some (n, end))
   unfolding signed_as degrees_as check_at signed
   positive-read z e h =
       let value : z ≡ pos n = e ∙ pick_true (ltb n (2 ^ 31)) (pos n) (negsuc (2 ^ 32 - suc n)) (lt-ltb n (2 ^ 31) (omega arith)) in
-      ap (λ (y : ℤ). Degrees.Of y end) value ∙ sym (simp (le-leb n (2 ^ 31 - 1) h))
+      ap (λ (y : ℤ). Some (y, end)) value ∙ sym (simp (le-leb n (2 ^ 31 - 1) h))
 
-  pub positive-over : 2 ^ 31 - 1 < n → Degrees.Wrong ≡ signed_as positive (Number.Of n end)
+  pub positive-over : 2 ^ 31 - 1 < n → None ≡ signed_as positive (Some (n, end))
   unfolding signed_as degrees_as check_at
   positive-over h = sym (simp (lt-leb n (2 ^ 31 - 1) h))
 
-  pub negative-read : (z : ℤ) → z ≡ signed 4 (2 ^ 32 - n) → 1 ≤ n → n ≤ 2 ^ 31 → Degrees.Of z end ≡ signed_as negative (Number.Of n end)
+  pub negative-read : (z : ℤ) → z ≡ signed 4 (2 ^ 32 - n) → 1 ≤ n → n ≤ 2 ^ 31 → Some (z, end) ≡ signed_as negative (Some (n, end))
   unfolding signed_as degrees_as check_at signed
   negative-read z e some h =
       let m : ℕ = 2 ^ 32 - n in
       let value : z ≡ negsuc (n - 1) =
       e ∙ pick-false (ltb m (2 ^ 31)) (pos m) (negsuc (2 ^ 32 - suc m)) (le-ltb m (2 ^ 31) (omega arith)) ∙ ap negsuc (omega arith)
       in
-      ap (λ (y : ℤ). Degrees.Of y end) value ∙ sym (simp (le-leb 1 n some, le-leb n (2 ^ 31) h))
+      ap (λ (y : ℤ). Some (y, end)) value ∙ sym (simp (le-leb 1 n some, le-leb n (2 ^ 31) h))
 
-  pub negative-none : n < 1 → Degrees.Wrong ≡ signed_as negative (Number.Of n end)
+  pub negative-none : n < 1 → None ≡ signed_as negative (Some (n, end))
   unfolding signed_as degrees_as check_at
   negative-none h = sym (simp (lt-leb 1 n h))
 
-  pub negative-over : 1 ≤ n → 2 ^ 31 < n → Degrees.Wrong ≡ signed_as negative (Number.Of n end)
+  pub negative-over : 1 ≤ n → 2 ^ 31 < n → None ≡ signed_as negative (Some (n, end))
   unfolding signed_as degrees_as check_at
   negative-over some h = sym (simp (le-leb 1 n some, lt-leb n (2 ^ 31) h))
 
@@ -157,10 +156,10 @@ signed-read end (accepted n) f = refl
 signed-read end (refused x) f = refl
 
 module _ (t : List ℕ) (at : ℕ) (inside : at ≤ length t) where
-  abbrev field_degrees : Degrees
+  abbrev field_degrees : Option (ℤ × ℕ)
   field_degrees = degrees_as (field_end t at) (read_degrees (field_from t at))
 
-  pub degrees-minus : {m : Number} {r : Degrees} → stands_at t at 45 ≡ true → m ≡ number_as (field_end t (at + 1)) (read_unsigned (field_from t (at + 1))) → r ≡ signed_as negative m → r ≡ field_degrees
+  pub degrees-minus : {m : Option (ℕ × ℕ)} {r : Option (ℤ × ℕ)} → stands_at t at 45 ≡ true → m ≡ number_as (field_end t (at + 1)) (read_unsigned (field_from t (at + 1))) → r ≡ signed_as negative m → r ≡ field_degrees
   unfolding read_degrees
   degrees-minus {m} {r} s e k =
       let f = field-first t at 45 refl s in
@@ -170,6 +169,6 @@ module _ (t : List ℕ) (at : ℕ) (inside : at ≤ length t) where
       ∙ ap (λ (n : ℕ). degrees_as n (on_accepted (read_unsigned (field_from t (at + 1))) negative)) f.1
       ∙ ap (λ (s : List ℕ). degrees_as (field_end t at) (read_degrees s)) (sym f.0)
 
-  pub degrees-plain : {m : Number} {r : Degrees} → stands_at t at 45 ≡ false → m ≡ number_as (field_end t at) (read_unsigned (field_from t at)) → r ≡ signed_as positive m → r ≡ field_degrees
+  pub degrees-plain : {m : Option (ℕ × ℕ)} {r : Option (ℤ × ℕ)} → stands_at t at 45 ≡ false → m ≡ number_as (field_end t at) (read_unsigned (field_from t at)) → r ≡ signed_as positive m → r ≡ field_degrees
   degrees-plain {m} {r} s e k =
       k ∙ ap (signed_as positive) e ∙ signed-read (field_end t at) (read_unsigned (field_from t at)) positive ∙ ap (degrees_as (field_end t at)) (no_sign (field_from t at) (first-not t at inside 45 s))

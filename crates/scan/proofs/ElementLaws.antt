@@ -1,4 +1,6 @@
 -- An element from its field: the ID, the sign, the value.
+use Rattle.std.proofs.lemmas.Option.{some_pair_parts}
+use Rattle.std.specs.Prelude.{Option, Some, None}
 use Prim.Native.Nat.{ℕ, ◌+◌, ◌-◌, ◌^◌, ◌≤◌, ◌<◌}
 use native.Mathlib.Omega.{arith}
 use mathlib.Core.Path.{◌≡◌, refl, sym, ap, ◌∙◌, subst}
@@ -10,8 +12,6 @@ use Rattle.wire.specs.Answers.{Answer, accepted, refused, refusal, on_accepted, 
 use Rattle.wire.proofs.Accepting.{pick-false}
 use Rattle.line.specs.Lines.{number, tag}
 use Rattle.line.specs.LineReader.{no_spare_zero, read_decimal, read_tag, none, read_value, read_printed}
-use Rattle.scan.specs.declared.Number.{Number}
-use Rattle.scan.specs.declared.Tag.{Tag}
 use Rattle.scan.specs.declared.Item.{Item}
 use Rattle.scan.specs.Fields.{field_from, field_end, stands_at, run, number_as, tag_start, item_as}
 use Rattle.scan.specs.Tags.{tag_as}
@@ -20,30 +20,28 @@ use Rattle.scan.proofs.FieldLaws.{stands-yes, stands-no, FirstNot, first-not, fi
 -- ---- the value
 
 -- what a tag's text tells of its element
-tag-item : (start end id : ℕ) (r : Answer (List ℕ)) {size last : ℕ} → Tag.Of size last ≡ tag_as end r
-    → Item.Tag id start size last ≡ item_as start end (on_accepted r (λ b. accepted (tag id b)))
+tag-item : (start end id : ℕ) (r : Answer (List ℕ)) {size last : ℕ} → Some (size, last) ≡ tag_as end r
+    → Some (Item.Tag id start size last) ≡ item_as start end (on_accepted r (λ b. accepted (tag id b)))
 unfolding tag_as on_accepted item_as
 tag-item start end id (accepted b) {size} {last} e =
-    let s : size ≡ length b = cc in
-    let l : last ≡ end = cc in
-    λ i. Item.Tag id start (s i) (l i)
+    let k = some_pair_parts _ _ _ _ e in
+    λ i. Some (Item.Tag id start (k.0 i) (k.1 i))
 tag-item start end id (refused x) e = absurd (let z : ◌≡◌ {A = ℕ} 0 1 = cc in omega arith)
 
-tag-none : (start end id : ℕ) (r : Answer (List ℕ)) → Tag.Wrong ≡ tag_as end r → Item.Wrong ≡ item_as start end (on_accepted r (λ b. accepted (tag id b)))
+tag-none : (start end id : ℕ) (r : Answer (List ℕ)) → None ≡ tag_as end r → None ≡ item_as start end (on_accepted r (λ b. accepted (tag id b)))
 unfolding tag_as on_accepted item_as
 tag-none start end id (accepted b) e = absurd (let z : ◌≡◌ {A = ℕ} 0 1 = cc in omega arith)
 tag-none start end id (refused x) e = refl
 
-number-item : (start end id : ℕ) (r : Answer ℕ) {n last : ℕ} → Number.Of n last ≡ number_as end r
-    → Item.Number id n last ≡ item_as start end (on_accepted r (λ n. accepted (number id n)))
+number-item : (start end id : ℕ) (r : Answer ℕ) {n last : ℕ} → Some (n, last) ≡ number_as end r
+    → Some (Item.Number id n last) ≡ item_as start end (on_accepted r (λ n. accepted (number id n)))
 unfolding number_as on_accepted item_as
 number-item start end id (accepted m) {n} {last} e =
-    let s : n ≡ m = cc in
-    let l : last ≡ end = cc in
-    λ i. Item.Number id (s i) (l i)
+    let k = some_pair_parts _ _ _ _ e in
+    λ i. Some (Item.Number id (k.0 i) (k.1 i))
 number-item start end id (refused x) e = absurd (let z : ◌≡◌ {A = ℕ} 0 1 = cc in omega arith)
 
-number-none : (start end id : ℕ) (r : Answer ℕ) → Number.Wrong ≡ number_as end r → Item.Wrong ≡ item_as start end (on_accepted r (λ n. accepted (number id n)))
+number-none : (start end id : ℕ) (r : Answer ℕ) → None ≡ number_as end r → None ≡ item_as start end (on_accepted r (λ n. accepted (number id n)))
 unfolding number_as on_accepted item_as
 number-none start end id (accepted m) e = absurd (let z : ◌≡◌ {A = ℕ} 0 1 = cc in omega arith)
 number-none start end id (refused x) e = refl
@@ -60,7 +58,7 @@ value-late id [] h = refl
 value-late id (c ∷ s) h = pick-false (eqb c 34) _ _ h
 
 module _ (t : List ℕ) (at id : ℕ) (tags : Bool) where
-  abbrev field_value : Item
+  abbrev field_value : Option Item
   field_value = item_as (at + 1) (field_end t at) (read_value tags id (field_from t at))
 
   module _ (q : stands_at t at 34 ≡ true) where
@@ -71,14 +69,14 @@ module _ (t : List ℕ) (at id : ℕ) (tags : Bool) where
         ap (λ (n : ℕ). item_as (at + 1) n (on_accepted (read_tag none (field_from t (at + 1))) (λ b. accepted (tag id b)))) f.1
         ∙ ap (λ (s : List ℕ). item_as (at + 1) (field_end t at) (read_value tags id s)) (sym f.0)
 
-    pub value-tag : {size end : ℕ} → Tag.Of size end ≡ tag_as (field_end t (at + 1)) (read_tag none (field_from t (at + 1))) → Item.Tag id (at + 1) size end ≡ field_value
+    pub value-tag : {size end : ℕ} → Some (size, end) ≡ tag_as (field_end t (at + 1)) (read_tag none (field_from t (at + 1))) → Some (Item.Tag id (at + 1) size end) ≡ field_value
     value-tag e = tag-item (at + 1) (field_end t (at + 1)) id (read_tag none (field_from t (at + 1))) e ∙ quoted-value
 
-    pub value-no-tag : Tag.Wrong ≡ tag_as (field_end t (at + 1)) (read_tag none (field_from t (at + 1))) → Item.Wrong ≡ field_value
+    pub value-no-tag : None ≡ tag_as (field_end t (at + 1)) (read_tag none (field_from t (at + 1))) → None ≡ field_value
     value-no-tag e = tag-none (at + 1) (field_end t (at + 1)) id (read_tag none (field_from t (at + 1))) e ∙ quoted-value
 
   module _ (inside : at ≤ length t) (q : stands_at t at 34 ≡ false) where
-    pub value-behind : tags ≡ true → Item.Wrong ≡ field_value
+    pub value-behind : tags ≡ true → None ≡ field_value
     unfolding item_as
     value-behind e =
         ap (item_as (at + 1) (field_end t at)) (sym (ap (λ (b : Bool). read_value b id (field_from t at)) e ∙ value-late id (field_from t at) (first-not t at inside 34 q)))
@@ -87,35 +85,35 @@ module _ (t : List ℕ) (at id : ℕ) (tags : Bool) where
     plain_value e =
         ap (item_as (at + 1) (field_end t at)) (value-number id (field_from t at) (first-not t at inside 34 q) ∙ ap (λ (b : Bool). read_value b id (field_from t at)) (sym e))
 
-    pub value-plain : {n end : ℕ} → tags ≡ false → Number.Of n end ≡ number_as (field_end t at) (read_decimal (2 ^ 64 - 1) (field_from t at)) → Item.Number id n end ≡ field_value
+    pub value-plain : {n end : ℕ} → tags ≡ false → Some (n, end) ≡ number_as (field_end t at) (read_decimal (2 ^ 64 - 1) (field_from t at)) → Some (Item.Number id n end) ≡ field_value
     value-plain e k = number-item (at + 1) (field_end t at) id (read_decimal (2 ^ 64 - 1) (field_from t at)) k ∙ plain_value e
 
-    pub value_none : tags ≡ false → Number.Wrong ≡ number_as (field_end t at) (read_decimal (2 ^ 64 - 1) (field_from t at)) → Item.Wrong ≡ field_value
+    pub value_none : tags ≡ false → None ≡ number_as (field_end t at) (read_decimal (2 ^ 64 - 1) (field_from t at)) → None ≡ field_value
     value_none e k = number-none (at + 1) (field_end t at) id (read_decimal (2 ^ 64 - 1) (field_from t at)) k ∙ plain_value e
 
 -- ---- the element
 
 module _ (t : List ℕ) (at : ℕ) (tags : Bool) (inside : at ≤ length t) where
-  abbrev field_element : Item
+  abbrev field_element : Option Item
   field_element = item_as (tag_start t at) (field_end t at) (read_printed tags (field_from t at))
 
   nothing : (n : ℕ) → read_value tags n [] ≡ refused (refusal 20)
   unfolding read_value
   nothing n = refl
 
-  not-element : read_printed tags (field_from t at) ≡ refused (refusal 20) → Item.Wrong ≡ field_element
+  not-element : read_printed tags (field_from t at) ≡ refused (refusal 20) → None ≡ field_element
   unfolding item_as
   not-element e = ap (item_as (tag_start t at) (field_end t at)) (sym e)
 
-  pub element-wrong : Number.Wrong ≡ run_decimal t at (2 ^ 16 - 1) → Item.Wrong ≡ field_element
+  pub element-wrong : None ≡ run_decimal t at (2 ^ 16 - 1) → None ≡ field_element
   unfolding read_printed
   element-wrong e = not-element (split-wrong t at inside 61 refl refl (2 ^ 16 - 1) (read_value tags) nothing e)
 
-  module _ {id sign : ℕ} (e : Number.Of id sign ≡ run_decimal t at (2 ^ 16 - 1)) where
+  module _ {id sign : ℕ} (e : Some (id, sign) ≡ run_decimal t at (2 ^ 16 - 1)) where
     is : sign ≡ at + length (run (drop at t))
     is = (number-told _ _ e).1
 
-    pub element-open : stands_at t sign 61 ≡ false → Item.Wrong ≡ field_element
+    pub element-open : stands_at t sign 61 ≡ false → None ≡ field_element
     unfolding read_printed
     element-open h =
         not-element (split-open t at inside 61 refl refl (2 ^ 16 - 1) (read_value tags) nothing (subst (λ (n : ℕ). n < length t → get_or t n 0 ≡ 61 → ⊥) is (stands-no t sign 61 h)))

@@ -1,4 +1,8 @@
 -- Fields that begin with digits: the digits up to the byte that stops them.
+use Rattle.std.proofs.lemmas.Option.{some_pair_parts}
+use Rattle.std.specs.Option.{option_eq, option_map, unwrap_or, is_some}
+use denote.Bor.{Bor}
+use Rattle.std.specs.Prelude.{Option, Some, None}
 use Prim.Native.Nat.{ℕ, suc, ◌+◌, ◌^◌, ◌≤◌, ◌<◌}
 use native.Mathlib.Nat.{add-zero, not-suc-le-zero, le_of_suc-le-suc}
 use native.Mathlib.Omega.{arith}
@@ -15,7 +19,6 @@ use Rattle.wire.proofs.Accepting.{on_accepted-passed, on_accepted-refused, check
 use Rattle.text.specs.Hex.{among}
 use Rattle.line.specs.Pieces.{before, behind}
 use Rattle.line.specs.LineReader.{all_digits, said, no_spare_zero, read_decimal}
-use Rattle.scan.specs.declared.Number.{Number}
 use Rattle.scan.specs.Fields.{field_from, field_end, stands_at, ends_at, run, number_as, run_as}
 use Rattle.scan.proofs.RunLaws.{run-digits, run-right, run-wrong, decimal-over, decimal-spare, decimal-other, decimal-good}
 
@@ -23,6 +26,13 @@ no_digit : (b c : ℕ) → among 48 57 b ≡ true → among 48 57 c ≡ false �
 no_digit b c e f = ne_eqb b c (λ same. let z : true ≡ false = sym e ∙ ap (among 48 57) same ∙ f in absurd (let y : ◌≡◌ {A = ℕ} 0 1 = cc in omega arith))
 
 -- ---- a byte in its place
+
+-- what `get` answers, compared with the byte
+pub stands-got : (t : List ℕ) (at : ℕ) (g : Option (Bor ℕ)) (c : Bor ℕ) → is_some g ≡ ltb at (length t) → unwrap_or (option_map (λ x. x.now) g) 0 ≡ get_or t at 0
+    → option_eq (λ x y. eqb x.now y.now) g (Some c) ≡ stands_at t at c.now
+unfolding stands_at
+stands-got t at None c s v = simp (sym s)
+stands-got t at (Some x) c s v = simp (sym s, sym v)
 
 pub stands-yes : (t : List ℕ) (at b : ℕ) → stands_at t at b ≡ true → (at < length t) × (get_or t at 0 ≡ b)
 unfolding stands_at
@@ -72,6 +82,23 @@ module _ (t : List ℕ) (i : ℕ) (inside : i < length t) where
   pub field-byte : eqb (get_or t i 0) 44 ≡ false → field_from t i ≡ get_or t i 0 ∷ field_from t (i + 1)
   unfolding before
   field-byte e = ap (before 44) first ∙ simp e
+
+-- where a field ends, and where it does not
+pub ends-nothing : (t : List ℕ) (i : ℕ) → ends_at t i ≡ true → field_from t i ≡ []
+unfolding ends_at
+ends-nothing t i e = go (leb (length t) i) refl e
+  where
+    go : (b : Bool) → leb (length t) i ≡ b → pick b true (eqb (get_or t i 0) 44) ≡ true → field_from t i ≡ []
+    go true l e = field-behind t i (leb-true (length t) i l)
+    go false l e = field-comma t i (leb-false (length t) i l) (eqb-true (get_or t i 0) 44 e)
+
+pub ends-not : (t : List ℕ) (i : ℕ) → ends_at t i ≡ false → (i < length t) × (eqb (get_or t i 0) 44 ≡ false)
+unfolding ends_at
+ends-not t i e = go (leb (length t) i) refl e
+  where
+    go : (b : Bool) → leb (length t) i ≡ b → pick b true (eqb (get_or t i 0) 44) ≡ false → (i < length t) × (eqb (get_or t i 0) 44 ≡ false)
+    go true l e = absurd (let z : ◌≡◌ {A = ℕ} 0 1 = cc in omega arith)
+    go false l e = (leb-false (length t) i l, e)
 
 -- the same where it is known
 pub field-first : (t : List ℕ) (at b : ℕ) → eqb b 44 ≡ false → stands_at t at b ≡ true → (field_from t at ≡ b ∷ field_from t (at + 1)) × (field_end t (at + 1) ≡ field_end t at)
@@ -208,39 +235,39 @@ first-right (b ∷ s) h k = go (among 48 57 b) (eqb b 48) refl h k
 -- ---- a number that is digits from `at` on
 
 module _ (t : List ℕ) (at most : ℕ) where
-  abbrev pub run_decimal : Number
+  abbrev pub run_decimal : Option (ℕ × ℕ)
   run_decimal = number_as (at + length (run (drop at t))) (read_decimal most (run (drop at t)))
 
-  not-read : read_decimal most (run (drop at t)) ≡ refused (refusal 20) → Number.Wrong ≡ run_decimal
+  not-read : read_decimal most (run (drop at t)) ≡ refused (refusal 20) → None ≡ run_decimal
   unfolding number_as
   not-read e = ap (number_as (at + length (run (drop at t)))) (sym e)
 
   first-at : at ≤ length t → get_or (drop at t) 0 0 ≡ get_or t at 0
   first-at h = get_or-drop at t 0 0 ∙ ap (λ (i : ℕ). get_or t i 0) (omega arith)
 
-  pub at-over : most < 2 ^ 64 → Number.Wrong ≡ run_as at (run (drop at t)) → Number.Wrong ≡ run_decimal
+  pub at-over : most < 2 ^ 64 → None ≡ run_as at (run (drop at t)) → None ≡ run_decimal
   at-over m e = not-read (decimal-over most _ (omega (arith, run-wrong t at e, m)))
 
-  module _ {n end : ℕ} (e : Number.Of n end ≡ run_as at (run (drop at t))) where
-    pub at_none : end ≤ at → Number.Wrong ≡ run_decimal
+  module _ {n end : ℕ} (e : Some (n, end) ≡ run_as at (run (drop at t))) where
+    pub at_none : end ≤ at → None ≡ run_decimal
     at_none h = not-read (decimal-spare most _ (none-spare (drop at t) (omega (arith, (run-right t at e).1))))
 
-    pub at-large : most < n → Number.Wrong ≡ run_decimal
+    pub at-large : most < n → None ≡ run_decimal
     at-large h = not-read (decimal-over most _ (omega (arith, (run-right t at e).0, h)))
 
     pub at-inside : at ≤ length t → end ≤ length t
     at-inside h = omega (arith, (run-right t at e).1, run_short (drop at t), length-drop at t)
 
-    pub at-spare : at ≤ length t → get_or t at 0 ≡ 48 → at + 1 < end → Number.Wrong ≡ run_decimal
+    pub at-spare : at ≤ length t → get_or t at 0 ≡ 48 → at + 1 < end → None ≡ run_decimal
     at-spare i z h = not-read (decimal-spare most _ (first-spare (drop at t) (first-at i ∙ z) (omega (arith, (run-right t at e).1))))
 
-    pub at-good : at ≤ length t → at < end → n ≤ most → (get_or t at 0 ≡ 48 → end ≤ at + 1) → Number.Of n end ≡ run_decimal
+    pub at-good : at ≤ length t → at < end → n ≤ most → (get_or t at 0 ≡ 48 → end ≤ at + 1) → Some (n, end) ≡ run_decimal
     unfolding number_as
     at-good i some small spare =
         let r = run-right t at e in
         let tight = first-right (drop at t) (omega (arith, r.1)) (λ z. let one = spare (sym (first-at i) ∙ z) in omega (arith, r.1, one)) in
         let reads = decimal-good most (run (drop at t)) tight (run-digits (drop at t)) (omega (arith, r.0)) in
-        (λ j. Number.Of (r.0 j) (r.1 j)) ∙ ap (number_as (at + length (run (drop at t)))) (sym reads)
+        (λ j. Some (r.0 j, r.1 j)) ∙ ap (number_as (at + length (run (drop at t)))) (sym reads)
 
 -- ---- a field that is a number
 
@@ -266,32 +293,32 @@ field-other t at h e = go (leb (length t) (at + length (run (drop at t)))) refl 
         (λ z. eqb-false _ 44 e (sym (get_or-drop at t (length (run (drop at t))) 0) ∙ z))
 
 module _ (t : List ℕ) (at most : ℕ) (inside : at ≤ length t) where
-  abbrev field_decimal : Number
+  abbrev field_decimal : Option (ℕ × ℕ)
   field_decimal = number_as (field_end t at) (read_decimal most (field_from t at))
 
-  unread : read_decimal most (field_from t at) ≡ refused (refusal 20) → Number.Wrong ≡ field_decimal
+  unread : read_decimal most (field_from t at) ≡ refused (refusal 20) → None ≡ field_decimal
   unfolding number_as
   unread e = ap (number_as (field_end t at)) (sym e)
 
   -- the digits are no number
-  pub field-wrong : Number.Wrong ≡ run_decimal t at most → Number.Wrong ≡ field_decimal
+  pub field-wrong : None ≡ run_decimal t at most → None ≡ field_decimal
   field-wrong e = go (ends_at t (at + length (run (drop at t)))) refl
     where
-      go : (b : Bool) → ends_at t (at + length (run (drop at t))) ≡ b → Number.Wrong ≡ field_decimal
+      go : (b : Bool) → ends_at t (at + length (run (drop at t))) ≡ b → None ≡ field_decimal
       go true k = e ∙ ap (λ (s : List ℕ). number_as (at + length s) (read_decimal most s)) (sym (field-run t at inside k))
       go false k = unread (decimal-other most (field_from t at) (field-other t at inside k))
 
-  module _ {n end : ℕ} (e : Number.Of n end ≡ run_decimal t at most) (is : end ≡ at + length (run (drop at t))) where
-    pub field-good : ends_at t end ≡ true → Number.Of n end ≡ field_decimal
+  module _ {n end : ℕ} (e : Some (n, end) ≡ run_decimal t at most) (is : end ≡ at + length (run (drop at t))) where
+    pub field-good : ends_at t end ≡ true → Some (n, end) ≡ field_decimal
     field-good k = e ∙ ap (λ (s : List ℕ). number_as (at + length s) (read_decimal most s)) (sym (field-run t at inside (ap (ends_at t) (sym is) ∙ k)))
 
-    pub field_open : ends_at t end ≡ false → Number.Wrong ≡ field_decimal
+    pub field_open : ends_at t end ≡ false → None ≡ field_decimal
     field_open k = unread (decimal-other most (field_from t at) (field-other t at inside (ap (ends_at t) (sym is) ∙ k)))
 
 -- what was read, and where it ends
-pub number-told : (end : ℕ) (r : Answer ℕ) {n next : ℕ} → Number.Of n next ≡ number_as end r → (r ≡ accepted n) × (next ≡ end)
+pub number-told : (end : ℕ) (r : Answer ℕ) {n next : ℕ} → Some (n, next) ≡ number_as end r → (r ≡ accepted n) × (next ≡ end)
 unfolding number_as
-number-told end (accepted m) e = (ap accepted (cc), cc)
+number-told end (accepted m) e = let k = some_pair_parts _ _ _ _ e in (ap accepted (sym k.0), k.1)
 number-told end (refused x) e = absurd (let z : ◌≡◌ {A = ℕ} 0 1 = cc in omega arith)
 
 -- no number is above its limit
@@ -307,11 +334,11 @@ decimal-most most s {n} e =
 -- ---- a field that is digits, a byte that stops them, and more
 
 -- no number, so 20
-pub number-wrong : (end most : ℕ) (s : List ℕ) → Number.Wrong ≡ number_as end (read_decimal most s) → read_decimal most s ≡ refused (refusal 20)
+pub number-wrong : (end most : ℕ) (s : List ℕ) → None ≡ number_as end (read_decimal most s) → read_decimal most s ≡ refused (refusal 20)
 unfolding number_as read_decimal check_at
 number-wrong end most s e = go (no_spare_zero s) (all_digits s) (leb (said s) most) e
   where
-    go : (a b c : Bool) → Number.Wrong ≡ number_as end (pick a (pick b (pick c (accepted (said s)) (refused (refusal 20))) (refused (refusal 20))) (refused (refusal 20)))
+    go : (a b c : Bool) → None ≡ number_as end (pick a (pick b (pick c (accepted (said s)) (refused (refusal 20))) (refused (refusal 20))) (refused (refusal 20)))
         → pick a (pick b (pick c (accepted (said s)) (refused (refusal 20))) (refused (refusal 20))) (refused (refusal 20)) ≡ refused (refusal 20)
     go true true true e = absurd (let z : ◌≡◌ {A = ℕ} 0 1 = cc in omega arith)
     go true true false e = refl
@@ -371,16 +398,16 @@ module _ (t : List ℕ) (at : ℕ) (inside : at ≤ length t) (c : ℕ) (no : am
       pub split-end : field_end t at ≡ field_end t (run_end + 1)
       split-end = omega (arith, stops.size, ap length next)
 
-      pub split-on : {n end : ℕ} → Number.Of n end ≡ run_decimal t at most → split_field ≡ f n (field_from t (run_end + 1))
+      pub split-on : {n end : ℕ} → Some (n, end) ≡ run_decimal t at most → split_field ≡ f n (field_from t (run_end + 1))
       split-on {n} e =
           ap (λ (s : List ℕ). on_accepted (read_decimal most s) (λ n. f n (behind c (field_from t at)))) stops.first
           ∙ on_accepted-passed (read_decimal most (run (drop at t))) _ (number-told _ _ e).0
           ∙ ap (f n) (stops.second ∙ next)
 
-      split-refused : Number.Wrong ≡ run_decimal t at most → split_field ≡ refused (refusal 20)
+      split-refused : None ≡ run_decimal t at most → split_field ≡ refused (refusal 20)
       split-refused e =
           ap (λ (s : List ℕ). on_accepted (read_decimal most s) (λ n. f n (behind c (field_from t at)))) stops.first
           ∙ on_accepted-refused (read_decimal most (run (drop at t))) _ (number-wrong _ most _ e)
 
-    pub split-wrong : Number.Wrong ≡ run_decimal t at most → split_field ≡ refused (refusal 20)
+    pub split-wrong : None ≡ run_decimal t at most → split_field ≡ refused (refusal 20)
     split-wrong e = by-stop (λ h k. split-refused h k e) split-open

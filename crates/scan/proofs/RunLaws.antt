@@ -1,5 +1,8 @@
 -- The digits that text begins with, one by one, and what a field that begins with them is.
-use Prim.Native.Nat.{ℕ, suc, ◌+◌, ◌-◌, ◌*◌, ◌%◌, ◌^◌, ◌≤◌, ◌<◌}
+use Rattle.std.proofs.lemmas.Option.{some_pair_parts}
+use Rattle.std.specs.Char.{is_ascii_digit}
+use Rattle.std.specs.Prelude.{◌&&◌, Some, None}
+use Prim.Native.Nat.{ℕ, suc, ◌+◌, ◌-◌, ◌*◌, ◌^◌, ◌≤◌, ◌<◌}
 use native.Mathlib.Nat.{le_refl}
 use native.Mathlib.Omega.{arith}
 use mathlib.Core.Path.{◌≡◌, refl, sym, ap, ◌∙◌, subst}
@@ -17,35 +20,24 @@ use Rattle.wire.proofs.Accepting.{both_true, check-failed, check-passed}
 use Rattle.text.specs.Hex.{among}
 use Rattle.line.proofs.DecimalLaws.{value_grows}
 use Rattle.line.specs.LineReader.{all_digits, digits_of, said, no_spare_zero, read_decimal}
-use Rattle.scan.specs.declared.Number.{Number}
 use Rattle.scan.specs.Fields.{run, number_as, run_as}
-
--- ---- a digit, by its distance from 48
-
-pub digit-yes : (c : ℕ) → c < 256 → (c + 208) % 256 ≤ 9 → (among 48 57 c ≡ true) × (c - 48 ≡ (c + 208) % 256)
-digit-yes c b h =
-    let low : 48 ≤ c = omega arith in
-    let high : c ≤ 57 = omega arith in
-    (simp (le-leb 48 c low, le-leb c 57 high), omega arith)
-
-pub digit-no : (c : ℕ) → c < 256 → 9 < (c + 208) % 256 → among 48 57 c ≡ false
-digit-no c b h = go (among 48 57 c) refl
-  where
-    go : (t : Bool) → among 48 57 c ≡ t → among 48 57 c ≡ false
-    go true e =
-        let k = both_true (leb 48 c) (leb c 57) e in
-        absurd (omega (arith, leb-true 48 c k.0, leb-true c 57 k.1))
-    go false e = e
 
 -- ---- the run by its first byte
 
-run-digit : (c : ℕ) (s : List ℕ) → among 48 57 c ≡ true → run (c ∷ s) ≡ c ∷ run s
-unfolding run
-run-digit c s e = simp e
+digit-test : (c : ℕ) → among 48 57 c ≡ is_ascii_digit c
+digit-test c = go (leb 48 c) (leb c 57)
+  where
+    go : (a b : Bool) → pick a b false ≡ (a && b)
+    go true b = refl
+    go false b = refl
 
-run-other : (c : ℕ) (s : List ℕ) → among 48 57 c ≡ false → run (c ∷ s) ≡ []
+run-digit : (c : ℕ) (s : List ℕ) → is_ascii_digit c ≡ true → run (c ∷ s) ≡ c ∷ run s
 unfolding run
-run-other c s e = simp e
+run-digit c s e = simp (digit-test c ∙ e)
+
+run-other : (c : ℕ) (s : List ℕ) → is_ascii_digit c ≡ false → run (c ∷ s) ≡ []
+unfolding run
+run-other c s e = simp (digit-test c ∙ e)
 
 -- ---- the loop: what was read, and what is left
 
@@ -60,53 +52,51 @@ module _ (t : List ℕ) (at : ℕ) where
   run-start h = record { from = le_refl at; inside = h; value = refl; place = refl }
 
   module _ {n i : ℕ} (l : RunLeft t at n i) where
-    module _ (h : i < length t) (b : get_or t i 0 < 256) where
-      module _ (k : (get_or t i 0 + 208) % 256 ≤ 9) where
-        head : run (drop i t) ≡ get_or t i 0 ∷ run (drop (suc i) t)
-        head = ap run (drop-cons t i 0 h) ∙ run-digit (get_or t i 0) (drop (suc i) t) (digit-yes (get_or t i 0) b k).0
+    module _ (h : i < length t) (k : is_ascii_digit (get_or t i 0) ≡ true) where
+      head : run (drop i t) ≡ get_or t i 0 ∷ run (drop (suc i) t)
+      head = ap run (drop-cons t i 0 h) ∙ run-digit (get_or t i 0) (drop (suc i) t) k
 
-        pub run-turn : RunLeft t at (n * 10 + (get_or t i 0 + 208) % 256) (i + 1)
-        unfolding digits_of value_from
-        run-turn =
-            let next : suc i ≡ i + 1 = omega arith in
-            let more = head in
-            let same : run (drop (suc i) t) ≡ run (drop (i + 1) t) = ap (λ (j : ℕ). run (drop j t)) next in
-            let size = ap length more in
-            record {
-              from = omega (arith, l.from);
-              inside = omega arith;
-              value =
-                  ap (λ (s : List ℕ). value_from 10 (n * 10 + (get_or t i 0 + 208) % 256) (digits_of s)) (sym same)
-                  ∙ ap (λ (d : ℕ). value_from 10 (n * 10 + d) (digits_of (run (drop (suc i) t)))) (sym (digit-yes (get_or t i 0) b k).1)
-                  ∙ ap (λ (s : List ℕ). value_from 10 n (digits_of s)) (sym more)
-                  ∙ l.value;
-              place = omega (arith, l.place, size, ap length same);
-            }
+      pub run-turn : RunLeft t at (n * 10 + (get_or t i 0 - 48)) (i + 1)
+      unfolding digits_of value_from
+      run-turn =
+          let next : suc i ≡ i + 1 = omega arith in
+          let more = head in
+          let same : run (drop (suc i) t) ≡ run (drop (i + 1) t) = ap (λ (j : ℕ). run (drop j t)) next in
+          let size = ap length more in
+          record {
+            from = omega (arith, l.from);
+            inside = omega arith;
+            value =
+                ap (λ (s : List ℕ). value_from 10 (n * 10 + (get_or t i 0 - 48)) (digits_of s)) (sym same)
+                ∙ ap (λ (s : List ℕ). value_from 10 n (digits_of s)) (sym more)
+                ∙ l.value;
+            place = omega (arith, l.place, size, ap length same);
+          }
 
-        -- too large now, too large at the end
-        pub run-large : 2 ^ 64 ≤ n * 10 + (get_or t i 0 + 208) % 256 → Number.Wrong ≡ run_as at (run (drop at t))
-        unfolding run_as number_as check_at
-        run-large big =
-            let m = run-turn in
-            let grows = value_grows (n * 10 + (get_or t i 0 + 208) % 256) (run (drop (i + 1) t)) in
-            let over : 2 ^ 64 - 1 < said (run (drop at t)) = omega (arith, big, grows, m.value) in
-            sym (simp (lt-leb (said (run (drop at t))) (2 ^ 64 - 1) over))
+      -- too large now, too large at the end
+      pub run-large : 2 ^ 64 ≤ n * 10 + (get_or t i 0 - 48) → None ≡ run_as at (run (drop at t))
+      unfolding run_as number_as check_at
+      run-large big =
+          let m = run-turn in
+          let grows = value_grows (n * 10 + (get_or t i 0 - 48)) (run (drop (i + 1) t)) in
+          let over : 2 ^ 64 - 1 < said (run (drop at t)) = omega (arith, big, grows, m.value) in
+          sym (simp (lt-leb (said (run (drop at t))) (2 ^ 64 - 1) over))
 
     -- no digit is left
-    pub run-done : run (drop i t) ≡ [] → n < 2 ^ 64 → Number.Of n i ≡ run_as at (run (drop at t))
+    pub run-done : run (drop i t) ≡ [] → n < 2 ^ 64 → Some (n, i) ≡ run_as at (run (drop at t))
     unfolding run_as number_as check_at digits_of value_from
     run-done e small =
         let value : n ≡ said (run (drop at t)) = ap (λ (s : List ℕ). value_from 10 n (digits_of s)) (sym e) ∙ l.value in
         let place : i ≡ at + length (run (drop at t)) = omega (arith, l.place, ap length e) in
         let fits : said (run (drop at t)) ≤ 2 ^ 64 - 1 = omega (arith, value, small) in
-        (λ j. Number.Of (value j) (place j)) ∙ sym (simp (le-leb (said (run (drop at t))) (2 ^ 64 - 1) fits))
+        (λ j. Some (value j, place j)) ∙ sym (simp (le-leb (said (run (drop at t))) (2 ^ 64 - 1) fits))
 
-    pub run-stop : i < length t → get_or t i 0 < 256 → 9 < (get_or t i 0 + 208) % 256 → n < 2 ^ 64 → Number.Of n i ≡ run_as at (run (drop at t))
-    run-stop h b k small = run-done (ap run (drop-cons t i 0 h) ∙ run-other (get_or t i 0) (drop (suc i) t) (digit-no (get_or t i 0) b k)) small
+    pub run-stop : i < length t → is_ascii_digit (get_or t i 0) ≡ false → n < 2 ^ 64 → Some (n, i) ≡ run_as at (run (drop at t))
+    run-stop h k small = run-done (ap run (drop-cons t i 0 h) ∙ run-other (get_or t i 0) (drop (suc i) t) k) small
 
-    pub run_end : length t ≤ i → n < 2 ^ 64 → Number.Of n i ≡ run_as at (run (drop at t))
+    pub run_end : length t ≤ i → n < 2 ^ 64 → Some (n, length t) ≡ run_as at (run (drop at t))
     unfolding run
-    run_end h small = run-done (ap run (drop_of_length-le t {i = i} h)) small
+    run_end h small = let all : length t ≡ i = omega (arith, h, l.inside) in ap (λ (j : ℕ). Some (n, j)) all ∙ run-done (ap run (drop_of_length-le t {i = i} h)) small
 
 -- ---- a number without spare zeros
 
@@ -147,22 +137,22 @@ run-digits (c ∷ s) = go (among 48 57 c) refl (run-digits s)
 -- what a run tells, of the text that it stands in
 module _ (t : List ℕ) (at : ℕ) where
   -- too large for 64 bits
-  pub run-wrong : Number.Wrong ≡ run_as at (run (drop at t)) → 2 ^ 64 ≤ said (run (drop at t))
+  pub run-wrong : None ≡ run_as at (run (drop at t)) → 2 ^ 64 ≤ said (run (drop at t))
   unfolding run_as number_as check_at
   run-wrong e = go (leb (said (run (drop at t))) (2 ^ 64 - 1)) refl (e)
     where
       go : (b : Bool) → leb (said (run (drop at t))) (2 ^ 64 - 1) ≡ b
-          → Number.Wrong ≡ number_as (at + length (run (drop at t))) (check b 20 (accepted (said (run (drop at t))))) → 2 ^ 64 ≤ said (run (drop at t))
+          → None ≡ number_as (at + length (run (drop at t))) (check b 20 (accepted (said (run (drop at t))))) → 2 ^ 64 ≤ said (run (drop at t))
       go true e h = absurd (let z : ◌≡◌ {A = ℕ} 0 1 = cc in omega arith)
       go false e h = omega (arith, leb-false (said (run (drop at t))) (2 ^ 64 - 1) e)
 
-  pub run-right : {n end : ℕ} → Number.Of n end ≡ run_as at (run (drop at t)) → (n ≡ said (run (drop at t))) × (end ≡ at + length (run (drop at t)))
+  pub run-right : {n end : ℕ} → Some (n, end) ≡ run_as at (run (drop at t)) → (n ≡ said (run (drop at t))) × (end ≡ at + length (run (drop at t)))
   unfolding run_as number_as check_at
   run-right {n} {end} e = go (leb (said (run (drop at t))) (2 ^ 64 - 1)) e
     where
-      go : (b : Bool) → Number.Of n end ≡ number_as (at + length (run (drop at t))) (check b 20 (accepted (said (run (drop at t)))))
+      go : (b : Bool) → Some (n, end) ≡ number_as (at + length (run (drop at t))) (check b 20 (accepted (said (run (drop at t)))))
           → (n ≡ said (run (drop at t))) × (end ≡ at + length (run (drop at t)))
-      go true h = (cc, cc)
+      go true h = some_pair_parts _ _ _ _ h
       go false h = absurd (let z : ◌≡◌ {A = ℕ} 0 1 = cc in omega arith)
 
 -- ---- so many digits say a number below that power of ten

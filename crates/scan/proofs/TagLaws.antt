@@ -1,4 +1,6 @@
 -- Reading a tag byte by byte: what stands at an offset, and what that makes of the whole.
+use Rattle.std.proofs.lemmas.Option.{some_pair_parts}
+use Rattle.std.specs.Prelude.{Some, None}
 use Prim.Native.Nat.{ℕ, suc, ◌+◌, ◌-◌, ◌*◌, ◌≤◌, ◌<◌}
 use native.Mathlib.Numerals.{add-one}
 use native.Mathlib.Omega.{arith}
@@ -18,12 +20,10 @@ use Rattle.text.specs.Hex.{among}
 use Rattle.line.specs.Pieces.{before}
 use Rattle.line.specs.Lines.{is_plain}
 use Rattle.line.specs.LineReader.{Escape, none, slash, high, read_hex, read_tag}
-use Rattle.scan.specs.declared.Hex.{Hex}
-use Rattle.scan.specs.declared.Tag.{Tag}
 use Rattle.line.proofs.PieceLaws.{before-short}
-use Rattle.scan.specs.Fields.{field_from}
+use Rattle.scan.specs.Fields.{field_from, ends_at}
 use Rattle.scan.specs.Tags.{hex_as, tag_as, Gives, TagText, TagStored}
-use Rattle.scan.proofs.FieldLaws.{field-behind, field-comma, field-byte}
+use Rattle.scan.proofs.FieldLaws.{field-behind, field-byte, ends-nothing, ends-not}
 
 -- ---- hex digits
 
@@ -49,17 +49,17 @@ digit-of c =
     (λ _. either (DigitOf c) (among 65 70 c) (λ e. (omega (arith, among-low 65 70 c e, among-high 65 70 c e), ne_eqb c 44 (λ z. omega (arith, among-low 65 70 c e))))
     (λ _. refl))
 
-is_digit : (c : ℕ) (a : Answer ℕ) {d : ℕ} → DigitOf c a → hex_as a ≡ Hex.Of d → (a ≡ accepted d) × (d < 16) × (eqb c 44 ≡ false)
+is_digit : (c : ℕ) (a : Answer ℕ) {d : ℕ} → DigitOf c a → hex_as a ≡ Some d → (a ≡ accepted d) × (d < 16) × (eqb c 44 ≡ false)
 unfolding hex_as
 is_digit c (accepted x) {d} h e = let same : x ≡ d = cc in (ap accepted same, omega (arith, h.0, same), h.1)
 is_digit c (refused r) h e = absurd (let z : ◌≡◌ {A = ℕ} 0 1 = cc in omega arith)
 
-no_digit : (c : ℕ) (a : Answer ℕ) → DigitOf c a → hex_as a ≡ Hex.Wrong → a ≡ refused (refusal 20)
+no_digit : (c : ℕ) (a : Answer ℕ) → DigitOf c a → hex_as a ≡ None → a ≡ refused (refusal 20)
 unfolding hex_as
 no_digit c (accepted x) h e = absurd (let z : ◌≡◌ {A = ℕ} 0 1 = cc in omega arith)
 no_digit c (refused r) h e = ap refused h
 
-pub digit-small : (c : ℕ) {d : ℕ} → hex_as (read_hex c) ≡ Hex.Of d → d < 16
+pub digit-small : (c : ℕ) {d : ℕ} → hex_as (read_hex c) ≡ Some d → d < 16
 digit-small c e = (is_digit c (read_hex c) (digit-of c) e).1
 
 -- ---- what is left of a field
@@ -93,26 +93,26 @@ pub escape-short : (t : List ℕ) (i : ℕ) → length t - i < 2 → Wrong slash
 escape-short t i h = short-wrong (field_from t i) (omega (arith, before-short 44 (drop i t), length-drop i t))
 
 module _ (t : List ℕ) (i : ℕ) (inside : i + 1 < length t) where
-  pub escape-first : hex_as (read_hex (get_or t i 0)) ≡ Hex.Wrong → Wrong slash (field_from t i)
+  pub escape-first : hex_as (read_hex (get_or t i 0)) ≡ None → Wrong slash (field_from t i)
   unfolding read_tag on_accepted
   escape-first e =
       let off = no_digit (get_or t i 0) (read_hex (get_or t i 0)) (digit-of (get_or t i 0)) e in
       rest-either t i (omega arith) (Wrong slash) refl (simp off)
 
-  module _ {h : ℕ} (first : hex_as (read_hex (get_or t i 0)) ≡ Hex.Of h) where
+  module _ {h : ℕ} (first : hex_as (read_hex (get_or t i 0)) ≡ Some h) where
     escape-on : read_tag slash (field_from t i) ≡ read_tag (high h) (field_from t (i + 1))
     unfolding read_tag on_accepted
     escape-on =
         let d = is_digit (get_or t i 0) (read_hex (get_or t i 0)) (digit-of (get_or t i 0)) first in
         rw (field-byte t i (omega arith) d.2) (simp d.0)
 
-    pub escape-second : hex_as (read_hex (get_or t (i + 1) 0)) ≡ Hex.Wrong → Wrong slash (field_from t i)
+    pub escape-second : hex_as (read_hex (get_or t (i + 1) 0)) ≡ None → Wrong slash (field_from t i)
     unfolding read_tag on_accepted
     escape-second e =
         let off = no_digit (get_or t (i + 1) 0) (read_hex (get_or t (i + 1) 0)) (digit-of (get_or t (i + 1) 0)) e in
         escape-on ∙ rest-either t (i + 1) (omega arith) (Wrong (high h)) refl (simp off)
 
-    module _ {l : ℕ} (second : hex_as (read_hex (get_or t (i + 1) 0)) ≡ Hex.Of l) where
+    module _ {l : ℕ} (second : hex_as (read_hex (get_or t (i + 1) 0)) ≡ Some l) where
       pub escape-plain : is_plain (h * 16 + l) ≡ true → Wrong slash (field_from t i)
       unfolding read_tag on_accepted check_at
       escape-plain e =
@@ -144,23 +144,20 @@ unfolding read_tag
 piece-none t i e = rw (field-behind t i (omega arith)) refl
 
 module _ (t : List ℕ) (i : ℕ) (inside : i < length t) where
-  quote-end : get_or t i 0 ≡ 34 → field_from t (i + 1) ≡ [] → (read_tag none (field_from t i) ≡ accepted []) × (length (field_from t i) ≡ 1)
+  -- the field ends behind the quote
+  pub piece-end : get_or t i 0 ≡ 34 → ends_at t (i + 1) ≡ true → (read_tag none (field_from t i) ≡ accepted []) × (length (field_from t i) ≡ 1)
   unfolding read_tag check_at
-  quote-end q e =
+  piece-end q k =
+      let e = ends-nothing t (i + 1) k in
       let whole : field_from t i ≡ 34 ∷ [] = field-byte t i inside (rw q refl) ∙ rw (q, e) refl in
       (rw whole refl, ap length whole)
 
-  pub piece-last : get_or t i 0 ≡ 34 → i + 1 ≡ length t → (read_tag none (field_from t i) ≡ accepted []) × (length (field_from t i) ≡ 1)
-  piece-last q e = quote-end q (field-behind t (i + 1) (omega arith))
-
-  pub piece-comma : get_or t i 0 ≡ 34 → i + 1 < length t → get_or t (i + 1) 0 ≡ 44 → (read_tag none (field_from t i) ≡ accepted []) × (length (field_from t i) ≡ 1)
-  piece-comma q h e = quote-end q (field-comma t (i + 1) h e)
-
   -- the quote is not the field's last byte
-  pub piece-early : get_or t i 0 ≡ 34 → i + 1 < length t → (get_or t (i + 1) 0 ≡ 44 → ⊥) → Wrong none (field_from t i)
+  pub piece-early : get_or t i 0 ≡ 34 → ends_at t (i + 1) ≡ false → Wrong none (field_from t i)
   unfolding read_tag check_at
-  piece-early q h e =
-      let whole : field_from t i ≡ 34 ∷ get_or t (i + 1) 0 ∷ field_from t (i + 1 + 1) = field-byte t i inside (rw q refl) ∙ rw (q, field-byte t (i + 1) h (ne_eqb _ _ e)) refl in
+  piece-early q k =
+      let e = ends-not t (i + 1) k in
+      let whole : field_from t i ≡ 34 ∷ get_or t (i + 1) 0 ∷ field_from t (i + 1 + 1) = field-byte t i inside (rw q refl) ∙ rw (q, field-byte t (i + 1) e.0 e.1) refl in
       rw whole (simp (ne_eqb (suc (length (field_from t (i + 1 + 1)))) 0 (λ z. omega arith)))
 
   slash-on : get_or t i 0 ≡ 92 → field_from t i ≡ 92 ∷ field_from t (i + 1)
@@ -260,13 +257,13 @@ module _ {t : List ℕ} {at size i : ℕ} (c : CountedTo t at size i) where
   pub counted-behind : size ≤ i
   counted-behind = omega (arith, c.come.behind, c.count)
 
-  pub counted-done : (read_tag none (field_from t i) ≡ accepted []) × (length (field_from t i) ≡ 1) → Tag.Of size (i + 1) ≡ tag_as (at + length (field_from t at)) (read_tag none (field_from t at))
+  pub counted-done : (read_tag none (field_from t i) ≡ accepted []) × (length (field_from t i) ≡ 1) → Some (size, i + 1) ≡ tag_as (at + length (field_from t at)) (read_tag none (field_from t at))
   unfolding tag_as
   counted-done e =
       let end : at + length (field_from t at) ≡ i + 1 = omega (arith, c.come.place, e.1) in
       rw (come-end c.come e.0, end, c.count) refl
 
-  pub counted-wrong : Wrong none (field_from t i) → Tag.Wrong ≡ tag_as (at + length (field_from t at)) (read_tag none (field_from t at))
+  pub counted-wrong : Wrong none (field_from t i) → None ≡ tag_as (at + length (field_from t at)) (read_tag none (field_from t at))
   unfolding tag_as
   counted-wrong e = rw (come-wrong c.come e) refl
 
@@ -304,12 +301,12 @@ module _ {t out₀ out : List ℕ} {at to i : ℕ} (s : StoredTo t out₀ out at
 
 -- ---- for whoever reads a tag and stores it then
 
-tag_of : (end : ℕ) (r : Answer (List ℕ)) {size end' : ℕ} → tag_as end r ≡ Tag.Of size end' → (b : List ℕ) × (r ≡ accepted b) × (length b ≡ size) × (end ≡ end')
+tag_of : (end : ℕ) (r : Answer (List ℕ)) {size end' : ℕ} → tag_as end r ≡ Some (size, end') → (b : List ℕ) × (r ≡ accepted b) × (length b ≡ size) × (end ≡ end')
 unfolding tag_as
-tag_of end (accepted b) e = (b, refl, cc, cc)
+tag_of end (accepted b) e = let k = some_pair_parts _ _ _ _ e in (b, refl, k.0, k.1)
 tag_of end (refused x) e = absurd (let z : ◌≡◌ {A = ℕ} 0 1 = cc in omega arith)
 
-pub tag-text : (t : List ℕ) (at end : ℕ) {size end' : ℕ} → tag_as end (read_tag none (before 44 (drop at t))) ≡ Tag.Of size end'
+pub tag-text : (t : List ℕ) (at end : ℕ) {size end' : ℕ} → tag_as end (read_tag none (before 44 (drop at t))) ≡ Some (size, end')
     → (x : TagText t at) × (length x.bytes ≡ size) × (end ≡ end')
 tag-text t at end e =
     let r = tag_of end (read_tag none (before 44 (drop at t))) e in

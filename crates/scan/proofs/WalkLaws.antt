@@ -1,4 +1,9 @@
 -- The walk along a line's fields.
+use Rattle.std.proofs.lemmas.Option.{some_pair_parts}
+use Rattle.std.specs.Result.{result_ok, IsErrAnd}
+use Rattle.std.proofs.lemmas.Result.{err_from_is_err_and}
+use Rattle.std.specs.Option.{ok_or}
+use Rattle.std.specs.Prelude.{Option, Some, None, Result, Ok, Err}
 use Prim.Native.Nat.{ℕ, suc, ◌+◌, ◌-◌, ◌^◌, ◌≤◌, ◌<◌}
 use native.Mathlib.Nat.{add-zero}
 use native.Mathlib.Omega.{arith}
@@ -23,12 +28,8 @@ use Rattle.line.specs.LineReader.{read_decimal, read_degrees, read_printed, is_t
 use Rattle.line.specs.LineElements.{start_from, field_start}
 use Rattle.line.proofs.DegreesLaws.{degrees-inverse}
 use Rattle.line.proofs.PieceLaws.{before-short, pieces-last, pieces_more}
-use Rattle.scan.specs.declared.Number.{Number}
-use Rattle.scan.specs.declared.Degrees.{Degrees}
 use Rattle.scan.specs.declared.Item.{Item}
-use Rattle.scan.specs.declared.Passed.{Passed}
-use Rattle.scan.specs.declared.Rest.{Rest}
-use Rattle.scan.specs.declared.Judged.{Judged}
+use Rattle.scan.specs.declared.LineFields.{LineFields}
 use Rattle.scan.specs.Fields.{field_from, field_end, number_as, degrees_as, item_as}
 use Rattle.scan.specs.Walking.{pieces_from, elements_on, speed_on, longitude_on, passed_as, rest_as, line_result, judged_as}
 
@@ -63,48 +64,48 @@ pieces_step t at h =
 -- ---- an element passed
 
 module _ (start end : ℕ) (r : Answer Printed) where
-  pub pass-number : {id n last : ℕ} → Item.Number id n last ≡ item_as start end r → Passed.On (last + 1) false ≡ passed_as (end + 1) r
+  pub pass-number : {id n last : ℕ} → Some (Item.Number id n last) ≡ item_as start end r → Some (last + 1, false) ≡ passed_as (end + 1) r
   unfolding item_as passed_as is_tag
   pass-number = go r
     where
-      go : (r : Answer Printed) {id n last : ℕ} → Item.Number id n last ≡ item_as start end r → Passed.On (last + 1) false ≡ passed_as (end + 1) r
-      go (accepted (number i m)) {last = last} e = let l : last ≡ end = cc in ap (λ (k : ℕ). Passed.On (k + 1) false) l
+      go : (r : Answer Printed) {id n last : ℕ} → Some (Item.Number id n last) ≡ item_as start end r → Some (last + 1, false) ≡ passed_as (end + 1) r
+      go (accepted (number i m)) {last = last} e = let l : last ≡ end = cc in ap (λ (k : ℕ). Some (k + 1, false)) l
       go (accepted (tag i b)) e = absurd (let z : ◌≡◌ {A = ℕ} 0 1 = cc in omega arith)
       go (refused x) e = absurd (let z : ◌≡◌ {A = ℕ} 0 1 = cc in omega arith)
 
-  pub pass-tag : {id from size last : ℕ} → Item.Tag id from size last ≡ item_as start end r → Passed.On (last + 1) true ≡ passed_as (end + 1) r
+  pub pass-tag : {id from size last : ℕ} → Some (Item.Tag id from size last) ≡ item_as start end r → Some (last + 1, true) ≡ passed_as (end + 1) r
   unfolding item_as passed_as is_tag
   pass-tag = go r
     where
-      go : (r : Answer Printed) {id from size last : ℕ} → Item.Tag id from size last ≡ item_as start end r → Passed.On (last + 1) true ≡ passed_as (end + 1) r
+      go : (r : Answer Printed) {id from size last : ℕ} → Some (Item.Tag id from size last) ≡ item_as start end r → Some (last + 1, true) ≡ passed_as (end + 1) r
       go (accepted (number i m)) e = absurd (let z : ◌≡◌ {A = ℕ} 0 1 = cc in omega arith)
-      go (accepted (tag i b)) {last = last} e = let l : last ≡ end = cc in ap (λ (k : ℕ). Passed.On (k + 1) true) l
+      go (accepted (tag i b)) {last = last} e = let l : last ≡ end = cc in ap (λ (k : ℕ). Some (k + 1, true)) l
       go (refused x) e = absurd (let z : ◌≡◌ {A = ℕ} 0 1 = cc in omega arith)
 
-  pub pass-wrong : Item.Wrong ≡ item_as start end r → Passed.Wrong ≡ passed_as (end + 1) r
+  pub pass-wrong : None ≡ item_as start end r → None ≡ passed_as (end + 1) r
   unfolding item_as passed_as
   pass-wrong = go r
     where
-      go : (r : Answer Printed) → Item.Wrong ≡ item_as start end r → Passed.Wrong ≡ passed_as (end + 1) r
+      go : (r : Answer Printed) → None ≡ item_as start end r → None ≡ passed_as (end + 1) r
       go (accepted (number i m)) e = absurd (let z : ◌≡◌ {A = ℕ} 0 1 = cc in omega arith)
       go (accepted (tag i b)) e = absurd (let z : ◌≡◌ {A = ℕ} 0 1 = cc in omega arith)
       go (refused x) e = refl
 
   -- where it ends
-  pub number-end : {id n last : ℕ} → Item.Number id n last ≡ item_as start end r → last ≡ end
+  pub number-end : {id n last : ℕ} → Some (Item.Number id n last) ≡ item_as start end r → last ≡ end
   unfolding item_as
   number-end = go r
     where
-      go : (r : Answer Printed) {id n last : ℕ} → Item.Number id n last ≡ item_as start end r → last ≡ end
+      go : (r : Answer Printed) {id n last : ℕ} → Some (Item.Number id n last) ≡ item_as start end r → last ≡ end
       go (accepted (number i m)) e = cc
       go (accepted (tag i b)) e = absurd (let z : ◌≡◌ {A = ℕ} 0 1 = cc in omega arith)
       go (refused x) e = absurd (let z : ◌≡◌ {A = ℕ} 0 1 = cc in omega arith)
 
-  pub tag-end : {id from size last : ℕ} → Item.Tag id from size last ≡ item_as start end r → last ≡ end
+  pub tag-end : {id from size last : ℕ} → Some (Item.Tag id from size last) ≡ item_as start end r → last ≡ end
   unfolding item_as
   tag-end = go r
     where
-      go : (r : Answer Printed) {id from size last : ℕ} → Item.Tag id from size last ≡ item_as start end r → last ≡ end
+      go : (r : Answer Printed) {id from size last : ℕ} → Some (Item.Tag id from size last) ≡ item_as start end r → last ≡ end
       go (accepted (number i m)) e = absurd (let z : ◌≡◌ {A = ℕ} 0 1 = cc in omega arith)
       go (accepted (tag i b)) e = cc
       go (refused x) e = absurd (let z : ◌≡◌ {A = ℕ} 0 1 = cc in omega arith)
@@ -112,13 +113,13 @@ module _ (start end : ℕ) (r : Answer Printed) where
 -- ---- the loop over elements
 
 -- so many elements, and those that are read further on
-unfoldable pub counted : ℕ → Read (List Printed) → Rest
-counted n (got es k) = Rest.Of (n + length es)
-counted n (bad x) = Rest.Wrong x.place
+unfoldable pub counted : ℕ → Read (List Printed) → Result ℕ ℕ
+counted n (got es k) = Ok (n + length es)
+counted n (bad x) = Err x.place
 
 counted-more : (n : ℕ) (e : Printed) (r : Read (List Printed)) → counted n (and_then r (λ es k. got (e ∷ es) k)) ≡ counted (n + 1) r
 unfolding counted and_then
-counted-more n e (got es k) = ap Rest.Of (omega arith)
+counted-more n e (got es k) = ap Ok (omega arith)
 counted-more n e (bad x) = refl
 
 pub record ElementsLeft (t : List ℕ) (at next : ℕ) (tags : Bool) (count : ℕ) : Type 0 where
@@ -126,12 +127,12 @@ pub record ElementsLeft (t : List ℕ) (at next : ℕ) (tags : Bool) (count : �
   pub few : count ≤ next
   pub rest : counted count (read_elements tags next (pieces_from t next)) ≡ rest_as (read_elements false at (pieces_from t at))
 
-passed_on : (next : ℕ) (r : Answer Printed) {n : ℕ} {b : Bool} → Passed.On n b ≡ passed_as next r → (e : Printed) × (r ≡ accepted e) × (b ≡ is_tag e) × (n ≡ next)
+passed_on : (next : ℕ) (r : Answer Printed) {n : ℕ} {b : Bool} → Some (n, b) ≡ passed_as next r → (e : Printed) × (r ≡ accepted e) × (b ≡ is_tag e) × (n ≡ next)
 unfolding passed_as
-passed_on next (accepted e) h = (e, refl, cc, cc)
+passed_on next (accepted e) h = let k = some_pair_parts _ _ _ _ h in (e, refl, k.1, k.0)
 passed_on next (refused x) h = absurd (let z : ◌≡◌ {A = ℕ} 0 1 = cc in omega arith)
 
-passed-wrong : (next : ℕ) (r : Answer Printed) → Passed.Wrong ≡ passed_as next r → (x : Refusal) × (r ≡ refused x)
+passed-wrong : (next : ℕ) (r : Answer Printed) → None ≡ passed_as next r → (x : Refusal) × (r ≡ refused x)
 unfolding passed_as
 passed-wrong next (accepted e) h = absurd (let z : ◌≡◌ {A = ℕ} 0 1 = cc in omega arith)
 passed-wrong next (refused x) h = (x, refl)
@@ -142,14 +143,14 @@ module _ (t : List ℕ) (at : ℕ) where
   left-start h = record { inside = h; few = omega arith; rest = go (read_elements false at (pieces_from t at)) }
     where
       go : (r : Read (List Printed)) → counted 0 r ≡ rest_as r
-      go (got es n) = ap Rest.Of (omega arith)
+      go (got es n) = ap Ok (omega arith)
       go (bad x) = refl
 
   module _ {next count : ℕ} {tags : Bool} (l : ElementsLeft t at next tags count) where
-    pub left-done : length t < next → Rest.Of count ≡ rest_as (read_elements false at (pieces_from t at))
+    pub left-done : length t < next → Ok count ≡ rest_as (read_elements false at (pieces_from t at))
     unfolding counted read_elements
     left-done h =
-        ap Rest.Of (sym (add-zero count)) ∙ ap (λ (ps : List (List ℕ)). counted count (read_elements tags next ps)) (sym (pieces_none t next h)) ∙ l.rest
+        ap Ok (sym (add-zero count)) ∙ ap (λ (ps : List (List ℕ)). counted count (read_elements tags next ps)) (sym (pieces_none t next h)) ∙ l.rest
 
     module _ (h : next ≤ length t) where
       step : read_elements tags next (pieces_from t next)
@@ -157,7 +158,7 @@ module _ (t : List ℕ) (at : ℕ) where
       unfolding read_elements
       step = ap (read_elements tags next) (pieces_step t next h)
 
-      pub left-wrong : Passed.Wrong ≡ passed_as (field_end t next + 1) (read_printed tags (field_from t next)) → Rest.Wrong next ≡ rest_as (read_elements false at (pieces_from t at))
+      pub left-wrong : None ≡ passed_as (field_end t next + 1) (read_printed tags (field_from t next)) → Err next ≡ rest_as (read_elements false at (pieces_from t at))
       unfolding counted on_field
       left-wrong e =
           let k = passed-wrong (field_end t next + 1) (read_printed tags (field_from t next)) e in
@@ -165,7 +166,7 @@ module _ (t : List ℕ) (at : ℕ) where
           ∙ ap (counted count) (sym step)
           ∙ l.rest
 
-      pub left-turn : {n : ℕ} {b : Bool} → Passed.On n b ≡ passed_as (field_end t next + 1) (read_printed tags (field_from t next)) → ElementsLeft t at n b (count + 1)
+      pub left-turn : {n : ℕ} {b : Bool} → Some (n, b) ≡ passed_as (field_end t next + 1) (read_printed tags (field_from t next)) → ElementsLeft t at n b (count + 1)
       unfolding on_field
       left-turn {n} {b} e =
           let k = passed_on (field_end t next + 1) (read_printed tags (field_from t next)) e in
@@ -182,17 +183,17 @@ module _ (t : List ℕ) (at : ℕ) where
                 ∙ l.rest;
           }
 
-      pub left_less : {n : ℕ} {b : Bool} → Passed.On n b ≡ passed_as (field_end t next + 1) (read_printed tags (field_from t next)) → next < n
+      pub left_less : {n : ℕ} {b : Bool} → Some (n, b) ≡ passed_as (field_end t next + 1) (read_printed tags (field_from t next)) → next < n
       left_less e = let k = passed_on (field_end t next + 1) (read_printed tags (field_from t next)) e in omega (arith, k.3)
 
 -- ---- a leading field, and what follows it
 
 module _ {A : Type 0} (parse : List ℕ → Answer A) (t : List ℕ) (at : ℕ) (f : A → ℕ → List (List ℕ) → Read Line) (start : ℕ) where
-  abbrev following : Judged
+  abbrev following : Result LineFields ℕ
   following = judged_as start (next_field parse at (pieces_from t at) f)
 
   -- the line ends before it
-  pub field-none : length t < at → Judged.Wrong (at - 1) ≡ following
+  pub field-none : length t < at → Err (at - 1) ≡ following
   unfolding next_field judged_as
   field-none h = ap (λ (ps : List (List ℕ)). judged_as start (next_field parse at ps f)) (sym (pieces_none t at h))
 
@@ -204,7 +205,7 @@ module _ {A : Type 0} (parse : List ℕ → Answer A) (t : List ℕ) (at : ℕ) 
         ap (λ (ps : List (List ℕ)). next_field parse at ps f) (pieces_step t at h)
         ∙ ap (λ (n : ℕ). on_field at (parse (field_from t at)) (λ a. f a n (pieces_from t (field_end t at + 1)))) place
 
-    pub field-bad : {x : Refusal} → parse (field_from t at) ≡ refused x → Judged.Wrong at ≡ following
+    pub field-bad : {x : Refusal} → parse (field_from t at) ≡ refused x → Err at ≡ following
     unfolding on_field judged_as
     field-bad e =
         ap (λ (r : Answer A). judged_as start (on_field at r (λ a. f a (field_end t at + 1) (pieces_from t (field_end t at + 1))))) (sym e) ∙ ap (judged_as start) (sym next)
@@ -226,15 +227,27 @@ start-on n t at {end} h is =
     ∙ ap (λ (k : ℕ). start_from n k (pieces_from t (field_end t at + 1))) place
     ∙ ap (start_from (suc n) at) (sym (pieces_step t at h))
 
+-- what was made a `Result` of an `Option`
+pub or-ok : {A E : Type 0} {m : Option A} {r : Result A E} {a : A} → r ≡ Ok a → m ≡ result_ok r → m ≡ Some a
+or-ok e k = k ∙ ap result_ok e
+
+-- `None`, and what the `?` behind it returns
+pub or-failed : {A B : Type 0} {m : Option A} {r : Result A ℕ} {out : Result B ℕ} {e x : ℕ} → r ≡ Err x → r ≡ ok_or m e → IsErrAnd out (λ y. y ≡ x) → (m ≡ None) × (out ≡ Err e)
+or-failed {A} {B} {m} {out = out} {e} {x} h k o = go m (sym h ∙ k)
+  where
+    go : (m : Option A) → Err x ≡ ok_or m e → (m ≡ None) × (out ≡ Err e)
+    go None k = let p = err_from_is_err_and out o in let same : x ≡ e = cc in (refl, p.1 ∙ ap Err (p.2 ∙ same))
+    go (Some a) k = absurd (let z : ◌≡◌ {A = ℕ} 0 1 = cc in omega arith)
+
 -- what a field tells
-pub number-read : (end : ℕ) (r : Answer ℕ) → Number.Wrong ≡ number_as end r → (x : Refusal) × (r ≡ refused x)
+pub number-read : (end : ℕ) (r : Answer ℕ) → None ≡ number_as end r → (x : Refusal) × (r ≡ refused x)
 unfolding number_as
 number-read end (accepted n) e = absurd (let z : ◌≡◌ {A = ℕ} 0 1 = cc in omega arith)
 number-read end (refused x) e = (x, refl)
 
-pub degrees-told : (end : ℕ) (r : Answer ℤ) {z : ℤ} {last : ℕ} → Degrees.Of z last ≡ degrees_as end r → (r ≡ accepted z) × (last ≡ end)
+pub degrees-told : (end : ℕ) (r : Answer ℤ) {z : ℤ} {last : ℕ} → Some (z, last) ≡ degrees_as end r → (r ≡ accepted z) × (last ≡ end)
 unfolding degrees_as
-degrees-told end (accepted y) e = (ap accepted (cc), cc)
+degrees-told end (accepted y) e = let k = some_pair_parts _ _ _ _ e in (ap accepted (sym k.0), k.1)
 degrees-told end (refused x) e = absurd (let z : ◌≡◌ {A = ℕ} 0 1 = cc in omega arith)
 
 -- degrees fit a word with a sign
@@ -245,7 +258,7 @@ degrees-word s z e = to_z-of_z (go z (degrees-inverse.exact s z e).0)
     go (pos m) h = record { sfits = h }
     go (negsuc m) h = record { sfits = h }
 
-pub degrees-bad : (end : ℕ) (r : Answer ℤ) → Degrees.Wrong ≡ degrees_as end r → (x : Refusal) × (r ≡ refused x)
+pub degrees-bad : (end : ℕ) (r : Answer ℤ) → None ≡ degrees_as end r → (x : Refusal) × (r ≡ refused x)
 unfolding degrees_as
 degrees-bad end (accepted y) e = absurd (let z : ◌≡◌ {A = ℕ} 0 1 = cc in omega arith)
 degrees-bad end (refused x) e = (x, refl)
@@ -253,32 +266,32 @@ degrees-bad end (refused x) e = (x, refl)
 -- ---- the elements, behind the leading fields
 
 module _ (timestamp speed : ℕ) (longitude latitude : ℤ) (at : ℕ) (ps : List (List ℕ)) where
-  pub rest_read : {n : ℕ} → Rest.Of n ≡ rest_as (read_elements false at ps)
-      → Judged.Taken (record { timestamp = timestamp; longitude = longitude; latitude = latitude; speed = speed; elements = n; start = at }) ≡ judged_as at (elements_on timestamp longitude latitude speed at ps)
+  pub rest_read : {n : ℕ} → Ok n ≡ rest_as (read_elements false at ps)
+      → Ok (record { timestamp = timestamp; longitude = longitude; latitude = latitude; speed = speed; elements = n; start = at }) ≡ judged_as at (elements_on timestamp longitude latitude speed at ps)
   unfolding rest_as judged_as and_then line_result
   rest_read {n} e = go (read_elements false at ps) e
     where
-      go : (r : Read (List Printed)) → Rest.Of n ≡ rest_as r
-          → Judged.Taken (record { timestamp = timestamp; longitude = longitude; latitude = latitude; speed = speed; elements = n; start = at })
+      go : (r : Read (List Printed)) → Ok n ≡ rest_as r
+          → Ok (record { timestamp = timestamp; longitude = longitude; latitude = latitude; speed = speed; elements = n; start = at })
           ≡ judged_as at (and_then r (λ es n. got (record { timestamp = timestamp; longitude = longitude; latitude = latitude; speed = speed; elements = es }) n))
       go (got es k) e =
           let same : n ≡ length es = cc in
-          ap (λ (m : ℕ). Judged.Taken (record { timestamp = timestamp; longitude = longitude; latitude = latitude; speed = speed; elements = m; start = at })) same
+          ap (λ (m : ℕ). Ok (record { timestamp = timestamp; longitude = longitude; latitude = latitude; speed = speed; elements = m; start = at })) same
       go (bad x) e = absurd (let z : ◌≡◌ {A = ℕ} 0 1 = cc in omega arith)
 
-  pub rest-bad : {place : ℕ} → Rest.Wrong place ≡ rest_as (read_elements false at ps) → Judged.Wrong place ≡ judged_as at (elements_on timestamp longitude latitude speed at ps)
+  pub rest-bad : {place : ℕ} → Err place ≡ rest_as (read_elements false at ps) → Err place ≡ judged_as at (elements_on timestamp longitude latitude speed at ps)
   unfolding rest_as judged_as and_then
   rest-bad {place} e = go (read_elements false at ps) e
     where
-      go : (r : Read (List Printed)) → Rest.Wrong place ≡ rest_as r
-          → Judged.Wrong place ≡ judged_as at (and_then r (λ es n. got (record { timestamp = timestamp; longitude = longitude; latitude = latitude; speed = speed; elements = es }) n))
+      go : (r : Read (List Printed)) → Err place ≡ rest_as r
+          → Err place ≡ judged_as at (and_then r (λ es n. got (record { timestamp = timestamp; longitude = longitude; latitude = latitude; speed = speed; elements = es }) n))
       go (got es k) e = absurd (let z : ◌≡◌ {A = ℕ} 0 1 = cc in omega arith)
-      go (bad x) e = ap Judged.Wrong (cc)
+      go (bad x) e = ap Err (cc)
 
 -- ---- one field more, and the answer is the whole's
 
 module _ {A : Type 0} (parse : List ℕ → Answer A) (t : List ℕ) (at : ℕ) (f : A → ℕ → List (List ℕ) → Read Line) (n : ℕ) where
-  pub field-on : {a : A} {end : ℕ} {r : Judged} → at ≤ length t → (parse (field_from t at) ≡ accepted a) × (end ≡ field_end t at)
+  pub field-on : {a : A} {end : ℕ} {r : Result LineFields ℕ} → at ≤ length t → (parse (field_from t at) ≡ accepted a) × (end ≡ field_end t at)
       → r ≡ judged_as (start_from n (end + 1) (pieces_from t (end + 1))) (f a (end + 1) (pieces_from t (end + 1)))
       → r ≡ judged_as (start_from (suc n) at (pieces_from t at)) (next_field parse at (pieces_from t at) f)
   field-on {a} {end} h e k =
@@ -287,16 +300,16 @@ module _ {A : Type 0} (parse : List ℕ → Answer A) (t : List ℕ) (at : ℕ) 
       ∙ field-read parse t at f (start_from (suc n) at (pieces_from t at)) h e.0 e.1
 
 module _ (t : List ℕ) (at timestamp speed end : ℕ) (longitude latitude : ℤ) (h : at ≤ length t) (e : (read_decimal (2 ^ 16 - 1) (field_from t at) ≡ accepted speed) × (end ≡ field_end t at)) where
-  pub speed-read : {n : ℕ} {x y : ℤ} → x ≡ longitude → y ≡ latitude → Rest.Of n ≡ rest_as (read_elements false (end + 1) (pieces_from t (end + 1)))
-      → Judged.Taken (record { timestamp = timestamp; longitude = x; latitude = y; speed = speed; elements = n; start = end + 1 })
+  pub speed-read : {n : ℕ} {x y : ℤ} → x ≡ longitude → y ≡ latitude → Ok n ≡ rest_as (read_elements false (end + 1) (pieces_from t (end + 1)))
+      → Ok (record { timestamp = timestamp; longitude = x; latitude = y; speed = speed; elements = n; start = end + 1 })
       ≡ judged_as (start_from 1 at (pieces_from t at)) (speed_on timestamp longitude latitude at (pieces_from t at))
   unfolding start_from
   speed-read {n} a b k =
-      (λ i. Judged.Taken (record { timestamp = timestamp; longitude = a i; latitude = b i; speed = speed; elements = n; start = end + 1 }))
+      (λ i. Ok (record { timestamp = timestamp; longitude = a i; latitude = b i; speed = speed; elements = n; start = end + 1 }))
       ∙ field-on (read_decimal (2 ^ 16 - 1)) t at (elements_on timestamp longitude latitude) 0 h e (rest_read timestamp speed longitude latitude (end + 1) (pieces_from t (end + 1)) k)
 
-  pub speed-bad : {place : ℕ} → Rest.Wrong place ≡ rest_as (read_elements false (end + 1) (pieces_from t (end + 1)))
-      → Judged.Wrong place ≡ judged_as (start_from 1 at (pieces_from t at)) (speed_on timestamp longitude latitude at (pieces_from t at))
+  pub speed-bad : {place : ℕ} → Err place ≡ rest_as (read_elements false (end + 1) (pieces_from t (end + 1)))
+      → Err place ≡ judged_as (start_from 1 at (pieces_from t at)) (speed_on timestamp longitude latitude at (pieces_from t at))
   unfolding start_from
   speed-bad k = field-on (read_decimal (2 ^ 16 - 1)) t at (elements_on timestamp longitude latitude) 0 h e (rest-bad timestamp speed longitude latitude (end + 1) (pieces_from t (end + 1)) k)
 
@@ -307,19 +320,19 @@ pub cut-body : (s : List ℕ) {last : ℕ} → last ≡ length s - 1 → take (l
 cut-body s {last} e = let same : last - 0 ≡ length s - 1 = omega (arith, e) in ap (λ (n : ℕ). take n s) same
 
 module _ (s : List ℕ) where
-  abbrev whole_line : Judged
+  abbrev whole_line : Result LineFields ℕ
   whole_line = judged_as (field_start s 4) (judge_line s)
 
-  pub line-open : (get_or s (length s - 1) 0 ≡ 10 → ⊥) → Judged.Wrong (length s) ≡ whole_line
+  pub line-open : (get_or s (length s - 1) 0 ≡ 10 → ⊥) → Err (length s) ≡ whole_line
   unfolding judge_line judged_as
   line-open h =
       ap (judged_as (field_start s 4)) (sym (pick-false (eqb (get_or s (length s - 1) 0) 10) (read_fields (pieces (body s))) _ (ne_eqb (get_or s (length s - 1) 0) 10 h)))
 
-  pub line-empty : length s < 1 → Judged.Wrong 0 ≡ whole_line
+  pub line-empty : length s < 1 → Err 0 ≡ whole_line
   line-empty h =
       let none : get_or s (length s - 1) 0 ≡ 10 → ⊥ = λ e. let z : ◌≡◌ {A = ℕ} 0 10 = sym (get_or-eq_default s 0 {n = length s - 1} (omega arith)) ∙ e in omega (arith, z) in
       let size : 0 ≡ length s = omega arith in
-      ap Judged.Wrong size ∙ line-open none
+      ap Err size ∙ line-open none
 
   module _ (lf : get_or s (length s - 1) 0 ≡ 10) where
     whole : judged_as (start_from 4 0 (pieces_from (body s) 0)) (next_field (read_decimal (2 ^ 64 - 1)) 0 (pieces_from (body s) 0) longitude_on) ≡ whole_line
@@ -330,14 +343,14 @@ module _ (s : List ℕ) where
         ∙ ap (judged_as (field_start s 4)) (sym (pick_true (eqb (get_or s (length s - 1) 0) 10) (read_fields (pieces (body s))) _ (eq-eqb (get_or s (length s - 1) 0) 10 lf)))
 
     module _ {t : List ℕ} (is : t ≡ body s) where
-      pub line-bad : Number.Wrong ≡ number_as (field_end t 0) (read_decimal (2 ^ 64 - 1) (field_from t 0)) → Judged.Wrong 0 ≡ whole_line
+      pub line-bad : None ≡ number_as (field_end t 0) (read_decimal (2 ^ 64 - 1) (field_from t 0)) → Err 0 ≡ whole_line
       line-bad e =
           let k = number-read (field_end t 0) (read_decimal (2 ^ 64 - 1) (field_from t 0)) e in
           field-bad (read_decimal (2 ^ 64 - 1)) t 0 longitude_on (start_from 4 0 (pieces_from t 0)) (omega arith) k.1
           ∙ ap (λ (x : List ℕ). judged_as (start_from 4 0 (pieces_from x 0)) (next_field (read_decimal (2 ^ 64 - 1)) 0 (pieces_from x 0) longitude_on)) is
           ∙ whole
 
-      pub line_on : {timestamp end : ℕ} {r : Judged} → (read_decimal (2 ^ 64 - 1) (field_from t 0) ≡ accepted timestamp) × (end ≡ field_end t 0)
+      pub line_on : {timestamp end : ℕ} {r : Result LineFields ℕ} → (read_decimal (2 ^ 64 - 1) (field_from t 0) ≡ accepted timestamp) × (end ≡ field_end t 0)
           → r ≡ judged_as (start_from 3 (end + 1) (pieces_from t (end + 1))) (longitude_on timestamp (end + 1) (pieces_from t (end + 1))) → r ≡ whole_line
       line_on e k =
           field-on (read_decimal (2 ^ 64 - 1)) t 0 longitude_on 3 (omega arith) e k

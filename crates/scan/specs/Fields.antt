@@ -1,13 +1,11 @@
 -- What the functions that read a field answer: of the text from `at` on, up to the next comma or to the end.
-use Rattle.std.specs.Prelude.{ℕ, ◌+◌, ◌-◌, ◌*◌, ◌^◌, Bool, true, false, List, [], ◌∷◌, length, drop, get_or, ℤ, eqb, leb, ltb}
+use Rattle.std.specs.Prelude.{Option, Some, None, ℕ, ◌+◌, ◌-◌, ◌*◌, ◌^◌, Bool, true, false, List, [], ◌∷◌, length, drop, get_or, ℤ, eqb, leb, ltb}
 use Rattle.wire.specs.Numbers.{pick}
 use Rattle.wire.specs.Answers.{Answer, accepted, refused, check}
 use Rattle.text.specs.Hex.{among}
 use Rattle.line.specs.Pieces.{before}
 use Rattle.line.specs.Lines.{Printed, number, tag}
 use Rattle.line.specs.LineReader.{said, all_digits}
-use Rattle.scan.specs.declared.Number.{Number}
-use Rattle.scan.specs.declared.Degrees.{Degrees}
 use Rattle.scan.specs.declared.Item.{Item}
 
 -- the field that starts at `at`
@@ -32,12 +30,12 @@ run [] = []
 run (c ∷ s) = pick (among 48 57 c) (c ∷ run s) []
 
 -- a number whose text ends at `end`
-unfoldable pub number_as : ℕ → Answer ℕ → Number
-number_as end (accepted n) = Number.Of n end
-number_as end (refused r) = Number.Wrong
+unfoldable pub number_as : ℕ → Answer ℕ → Option (ℕ × ℕ)
+number_as end (accepted n) = Some (n, end)
+number_as end (refused r) = None
 
 -- the number of digits that start at `at`, if 64 bits hold it
-unfoldable pub run_as : ℕ → List ℕ → Number
+unfoldable pub run_as : ℕ → List ℕ → Option (ℕ × ℕ)
 run_as at ds = number_as (at + length ds) (check (leb (said ds) (2 ^ 64 - 1)) 20 (accepted (said ds)))
 
 -- seven places behind so many whole degrees
@@ -45,21 +43,21 @@ unfoldable pub places_of : ℕ → List ℕ → Answer ℕ
 places_of whole s = check (eqb (length s) 7) 20 (check (all_digits s) 20 (accepted (whole * 10 ^ 7 + said s)))
 
 -- degrees whose text ends at `end`
-unfoldable pub degrees_as : ℕ → Answer ℤ → Degrees
-degrees_as end (accepted z) = Degrees.Of z end
-degrees_as end (refused r) = Degrees.Wrong
+unfoldable pub degrees_as : ℕ → Answer ℤ → Option (ℤ × ℕ)
+degrees_as end (accepted z) = Some (z, end)
+degrees_as end (refused r) = None
 
 -- a number that was read, with its sign
-unfoldable pub signed_as : (ℕ → Answer ℤ) → Number → Degrees
-signed_as sign (Number.Of m end) = degrees_as end (sign m)
-signed_as sign Number.Wrong = Degrees.Wrong
+unfoldable pub signed_as : (ℕ → Answer ℤ) → Option (ℕ × ℕ) → Option (ℤ × ℕ)
+signed_as sign (Some (m, end)) = degrees_as end (sign m)
+signed_as sign None = None
 
 -- where the text of a tag starts, in the field of its element: behind the ID, the sign (61) and the quote
 abbrev pub tag_start : List ℕ → ℕ → ℕ
 tag_start t at = at + length (before 61 (field_from t at)) + 2
 
 -- an element whose field ends at `end`, and the text of whose tag starts at `start`
-unfoldable pub item_as : ℕ → ℕ → Answer Printed → Item
-item_as start end (accepted (number id n)) = Item.Number id n end
-item_as start end (accepted (tag id b)) = Item.Tag id start (length b) end
-item_as start end (refused r) = Item.Wrong
+unfoldable pub item_as : ℕ → ℕ → Answer Printed → Option Item
+item_as start end (accepted (number id n)) = Some (Item.Number id n end)
+item_as start end (accepted (tag id b)) = Some (Item.Tag id start (length b) end)
+item_as start end (refused r) = None

@@ -1,20 +1,18 @@
 -- What the functions that read a tag answer.
-use Rattle.std.specs.Prelude.{ℕ, ◌+◌, ◌≤◌, ◌<◌, ◌≡◌, List, [], ◌∷◌, ◌++◌, length, drop}
+use Rattle.std.specs.Prelude.{Option, Some, None, ℕ, ◌+◌, ◌≤◌, ◌<◌, ◌≡◌, List, [], ◌∷◌, ◌++◌, length, drop}
 use Rattle.wire.specs.Answers.{Answer, accepted, refused, refusal, on_accepted}
 use Rattle.scan.specs.Fields.{field_from}
 use Rattle.line.specs.LineReader.{Escape, none, slash, read_tag}
-use Rattle.scan.specs.declared.Hex.{Hex}
 use Rattle.scan.specs.declared.Piece.{Piece}
-use Rattle.scan.specs.declared.Tag.{Tag}
 
-unfoldable pub hex_as : Answer ℕ → Hex
-hex_as (accepted d) = Hex.Of d
-hex_as (refused r) = Hex.Wrong
+unfoldable pub hex_as : Answer ℕ → Option ℕ
+hex_as (accepted d) = Some d
+hex_as (refused r) = None
 
 -- how many bytes a tag has whose text ends at `end`
-unfoldable pub tag_as : ℕ → Answer (List ℕ) → Tag
-tag_as end (accepted b) = Tag.Of (length b) end
-tag_as end (refused r) = Tag.Wrong
+unfoldable pub tag_as : ℕ → Answer (List ℕ) → Option (ℕ × ℕ)
+tag_as end (accepted b) = Some (length b, end)
+tag_as end (refused r) = None
 
 -- at `i`, behind what `e` says, stands the byte `b`; the text goes on at `next`
 pub record Gives (e : Escape) (t : List ℕ) (i b next : ℕ) : Type 0 where
@@ -23,14 +21,14 @@ pub record Gives (e : Escape) (t : List ℕ) (i b next : ℕ) : Type 0 where
   pub forward : i < next
   pub inside : next ≤ length t
 
-abbrev pub IsEscape : List ℕ → ℕ → Hex → Type 0
-IsEscape t i (Hex.Of b) = Gives slash t i b (i + 2)
-IsEscape t i Hex.Wrong = read_tag slash (field_from t i) ≡ refused (refusal 20)
+abbrev pub IsEscape : List ℕ → ℕ → Option ℕ → Type 0
+IsEscape t i (Some b) = Gives slash t i b (i + 2)
+IsEscape t i None = read_tag slash (field_from t i) ≡ refused (refusal 20)
 
-abbrev pub IsPiece : List ℕ → ℕ → Piece → Type 0
-IsPiece t i (Piece.Byte b next) = Gives none t i b next
-IsPiece t i Piece.End = (read_tag none (field_from t i) ≡ accepted []) × (length (field_from t i) ≡ 1)
-IsPiece t i Piece.Wrong = read_tag none (field_from t i) ≡ refused (refusal 20)
+abbrev pub IsPiece : List ℕ → ℕ → Option Piece → Type 0
+IsPiece t i (Some (Piece.Byte b next)) = Gives none t i b next
+IsPiece t i (Some Piece.End) = (read_tag none (field_from t i) ≡ accepted []) × (length (field_from t i) ≡ 1)
+IsPiece t i None = read_tag none (field_from t i) ≡ refused (refusal 20)
 
 -- from `at` on, up to the next comma or the end, stands the text of a tag behind its first quote
 pub record TagText (t : List ℕ) (at : ℕ) : Type 0 where

@@ -1,5 +1,5 @@
 -- The walk along a line's fields, field by field, and what its functions answer. `t` is the line without its LF.
-use Rattle.std.specs.Prelude.{ℕ, ◌+◌, ◌^◌, ◌-◌, false, List, [], length, drop, leb, ℤ}
+use Rattle.std.specs.Prelude.{Bool, Option, Some, None, Result, Ok, Err, ℕ, ◌+◌, ◌^◌, ◌-◌, false, List, [], length, drop, leb, ℤ}
 use Rattle.wire.specs.Numbers.{pick}
 use Rattle.wire.specs.Reading.{Read, got, bad, and_then}
 use Rattle.wire.specs.Answers.{Answer, accepted, refused, on_accepted}
@@ -9,9 +9,6 @@ use Rattle.line.specs.LineReader.{read_decimal, read_degrees, read_printed, is_t
 use Rattle.line.specs.LineElements.{Standing}
 use Rattle.scan.specs.Fields.{field_from, field_end}
 use Rattle.scan.specs.declared.LineFields.{LineFields}
-use Rattle.scan.specs.declared.Passed.{Passed}
-use Rattle.scan.specs.declared.Rest.{Rest}
-use Rattle.scan.specs.declared.Judged.{Judged}
 
 -- the fields from `at` on; none behind the end
 unfoldable pub pieces_from : List ℕ → ℕ → List (List ℕ)
@@ -36,14 +33,14 @@ longitude_on timestamp at ps = next_field read_degrees at ps (latitude_on timest
 -- ---- what the functions answer
 
 -- an element, behind whose field the next starts at `next`
-unfoldable pub passed_as : ℕ → Answer Printed → Passed
-passed_as next (accepted e) = Passed.On next (is_tag e)
-passed_as next (refused r) = Passed.Wrong
+unfoldable pub passed_as : ℕ → Answer Printed → Option (ℕ × Bool)
+passed_as next (accepted e) = Some (next, is_tag e)
+passed_as next (refused r) = None
 
 -- the elements: how many, or where it is wrong
-unfoldable pub rest_as : Read (List Printed) → Rest
-rest_as (got es n) = Rest.Of (length es)
-rest_as (bad x) = Rest.Wrong x.place
+unfoldable pub rest_as : Read (List Printed) → Result ℕ ℕ
+rest_as (got es n) = Ok (length es)
+rest_as (bad x) = Err x.place
 
 -- the line's fields, and where the field of its first element starts
 unfoldable pub line_result : ℕ → Line → LineFields
@@ -57,9 +54,9 @@ line_result start l =
       start = start;
     }
 
-unfoldable pub judged_as : ℕ → Read Line → Judged
-judged_as start (got l n) = Judged.Taken (line_result start l)
-judged_as start (bad x) = Judged.Wrong x.place
+unfoldable pub judged_as : ℕ → Read Line → Result LineFields ℕ
+judged_as start (got l n) = Ok (line_result start l)
+judged_as start (bad x) = Err x.place
 
 -- the element whose field starts at `at`
 abbrev pub standing : List ℕ → ℕ → Answer Standing

@@ -1,7 +1,8 @@
 // Reading a line for the billing desk: its four leading fields, and its elements one by one.
 #![tactic(auto)]
 
-ghost use Rattle.std.specs.Prelude.{◌≡◌, ◌+◌, ◌≤◌, false, length, drop};
+ghost use Rattle.std.specs.Prelude.{◌≡◌, ◌+◌, ◌≤◌, false, length, drop, eqb};
+ghost use Rattle.std.specs.List.{position};
 ghost use Rattle.line.specs.LineReader.{read_decimal, read_unsigned, read_degrees, read_hex, read_tag, none, read_value, read_printed, read_elements, positive, negative, judge_line, wrong_at};
 ghost use Rattle.line.specs.LineElements.{start_from, field_start, element_of, element_at};
 ghost use Rattle.scan.specs.Fields.{field_from, field_end, stands_at, ends_at, run, number_as, run_as, places_of, degrees_as, signed_as, tag_start, item_as};
@@ -11,40 +12,11 @@ ghost use Rattle.scan.specs.Answers.{line_as, answer_line, element_as, answer_el
 
 use wire::Refusal;
 
-// A number that was read and the offset behind it.
-#[derive(Clone, Copy)]
-enum Number {
-    Of(u64, usize),
-    Wrong,
-}
-
-// Degrees that were read, in ten-millionths, and the offset behind them.
-#[derive(Clone, Copy)]
-enum Degrees {
-    Of(i32, usize),
-    Wrong,
-}
-
-// A hex digit's value.
-#[derive(Clone, Copy)]
-enum Hex {
-    Of(u8),
-    Wrong,
-}
-
-// What stands at an offset in a tag's text: a byte, itself or escaped, and the offset behind it; the quote that ends the field; or neither.
+// What stands at an offset in a tag's text: a byte, itself or escaped, and the offset behind it; or the quote that ends the field.
 #[derive(Clone, Copy)]
 enum Piece {
     Byte(u8, usize),
     End,
-    Wrong,
-}
-
-// A tag that was read: how many bytes it has, and the offset behind its text.
-#[derive(Clone, Copy)]
-enum Tag {
-    Of(usize, usize),
-    Wrong,
 }
 
 // An element that was read: its ID; its number, or where its tag's text starts and how many bytes the tag has; the offset behind its field.
@@ -52,21 +24,6 @@ enum Tag {
 enum Item {
     Number(u16, u64, usize),
     Tag(u16, usize, usize, usize),
-    Wrong,
-}
-
-// Where the next field starts behind an element, and whether that is a tag.
-#[derive(Clone, Copy)]
-enum Passed {
-    On(usize, bool),
-    Wrong,
-}
-
-// How many elements there are, or where the first wrong field starts.
-#[derive(Clone, Copy)]
-enum Rest {
-    Of(usize),
-    Wrong(usize),
 }
 
 // The four leading fields of a line, in ten-millionths of a degree; how many elements it has, and where the field of the first starts.
@@ -78,13 +35,6 @@ pub struct LineFields {
     pub speed: u16,
     pub elements: usize,
     pub start: usize,
-}
-
-// A line that was read, or where the first wrong field starts.
-#[derive(Clone, Copy)]
-enum Judged {
-    Taken(LineFields),
-    Wrong(usize),
 }
 
 #[derive(Clone, Copy)]
@@ -112,159 +62,120 @@ pub enum LineElementAnswer {
 // ---- numbers
 
 // The digits from `at` on: the number that they say, if 64 bits hold it, and the offset behind them.
-fn digit_run(t: &[u8], at: usize) -> Number
+fn digit_run(t: &[u8], at: usize) -> Option<(u64, usize)>
     requires { at ≤ length t.now }
     ensures { result ≡ run_as at (run (drop at t.now)) }
 {
     let mut n: u64 = 0;
-    let mut i = at;
-    while i < t.len() {
-        let d = ((t[i] as u64) + 208) % 256;
-        if 9 < d {
-            return Number::Of(n, i);
+    for i in at..t.len() {
+        let c = t[i];
+        if !c.is_ascii_digit() {
+            return Some((n, i));
         }
-        if 1_844_674_407_370_955_161 < n {
-            return Number::Wrong;
-        }
-        let tens = n * 10;
-        if 0xFFFF_FFFF_FFFF_FFFF - tens < d {
-            return Number::Wrong;
-        }
-        n = tens + d;
-        i += 1;
+        n = n.checked_mul(10)?.checked_add((c - 48) as u64)?;
     }
-    Number::Of(n, i)
+    Some((n, t.len()))
 }
 
 // The same up to `most`, and without spare zeros.
-fn decimal_at(t: &[u8], at: usize, most: u64) -> Number
+fn decimal_at(t: &[u8], at: usize, most: u64) -> Option<(u64, usize)>
     requires { at ≤ length t.now }
     ensures { result ≡ number_as (at + length (run (drop at t.now))) (read_decimal most (run (drop at t.now))) }
 {
-    match digit_run(t, at) {
-        Number::Wrong => Number::Wrong,
-        Number::Of(n, end) => {
-            if end <= at {
-                return Number::Wrong;
-            }
-            if most < n {
-                return Number::Wrong;
-            }
-            if t[at] == 48 {
-                if at + 1 < end {
-                    return Number::Wrong;
-                }
-            }
-            Number::Of(n, end)
+    let (n, end) = digit_run(t, at)?;
+    if end <= at {
+        return None;
+    }
+    if most < n {
+        return None;
+    }
+    if t[at] == 48 {
+        if at + 1 < end {
+            return None;
         }
     }
+    Some((n, end))
 }
 
 // The byte `b` stands at `at`.
 fn stands(t: &[u8], at: usize, b: u8) -> bool
     ensures { result ≡ stands_at t.now at b }
 {
-    if at < t.len() {
-        return t[at] == b;
-    }
-    false
+    t.get(at) == Some(&b)
 }
 
 // A field ends at `at`.
 fn ends(t: &[u8], at: usize) -> bool
     ensures { result ≡ ends_at t.now at }
 {
-    if t.len() <= at {
-        return true;
-    }
-    t[at] == 44
+    t.len() <= at || t[at] == 44
 }
 
 // A field that is a number.
-fn number_field(t: &[u8], at: usize, most: u64) -> Number
+fn number_field(t: &[u8], at: usize, most: u64) -> Option<(u64, usize)>
     requires { at ≤ length t.now }
     ensures { result ≡ number_as (field_end t.now at) (read_decimal most (field_from t.now at)) }
 {
-    match decimal_at(t, at, most) {
-        Number::Wrong => Number::Wrong,
-        Number::Of(n, end) => {
-            if ends(t, end) {
-                return Number::Of(n, end);
-            }
-            Number::Wrong
-        }
+    let (n, end) = decimal_at(t, at, most)?;
+    if ends(t, end) {
+        return Some((n, end));
     }
+    None
 }
 
 // ---- degrees
 
 // The seven places behind the point, which end the field.
-fn places_at(t: &[u8], at: usize, whole: u64) -> Number
+fn places_at(t: &[u8], at: usize, whole: u64) -> Option<(u64, usize)>
     requires { (at ≤ length t.now) × (whole ≤ 214) }
     ensures { result ≡ number_as (field_end t.now at) (places_of whole (field_from t.now at)) }
 {
-    match digit_run(t, at) {
-        Number::Wrong => Number::Wrong,
-        Number::Of(n, end) => {
-            if end == at + 7 {
-                if ends(t, end) {
-                    return Number::Of(whole * 10_000_000 + n, end);
-                }
-            }
-            Number::Wrong
+    let (n, end) = digit_run(t, at)?;
+    if end == at + 7 {
+        if ends(t, end) {
+            return Some((whole * 10_000_000 + n, end));
         }
     }
+    None
 }
 
 // A field that is degrees, behind the sign.
-fn unsigned_field(t: &[u8], at: usize) -> Number
+fn unsigned_field(t: &[u8], at: usize) -> Option<(u64, usize)>
     requires { at ≤ length t.now }
     ensures { result ≡ number_as (field_end t.now at) (read_unsigned (field_from t.now at)) }
 {
-    match decimal_at(t, at, 214) {
-        Number::Wrong => Number::Wrong,
-        Number::Of(whole, point) => {
-            if stands(t, point, 46) {
-                return places_at(t, point + 1, whole);
-            }
-            Number::Wrong
-        }
+    let (whole, point) = decimal_at(t, at, 214)?;
+    if stands(t, point, 46) {
+        return places_at(t, point + 1, whole);
     }
+    None
 }
 
-fn positive_of(m: Number) -> Degrees
+fn positive_of(m: Option<(u64, usize)>) -> Option<(i32, usize)>
     ensures { result ≡ signed_as positive m }
 {
-    match m {
-        Number::Wrong => Degrees::Wrong,
-        Number::Of(n, end) => {
-            if n <= 0x7FFF_FFFF {
-                return Degrees::Of(wire::signed32(n as u32), end);
-            }
-            Degrees::Wrong
-        }
+    let (n, end) = m?;
+    if n <= 0x7FFF_FFFF {
+        return Some((wire::signed32(n as u32), end));
     }
+    None
 }
 
 // By the two's complement.
-fn negative_of(m: Number) -> Degrees
+fn negative_of(m: Option<(u64, usize)>) -> Option<(i32, usize)>
     ensures { result ≡ signed_as negative m }
 {
-    match m {
-        Number::Wrong => Degrees::Wrong,
-        Number::Of(n, end) => {
-            if 1 <= n {
-                if n <= 0x8000_0000 {
-                    return Degrees::Of(wire::signed32((0x1_0000_0000 - n) as u32), end);
-                }
-            }
-            Degrees::Wrong
+    let (n, end) = m?;
+    if 1 <= n {
+        if n <= 0x8000_0000 {
+            return Some((wire::signed32((0x1_0000_0000 - n) as u32), end));
         }
     }
+    None
 }
 
 // A field that is degrees.
-fn degrees_field(t: &[u8], at: usize) -> Degrees
+fn degrees_field(t: &[u8], at: usize) -> Option<(i32, usize)>
     requires { at ≤ length t.now }
     ensures { result ≡ degrees_as (field_end t.now at) (read_degrees (field_from t.now at)) }
 {
@@ -277,96 +188,67 @@ fn degrees_field(t: &[u8], at: usize) -> Degrees
 // ---- tags
 
 // 0 to 9, A to F.
-fn hex_value(c: u8) -> Hex
+fn hex_value(c: u8) -> Option<u8>
     ensures { result ≡ hex_as (read_hex c) }
 {
-    if c < 48 {
-        return Hex::Wrong;
+    match c {
+        48..=57 => Some(c - 48),
+        65..=70 => Some(c - 55),
+        _ => None,
     }
-    if c < 58 {
-        return Hex::Of(c - 48);
-    }
-    if c < 65 {
-        return Hex::Wrong;
-    }
-    if c < 71 {
-        return Hex::Of(c - 55);
-    }
-    Hex::Wrong
 }
 
 // The byte whose two digits stand from `i` on, behind a backslash.
-fn escape_at(t: &[u8], i: usize) -> Hex
+fn escape_at(t: &[u8], i: usize) -> Option<u8>
     requires { i ≤ length t.now }
     ensures { IsEscape t.now i result }
 {
     if t.len() - i < 2 {
-        return Hex::Wrong;
+        return None;
     }
-    match hex_value(t[i]) {
-        Hex::Of(h) => match hex_value(t[i + 1]) {
-            Hex::Of(l) => {
-                let b = h * 16 + l;
-                if line::is_plain(b) {
-                    Hex::Wrong
-                } else {
-                    Hex::Of(b)
-                }
-            }
-            Hex::Wrong => Hex::Wrong,
-        },
-        Hex::Wrong => Hex::Wrong,
-    }
+    let h = hex_value(t[i])?;
+    let l = hex_value(t[i + 1])?;
+    let b = h * 16 + l;
+    if line::is_plain(b) { None } else { Some(b) }
 }
 
-fn piece_at(t: &[u8], i: usize) -> Piece
+fn piece_at(t: &[u8], i: usize) -> Option<Piece>
     requires { i ≤ length t.now }
     ensures { IsPiece t.now i result }
 {
     if i == t.len() {
-        return Piece::Wrong;
+        return None;
     }
     let c = t[i];
     if c == 34 {
-        if i + 1 == t.len() {
-            return Piece::End;
+        if ends(t, i + 1) {
+            return Some(Piece::End);
         }
-        return if t[i + 1] == 44 {
-            Piece::End
-        } else {
-            Piece::Wrong
-        };
+        return None;
     }
     if c == 92 {
-        return match escape_at(t, i + 1) {
-            Hex::Of(b) => Piece::Byte(b, i + 3),
-            Hex::Wrong => Piece::Wrong,
-        };
+        let b = escape_at(t, i + 1)?;
+        return Some(Piece::Byte(b, i + 3));
     }
     if line::is_plain(c) {
-        Piece::Byte(c, i + 1)
+        Some(Piece::Byte(c, i + 1))
     } else {
-        Piece::Wrong
+        None
     }
 }
 
 // The text of a tag from `at` on, behind its first quote, up to the next comma or the end of `t`.
-fn tag_field(t: &[u8], at: usize) -> Tag
+fn tag_field(t: &[u8], at: usize) -> Option<(usize, usize)>
     requires { at ≤ length t.now }
     ensures { result ≡ tag_as (field_end t.now at) (read_tag none (field_from t.now at)) }
 {
     let mut size: usize = 0;
     let mut i = at;
-    loop {
-        match piece_at(t, i) {
-            Piece::Byte(_, next) => {
-                size += 1;
-                i = next;
-            }
-            Piece::End => return Tag::Of(size, i + 1),
-            Piece::Wrong => return Tag::Wrong,
-        }
+    while let Piece::Byte(_, next) = piece_at(t, i)? {
+        size += 1;
+        i = next;
     }
+    Some((size, i + 1))
 }
 
 // Stores the bytes of the tag whose text stands from `at` on.
@@ -376,15 +258,16 @@ fn store_tag(t: &[u8], at: usize, out: &mut [u8])
 {
     let mut to: usize = 0;
     let mut i = at;
+    // No `while let`: behind it nothing says that the piece was no byte, so the proof did not close.
     loop {
         match piece_at(t, i) {
-            Piece::Byte(b, next) => {
+            Some(Piece::Byte(b, next)) => {
                 store::store_byte(out, to, b);
                 to += 1;
                 i = next;
             }
-            Piece::End => return,
-            Piece::Wrong => return,
+            Some(Piece::End) => return,
+            None => return,
         }
     }
 }
@@ -392,148 +275,130 @@ fn store_tag(t: &[u8], at: usize, out: &mut [u8])
 // ---- elements
 
 // The value of the element with this ID, which ends the field; `tags` says that a tag came before.
-fn value_field(t: &[u8], at: usize, id: u16, tags: bool) -> Item
+fn value_field(t: &[u8], at: usize, id: u16, tags: bool) -> Option<Item>
     requires { at ≤ length t.now }
     ensures { result ≡ item_as (at + 1) (field_end t.now at) (read_value tags id (field_from t.now at)) }
 {
     if stands(t, at, 34) {
         let start = at + 1;
-        return match tag_field(t, start) {
-            Tag::Of(size, end) => Item::Tag(id, start, size, end),
-            Tag::Wrong => Item::Wrong,
-        };
+        let (size, end) = tag_field(t, start)?;
+        return Some(Item::Tag(id, start, size, end));
     }
     if tags {
-        return Item::Wrong;
+        return None;
     }
-    match number_field(t, at, 0xFFFF_FFFF_FFFF_FFFF) {
-        Number::Of(n, end) => Item::Number(id, n, end),
-        Number::Wrong => Item::Wrong,
-    }
+    let (n, end) = number_field(t, at, 0xFFFF_FFFF_FFFF_FFFF)?;
+    Some(Item::Number(id, n, end))
 }
 
 // A field that is an element.
-fn element_field(t: &[u8], at: usize, tags: bool) -> Item
+fn element_field(t: &[u8], at: usize, tags: bool) -> Option<Item>
     requires { at ≤ length t.now }
     ensures { result ≡ item_as (tag_start t.now at) (field_end t.now at) (read_printed tags (field_from t.now at)) }
 {
-    match decimal_at(t, at, 0xFFFF) {
-        Number::Wrong => Item::Wrong,
-        Number::Of(id, sign) => {
-            if stands(t, sign, 61) {
-                return value_field(t, sign + 1, id as u16, tags);
-            }
-            Item::Wrong
-        }
+    let (id, sign) = decimal_at(t, at, 0xFFFF)?;
+    if stands(t, sign, 61) {
+        return value_field(t, sign + 1, id as u16, tags);
     }
+    None
 }
 
 // ---- lines
 
 // The element whose field starts at `at`: where the next field starts, and whether it is a tag.
-fn pass_element(t: &[u8], at: usize, tags: bool) -> Passed
+fn pass_element(t: &[u8], at: usize, tags: bool) -> Option<(usize, bool)>
     requires { at ≤ length t.now }
     ensures { result ≡ passed_as (field_end t.now at + 1) (read_printed tags (field_from t.now at)) }
 {
-    match element_field(t, at, tags) {
-        Item::Wrong => Passed::Wrong,
-        Item::Number(_, _, end) => Passed::On(end + 1, false),
-        Item::Tag(_, _, _, end) => Passed::On(end + 1, true),
+    match element_field(t, at, tags)? {
+        Item::Number(_, _, end) => Some((end + 1, false)),
+        Item::Tag(_, _, _, end) => Some((end + 1, true)),
     }
 }
 
-// How many elements the fields from `at` on are.
-fn elements_on(t: &[u8], at: usize) -> Rest
+// How many elements the fields from `at` on are, or where the first wrong field starts.
+fn elements_on(t: &[u8], at: usize) -> Result<usize, usize>
     requires { at ≤ length t.now + 1 }
     ensures { result ≡ rest_as (read_elements false at (pieces_from t.now at)) }
 {
     let mut next = at;
     let mut tags = false;
     let mut count: usize = 0;
+    // No `for`: each turn says where the next starts.
     while next <= t.len() {
-        match pass_element(t, next, tags) {
-            Passed::Wrong => return Rest::Wrong(next),
-            Passed::On(end, tag) => {
-                next = end;
-                tags = tag;
-                count += 1;
-            }
-        }
+        let (end, tag) = pass_element(t, next, tags).ok_or(next)?;
+        next = end;
+        tags = tag;
+        count += 1;
     }
-    Rest::Of(count)
+    Ok(count)
 }
 
-// The speed, and the fields behind it.
-fn speed_on(t: &[u8], at: usize, timestamp: u64, longitude: i32, latitude: i32) -> Judged
+// The speed, and the fields behind it; or where the first wrong field starts.
+fn speed_on(
+    t: &[u8],
+    at: usize,
+    timestamp: u64,
+    longitude: i32,
+    latitude: i32,
+) -> Result<LineFields, usize>
     requires { at ≤ length t.now + 1 }
     ensures { result ≡ judged_as (start_from 1 at (pieces_from t.now at)) (speed_on timestamp longitude latitude at (pieces_from t.now at)) }
 {
     if t.len() < at {
-        return Judged::Wrong(at - 1);
+        return Err(at - 1);
     }
-    match number_field(t, at, 0xFFFF) {
-        Number::Wrong => Judged::Wrong(at),
-        Number::Of(speed, end) => {
-            let start = end + 1;
-            match elements_on(t, start) {
-                Rest::Wrong(place) => Judged::Wrong(place),
-                Rest::Of(elements) => Judged::Taken(LineFields {
-                    timestamp,
-                    longitude,
-                    latitude,
-                    speed: speed as u16,
-                    elements,
-                    start,
-                }),
-            }
-        }
-    }
+    let (speed, end) = number_field(t, at, 0xFFFF).ok_or(at)?;
+    let start = end + 1;
+    let elements = elements_on(t, start)?;
+    Ok(LineFields {
+        timestamp,
+        longitude,
+        latitude,
+        speed: speed as u16,
+        elements,
+        start,
+    })
 }
 
 // The latitude, and the fields behind it.
-fn latitude_on(t: &[u8], at: usize, timestamp: u64, longitude: i32) -> Judged
+fn latitude_on(t: &[u8], at: usize, timestamp: u64, longitude: i32) -> Result<LineFields, usize>
     requires { at ≤ length t.now + 1 }
     ensures { result ≡ judged_as (start_from 2 at (pieces_from t.now at)) (latitude_on timestamp longitude at (pieces_from t.now at)) }
 {
     if t.len() < at {
-        return Judged::Wrong(at - 1);
+        return Err(at - 1);
     }
-    match degrees_field(t, at) {
-        Degrees::Wrong => Judged::Wrong(at),
-        Degrees::Of(latitude, end) => speed_on(t, end + 1, timestamp, longitude, latitude),
-    }
+    let (latitude, end) = degrees_field(t, at).ok_or(at)?;
+    speed_on(t, end + 1, timestamp, longitude, latitude)
 }
 
 // The longitude, and the fields behind it.
-fn longitude_on(t: &[u8], at: usize, timestamp: u64) -> Judged
+fn longitude_on(t: &[u8], at: usize, timestamp: u64) -> Result<LineFields, usize>
     requires { at ≤ length t.now + 1 }
     ensures { result ≡ judged_as (start_from 3 at (pieces_from t.now at)) (longitude_on timestamp at (pieces_from t.now at)) }
 {
     if t.len() < at {
-        return Judged::Wrong(at - 1);
+        return Err(at - 1);
     }
-    match degrees_field(t, at) {
-        Degrees::Wrong => Judged::Wrong(at),
-        Degrees::Of(longitude, end) => latitude_on(t, end + 1, timestamp, longitude),
-    }
+    let (longitude, end) = degrees_field(t, at).ok_or(at)?;
+    latitude_on(t, end + 1, timestamp, longitude)
 }
 
 // The whole line.
-fn judge_line(s: &[u8]) -> Judged
+fn judge_line(s: &[u8]) -> Result<LineFields, usize>
     ensures { result ≡ judged_as (field_start s.now 4) (judge_line s.now) }
 {
     if s.len() < 1 {
-        return Judged::Wrong(0);
+        return Err(0);
     }
     let last = s.len() - 1;
     if s[last] != 10 {
-        return Judged::Wrong(s.len());
+        return Err(s.len());
     }
     let t = &s[0..last];
-    match number_field(t, 0, 0xFFFF_FFFF_FFFF_FFFF) {
-        Number::Wrong => Judged::Wrong(0),
-        Number::Of(timestamp, end) => longitude_on(t, end + 1, timestamp),
-    }
+    let (timestamp, end) = number_field(t, 0, 0xFFFF_FFFF_FFFF_FFFF).ok_or(0usize)?;
+    longitude_on(t, end + 1, timestamp)
 }
 
 // A line's four leading fields, and how many elements it has.
@@ -541,8 +406,8 @@ pub fn read_line(s: &[u8]) -> LineAnswer
     ensures { line_as result ≡ answer_line s.now }
 {
     match judge_line(s) {
-        Judged::Taken(f) => LineAnswer::Fields(f),
-        Judged::Wrong(_) => LineAnswer::Refused(Refusal {
+        Ok(f) => LineAnswer::Fields(f),
+        Err(_) => LineAnswer::Refused(Refusal {
             number: 20,
             index: 0,
             place: 0,
@@ -555,26 +420,29 @@ pub fn wrong_byte(s: &[u8]) -> usize
     ensures { result ≡ wrong_at s.now }
 {
     match judge_line(s) {
-        Judged::Taken(_) => s.len(),
-        Judged::Wrong(place) => place,
+        Ok(_) => s.len(),
+        Err(place) => place,
     }
 }
 
 // ---- elements one by one
+
+// Where the first comma stands.
+fn first_comma(t: &[u8]) -> Option<usize>
+    ensures { result ≡ position (λ c. eqb c 44) t.now }
+{
+    t.iter().position(|c| *c == 44)
+}
 
 // Where the field that starts at `at` ends.
 fn field_end(t: &[u8], at: usize) -> usize
     requires { at ≤ length t.now }
     ensures { result ≡ field_end t.now at }
 {
-    let mut i = at;
-    while i < t.len() {
-        if t[i] == 44 {
-            return i;
-        }
-        i += 1;
+    match first_comma(&t[at..]) {
+        Some(n) => at + n,
+        None => t.len(),
     }
-    i
 }
 
 // Where the n-th field from `at` on starts.
@@ -583,13 +451,11 @@ fn field_start(t: &[u8], at: usize, n: usize) -> usize
     ensures { result ≡ start_from n at (pieces_from t.now at) }
 {
     let mut next = at;
-    let mut left = n;
-    while 0 < left {
+    for _ in 0..n {
         if t.len() < next {
             return next;
         }
         next = field_end(t, next) + 1;
-        left -= 1;
     }
     next
 }
@@ -601,19 +467,19 @@ fn element_from(t: &[u8], at: usize, out: &mut [u8]) -> LineElementAnswer
     ensures buffer { out.new ≡ leaving_element (standing t.now at) out.old }
 {
     match element_field(t, at, false) {
-        Item::Wrong => LineElementAnswer::Refused(Refusal {
+        None => LineElementAnswer::Refused(Refusal {
             number: 20,
             index: 0,
             place: 0,
         }),
-        Item::Number(id, value, end) => LineElementAnswer::Found(LineElement {
+        Some(Item::Number(id, value, end)) => LineElementAnswer::Found(LineElement {
             id,
             tag: false,
             value,
             size: 0,
             next: end + 1,
         }),
-        Item::Tag(id, start, size, end) => {
+        Some(Item::Tag(id, start, size, end)) => {
             if out.len() < size {
                 return LineElementAnswer::Refused(Refusal {
                     number: 18,
@@ -655,12 +521,12 @@ pub fn element_in_line(s: &[u8], k: usize, out: &mut [u8]) -> LineElementAnswer
     ensures buffer { out.new ≡ leaving_element (element_of s.now k) out.old }
 {
     match judge_line(s) {
-        Judged::Wrong(_) => LineElementAnswer::Refused(Refusal {
+        Err(_) => LineElementAnswer::Refused(Refusal {
             number: 20,
             index: 0,
             place: 0,
         }),
-        Judged::Taken(f) => {
+        Ok(f) => {
             if f.elements <= k {
                 return LineElementAnswer::Refused(Refusal {
                     number: 16,

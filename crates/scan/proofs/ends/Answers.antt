@@ -7,6 +7,6 @@ pub returns-then-t-at : goal.returns-then-t-at
 unfolding ends_at
 returns-then-t-at c = sym (simp (le-leb _ _ c.if-t-at.true))
 
-pub returns : goal.returns
+pub returns-else-t-at : goal.returns-else-t-at
 unfolding ends_at
-returns c = sym (simp (lt-leb _ _ c.if-t-at.false))
+returns-else-t-at c = sym (simp (lt-leb _ _ c.if-t-at.false))

@@ -6,22 +6,22 @@ use native.Mathlib.Omega.{arith}
 use borrow.Author.Tests.{le-leb, lt-leb}
 use Rattle.scan.proofs.hex_value.Goals as goal
 
-pub returns-then-c-lt48 : goal.returns-then-c-lt48
+pub returns-in-48-to-57 : goal.returns-in-48-to-57
 unfolding hex_as read_hex check_at
-returns-then-c-lt48 c = simp (lt-leb 48 c.args.c c.if-c-lt48.true, lt-leb 65 c.args.c (omega arith))
+returns-in-48-to-57 c = simp (le-leb 48 c.args.c (omega arith), le-leb c.args.c 57 (omega arith))
 
-pub returns-then-c-lt58 : goal.returns-then-c-lt58
+pub returns-in-65-to-70 : goal.returns-in-65-to-70
 unfolding hex_as read_hex check_at
-returns-then-c-lt58 c = simp (le-leb 48 c.args.c c.if-c-lt48.false, le-leb c.args.c 57 (omega arith))
+returns-in-65-to-70 c = simp (le-leb 48 c.args.c (omega arith), lt-leb c.args.c 57 (omega arith), le-leb 65 c.args.c (omega arith), le-leb c.args.c 70 (omega arith))
 
-pub returns-then-c-lt65 : goal.returns-then-c-lt65
+pub returns-in_default : goal.returns-in_default
 unfolding hex_as read_hex check_at
-returns-then-c-lt65 c = simp (le-leb 48 c.args.c c.if-c-lt48.false, lt-leb c.args.c 57 (omega arith), lt-leb 65 c.args.c c.if-c-lt65.true)
+returns-in_default c = simp (lt-leb 48 c.args.c (omega arith), lt-leb 65 c.args.c (omega arith))
 
-pub returns-then-c-lt71 : goal.returns-then-c-lt71
+pub returns-in_default-2 : goal.returns-in_default-2
 unfolding hex_as read_hex check_at
-returns-then-c-lt71 c = simp (le-leb 48 c.args.c c.if-c-lt48.false, lt-leb c.args.c 57 (omega arith), le-leb 65 c.args.c c.if-c-lt65.false, le-leb c.args.c 70 (omega arith))
+returns-in_default-2 c = simp (le-leb 48 c.args.c (omega arith), lt-leb c.args.c 57 (omega arith), lt-leb 65 c.args.c (omega arith))
 
-pub returns : goal.returns
+pub returns-in_default-3 : goal.returns-in_default-3
 unfolding hex_as read_hex check_at
-returns c = simp (le-leb 48 c.args.c c.if-c-lt48.false, lt-leb c.args.c 57 (omega arith), le-leb 65 c.args.c c.if-c-lt65.false, lt-leb c.args.c 70 (omega arith))
+returns-in_default-3 c = simp (le-leb 48 c.args.c (omega arith), lt-leb c.args.c 57 (omega arith), le-leb 65 c.args.c (omega arith), lt-leb c.args.c 70 (omega arith))

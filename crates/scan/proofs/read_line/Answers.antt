@@ -5,10 +5,10 @@ use Rattle.scan.specs.Answers.{line_as, answer_line}
 use Rattle.scan.proofs.AnswerLaws.{line_taken, line-wrong}
 use Rattle.scan.proofs.read_line.Goals as goal
 
-pub returns-in-Taken : goal.returns-in-Taken
+pub returns-in-Ok : goal.returns-in-Ok
 unfolding line_as answer_line
-returns-in-Taken c = let k = line_taken c.args.s.now _ (sym c.in-Taken.is ∙ c.judge_line.ensures) in ap accepted k.2 ∙ sym (on_accepted-passed _ _ k.1)
+returns-in-Ok c = let k = line_taken c.args.s.now _ (sym c.in-Ok.is ∙ c.judge_line.ensures) in ap accepted k.2 ∙ sym (on_accepted-passed _ _ k.1)
 
-pub returns-in-Wrong : goal.returns-in-Wrong
+pub returns-in-Err : goal.returns-in-Err
 unfolding line_as answer_line
-returns-in-Wrong c = sym (on_accepted-refused _ _ (line-wrong c.args.s.now _ (sym c.in-Wrong.is ∙ c.judge_line.ensures)).0)
+returns-in-Err c = sym (on_accepted-refused _ _ (line-wrong c.args.s.now _ (sym c.in-Err.is ∙ c.judge_line.ensures)).0)

@@ -1,12 +1,7 @@
-use mathlib.Core.Path.{sym}
-use borrow.Author.Tests.{lt-ltb, le-ltb}
-use Rattle.scan.specs.Fields.{stands_at}
+use mathlib.Core.Path.{◌∙◌}
+use native.Mathlib.Nat.{le_refl}
+use Rattle.scan.proofs.FieldLaws.{stands-got}
 use Rattle.scan.proofs.stands.Goals as goal
 
-pub returns-then-at-t : goal.returns-then-at-t
-unfolding stands_at
-returns-then-at-t c = sym (simp (lt-ltb _ _ c.if-at-t.true))
-
 pub returns : goal.returns
-unfolding stands_at
-returns c = sym (simp (le-ltb _ _ c.if-at-t.false))
+returns c = c.eq.ensures ∙ stands-got _ _ _ _ c.get.ensures.lookup.0 (c.get.ensures.lookup.4 (le_refl c.args.at) 0)

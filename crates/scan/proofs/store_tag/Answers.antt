@@ -12,19 +12,19 @@ pub overflow_add-to : goal.overflow_add-to
 overflow_add-to c = omega (arith, counted-behind c.loop-b.invariant.counted, counted-inside c.loop-b.invariant.counted)
 
 pub loop-b-smaller : goal.loop-b-smaller
-loop-b-smaller c = gives_less (rw c.in-Byte.is at c.piece_at.ensures)
+loop-b-smaller c = gives_less (rw c.in-Some-Byte.field-0-is at c.in-Some-Byte.ensures)
 
 pub loop-b-preserved : goal.loop-b-preserved
-loop-b-preserved c = rw c.store_byte.ensures (stored_on c.loop-b.invariant (rw c.in-Byte.is at c.piece_at.ensures))
+loop-b-preserved c = rw c.store_byte.ensures (stored_on c.loop-b.invariant (rw c.in-Some-Byte.field-0-is at c.in-Some-Byte.ensures))
 
-pub shape_of-out-in-End : goal.shape_of-out-in-End
-shape_of-out-in-End c = stored-length c.loop-b.invariant
+pub shape_of-out-in-Some-End : goal.shape_of-out-in-Some-End
+shape_of-out-in-Some-End c = stored-length c.loop-b.invariant
 
-pub returns-in-End : goal.returns-in-End
-returns-in-End c = stored-done c.loop-b.invariant (rw c.in-End.is at c.piece_at.ensures).0
+pub returns-in-Some-End : goal.returns-in-Some-End
+returns-in-Some-End c = stored-done c.loop-b.invariant (rw c.in-Some-End.field-0-is at c.in-Some-End.ensures).0
 
-pub shape_of-out-in-Wrong : goal.shape_of-out-in-Wrong
-shape_of-out-in-Wrong c = stored-length c.loop-b.invariant
+pub shape_of-out-in-None : goal.shape_of-out-in-None
+shape_of-out-in-None c = stored-length c.loop-b.invariant
 
-pub returns-in-Wrong : goal.returns-in-Wrong
-returns-in-Wrong c = stored_wrong c.loop-b.invariant (rw c.in-Wrong.is at c.piece_at.ensures)
+pub returns-in-None : goal.returns-in-None
+returns-in-None c = stored_wrong c.loop-b.invariant c.in-None.ensures

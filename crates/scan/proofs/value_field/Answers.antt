@@ -7,17 +7,17 @@ use Rattle.scan.proofs.value_field.Goals as goal
 pub tag_field-requires : goal.tag_field-requires
 tag_field-requires c = let h = stands-yes _ _ _ (sym c.stands.ensures ∙ c.if-stands.true) in omega (arith, h.0)
 
-pub returns-in-Of : goal.returns-in-Of
-returns-in-Of c = value-tag _ _ _ _ (sym c.stands.ensures ∙ c.if-stands.true) (sym c.in-Of.is ∙ c.tag_field.ensures)
+pub returns-then-stands : goal.returns-then-stands
+returns-then-stands c = value-tag _ _ _ _ (sym c.stands.ensures ∙ c.if-stands.true) (sym c.in_ok-size.was ∙ c.tag_field.ensures)
 
-pub returns-in-Wrong : goal.returns-in-Wrong
-returns-in-Wrong c = value-no-tag _ _ _ _ (sym c.stands.ensures ∙ c.if-stands.true) (sym c.in-Wrong.is ∙ c.tag_field.ensures)
+pub returns-in_err-size : goal.returns-in_err-size
+returns-in_err-size c = c.from_residual.ensures ∙ value-no-tag _ _ _ _ (sym c.stands.ensures ∙ c.if-stands.true) (sym c.in_err-size.was ∙ c.tag_field.ensures)
 
 pub returns-then-tags : goal.returns-then-tags
 returns-then-tags c = value-behind _ _ _ _ c.requires (sym c.stands.ensures ∙ c.if-stands.false) c.if-tags.true
 
-pub returns-in-Of-number_field : goal.returns-in-Of-number_field
-returns-in-Of-number_field c = value-plain _ _ _ _ c.requires (sym c.stands.ensures ∙ c.if-stands.false) c.if-tags.false (sym c.in-Of-number_field.is ∙ c.number_field.ensures)
+pub returns : goal.returns
+returns c = value-plain _ _ _ _ c.requires (sym c.stands.ensures ∙ c.if-stands.false) c.if-tags.false (sym c.in_ok-n.was ∙ c.number_field.ensures)
 
-pub returns-in-Wrong-number_field : goal.returns-in-Wrong-number_field
-returns-in-Wrong-number_field c = value_none _ _ _ _ c.requires (sym c.stands.ensures ∙ c.if-stands.false) c.if-tags.false (sym c.in-Wrong-number_field.is ∙ c.number_field.ensures)
+pub returns-in_err-n : goal.returns-in_err-n
+returns-in_err-n c = c.from_residual-in_err-n.ensures ∙ value_none _ _ _ _ c.requires (sym c.stands.ensures ∙ c.if-stands.false) c.if-tags.false (sym c.in_err-n.was ∙ c.number_field.ensures)
