@@ -1,15 +1,21 @@
 -- Degrees from a text's digits: whole degrees, the point, seven places, the sign.
+use Rattle.std.specs.Prelude.{Result, Ok, Err, OkIff, ◌-ℤ◌}
+use Rattle.std.specs.Result.{result_ok}
+use Rattle.std.proofs.lemmas.Option.{same_Some, none-some}
+use mir.Syntax.{w32, w64}
+use mir.Val.{to_z, of_z, SFits}
+use mir.Facts.{to_z-of_z, to_z_pos}
 use Rattle.std.specs.Prelude.{Option, Some, None}
-use Prim.Native.Nat.{ℕ, suc, ◌+◌, ◌-◌, ◌*◌, ◌^◌, ◌≤◌, ◌<◌}
+use Prim.Native.Nat.{ℕ, zero, suc, ◌+◌, ◌-◌, ◌*◌, ◌^◌, ◌≤◌, ◌<◌}
 use native.Mathlib.Omega.{arith}
 use mathlib.Core.Path.{◌≡◌, refl, sym, ap, ◌∙◌, subst}
 use mathlib.Core.Bool.{Bool, true, false}
 use mathlib.Core.List.{List, [], ◌∷◌}
 use lib.ListN.{length, drop, get_or}
 use lib.IntN.{ℤ, pos, negsuc}
-use lib.Dec.{eqb, ltb}
-use borrow.Author.Tests.{le-leb, lt-leb, lt-ltb, le-ltb, ne_eqb, eq-eqb}
-use Rattle.wire.specs.Numbers.{signed}
+use lib.Dec.{eqb, leb, ltb}
+use borrow.Author.Tests.{leb-true, le-leb, lt-leb, lt-ltb, le-ltb, ne_eqb, eq-eqb}
+use Rattle.wire.specs.Numbers.{pick}
 use Rattle.wire.specs.Answers.{Answer, accepted, refused, refusal, on_accepted, check, check_at}
 use Rattle.wire.proofs.Accepting.{check-failed, check-passed, pick_true, pick-false}
 use Rattle.line.specs.Pieces.{before, behind}
@@ -116,25 +122,41 @@ module _ (t : List ℕ) (at : ℕ) (inside : at ≤ length t) where
 
 -- ---- the sign
 
-module _ (n end : ℕ) where
-  pub positive-read : (z : ℤ) → z ≡ signed 4 n → n ≤ 2 ^ 31 - 1 → Some (z, end) ≡ signed_as positive (Some (n, end))
-  unfolding signed_as degrees_as check_at signed
-  positive-read z e h =
-      let value : z ≡ pos n = e ∙ pick_true (ltb n (2 ^ 31)) (pos n) (negsuc (2 ^ 32 - suc n)) (lt-ltb n (2 ^ 31) (omega arith)) in
-      ap (λ (y : ℤ). Some (y, end)) value ∙ sym (simp (le-leb n (2 ^ 31 - 1) h))
-
-  pub positive-over : 2 ^ 31 - 1 < n → None ≡ signed_as positive (Some (n, end))
+-- what `try_from` answers
+module _ {E : Type 0} (n end : ℕ) where
+  pub positive-read : (r : Result ℤ E) {z : ℤ} → OkIff r (SFits w32 (pos n)) (pos n) → result_ok r ≡ Some z → Some (to_z w32 (of_z w32 z), end) ≡ signed_as positive (Some (n, end))
   unfolding signed_as degrees_as check_at
-  positive-over h = sym (simp (lt-leb n (2 ^ 31 - 1) h))
+  positive-read (Ok x) {z} k e =
+      let value : z ≡ pos n = sym (same_Some _ _ e) ∙ k.1 in
+      let h : n ≤ 2 ^ 31 - 1 = omega (arith, k.0.sfits) in
+      ap (λ (y : ℤ). Some (to_z w32 (of_z w32 y), end)) value ∙ ap (λ (y : ℤ). Some (y, end)) (to_z-of_z k.0) ∙ sym (simp (le-leb n (2 ^ 31 - 1) h))
+  positive-read (Err x) k e = absurd (none-some _ e)
 
-  pub negative-read : (z : ℤ) → z ≡ signed 4 (2 ^ 32 - n) → 1 ≤ n → n ≤ 2 ^ 31 → Some (z, end) ≡ signed_as negative (Some (n, end))
-  unfolding signed_as degrees_as check_at signed
-  negative-read z e some h =
-      let m : ℕ = 2 ^ 32 - n in
-      let value : z ≡ negsuc (n - 1) =
-      e ∙ pick-false (ltb m (2 ^ 31)) (pos m) (negsuc (2 ^ 32 - suc m)) (le-ltb m (2 ^ 31) (omega arith)) ∙ ap negsuc (omega arith)
-      in
-      ap (λ (y : ℤ). Some (y, end)) value ∙ sym (simp (le-leb 1 n some, le-leb n (2 ^ 31) h))
+  pub positive-over : (r : Result ℤ E) → OkIff r (SFits w32 (pos n)) (pos n) → result_ok r ≡ None → None ≡ signed_as positive (Some (n, end))
+  unfolding signed_as degrees_as check_at
+  positive-over (Ok x) k e = absurd (none-some _ (sym e))
+  positive-over (Err x) k e = go (leb n (2 ^ 31 - 1)) refl
+    where
+      go : (b : Bool) → leb n (2 ^ 31 - 1) ≡ b → None ≡ degrees_as end (pick b (accepted (pos n)) (refused (refusal 20)))
+      go true h = absurd (k (record { sfits = omega (arith, leb-true n (2 ^ 31 - 1) h) }))
+      go false h = refl
+
+module _ (n end : ℕ) where
+  pub negative-read : 1 ≤ n → n ≤ 2 ^ 31 → Some (to_z w32 (of_z w32 (to_z w64 (of_z w64 (pos 0 -ℤ to_z w64 n)))), end) ≡ signed_as negative (Some (n, end))
+  unfolding signed_as degrees_as check_at
+  negative-read some h =
+      let small : n < 2 ^ 63 = omega (arith, h) in
+      let wide : n - 1 < 2 ^ 63 = omega (arith, h) in
+      let narrow : n - 1 < 2 ^ 31 = omega (arith, some, h) in
+      let less : pos 0 -ℤ to_z w64 n ≡ negsuc (n - 1) = ap (λ (y : ℤ). pos 0 -ℤ y) (to_z_pos w64 small) ∙ minus n some in
+      ap (λ (y : ℤ). Some (to_z w32 (of_z w32 (to_z w64 (of_z w64 y))), end)) less
+      ∙ ap (λ (y : ℤ). Some (to_z w32 (of_z w32 y), end)) (to_z-of_z {w = w64} {z = negsuc (n - 1)} (record { sfits = wide }))
+      ∙ ap (λ (y : ℤ). Some (y, end)) (to_z-of_z {w = w32} {z = negsuc (n - 1)} (record { sfits = narrow }))
+      ∙ sym (simp (le-leb 1 n some, le-leb n (2 ^ 31) h))
+    where
+      minus : (n : ℕ) → 1 ≤ n → pos 0 -ℤ pos n ≡ negsuc (n - 1)
+      minus zero h = absurd (omega (arith, h))
+      minus (suc k) h = let some : 0 < suc k = omega arith in simp (lt-ltb 0 (suc k) some)
 
   pub negative-none : n < 1 → None ≡ signed_as negative (Some (n, end))
   unfolding signed_as degrees_as check_at

@@ -31,6 +31,7 @@ use Rattle.line.proofs.PieceLaws.{before-short, pieces-last, pieces_more}
 use Rattle.scan.specs.declared.Item.{Item}
 use Rattle.scan.specs.declared.LineFields.{LineFields}
 use Rattle.scan.specs.Fields.{field_from, field_end, number_as, degrees_as, item_as}
+use Rattle.scan.proofs.FieldLaws.{number-told}
 use Rattle.scan.specs.Walking.{pieces_from, elements_on, speed_on, longitude_on, passed_as, rest_as, line_result, judged_as}
 
 -- ---- the fields from an offset on
@@ -228,8 +229,8 @@ start-on n t at {end} h is =
     ∙ ap (start_from (suc n) at) (sym (pieces_step t at h))
 
 -- what was made a `Result` of an `Option`
-pub or-ok : {A E : Type 0} {m : Option A} {r : Result A E} {a : A} → r ≡ Ok a → m ≡ result_ok r → m ≡ Some a
-or-ok e k = k ∙ ap result_ok e
+pub or-ok : {A E : Type 0} {m s : Option A} {r : Result A E} {a : A} → r ≡ Ok a → m ≡ result_ok r → m ≡ s → Some a ≡ s
+or-ok e k is = sym (k ∙ ap result_ok e) ∙ is
 
 -- `None`, and what the `?` behind it returns
 pub or-failed : {A B : Type 0} {m : Option A} {r : Result A ℕ} {out : Result B ℕ} {e x : ℕ} → r ≡ Err x → r ≡ ok_or m e → IsErrAnd out (λ y. y ≡ x) → (m ≡ None) × (out ≡ Err e)
@@ -249,6 +250,14 @@ pub degrees-told : (end : ℕ) (r : Answer ℤ) {z : ℤ} {last : ℕ} → Some 
 unfolding degrees_as
 degrees-told end (accepted y) e = let k = some_pair_parts _ _ _ _ e in (ap accepted (sym k.0), k.1)
 degrees-told end (refused x) e = absurd (let z : ◌≡◌ {A = ℕ} 0 1 = cc in omega arith)
+
+-- a field that was read ends inside
+module _ (t : List ℕ) (at : ℕ) (h : at ≤ length t) where
+  pub number-within : (r : Answer ℕ) {n end : ℕ} → Some (n, end) ≡ number_as (field_end t at) r → end ≤ length t
+  number-within r e = let k = number-told (field_end t at) r e in omega (arith, k.1, field-inside t at h)
+
+  pub degrees-within : (r : Answer ℤ) {z : ℤ} {end : ℕ} → Some (z, end) ≡ degrees_as (field_end t at) r → end ≤ length t
+  degrees-within r e = let k = degrees-told (field_end t at) r e in omega (arith, k.1, field-inside t at h)
 
 -- degrees fit a word with a sign
 pub degrees-word : (s : List ℕ) (z : ℤ) → read_degrees s ≡ accepted z → to_z w32 (of_z w32 z) ≡ z

@@ -155,20 +155,17 @@ fn positive_of(m: Option<(u64, usize)>) -> Option<(i32, usize)>
     ensures { result ≡ signed_as positive m }
 {
     let (n, end) = m?;
-    if n <= 0x7FFF_FFFF {
-        return Some((wire::signed32(n as u32), end));
-    }
-    None
+    let degrees = i32::try_from(n).ok()?;
+    Some((degrees, end))
 }
 
-// By the two's complement.
 fn negative_of(m: Option<(u64, usize)>) -> Option<(i32, usize)>
     ensures { result ≡ signed_as negative m }
 {
     let (n, end) = m?;
     if 1 <= n {
         if n <= 0x8000_0000 {
-            return Some((wire::signed32((0x1_0000_0000 - n) as u32), end));
+            return Some((-(n as i64) as i32, end));
         }
     }
     None

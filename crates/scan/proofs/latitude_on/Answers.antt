@@ -4,20 +4,20 @@ use native.Mathlib.Omega.{arith}
 use Rattle.line.specs.LineReader.{read_degrees}
 use Rattle.scan.specs.Walking.{speed_on}
 use Rattle.scan.specs.Fields.{field_from, field_end}
-use Rattle.scan.proofs.WalkLaws.{field-inside, field-none, field-bad, field-on, degrees-told, degrees-word, degrees-bad, or-ok, or-failed}
+use Rattle.scan.proofs.WalkLaws.{field-inside, field-none, field-bad, field-on, degrees-told, degrees-word, degrees-bad, or-ok, or-failed, number-within, degrees-within}
 use Rattle.scan.proofs.latitude_on.Goals as goal
 
 pub returns-then-t-at : goal.returns-then-t-at
 returns-then-t-at c = field-none read_degrees _ _ _ _ c.if-t-at.true
 
 pub overflow_add-end : goal.overflow_add-end
-overflow_add-end c = let e = degrees-told (field_end c.args.t.now c.args.at) (read_degrees (field_from c.args.t.now c.args.at)) (sym (or-ok c.in_ok-latitude.was c.ok_or.ensures.ok_part) ∙ c.degrees_field.ensures) in omega (arith, e.1, field-inside c.args.t.now c.args.at c.if-t-at.false)
+overflow_add-end c = let h = degrees-within _ _ c.if-t-at.false _ (or-ok c.in_ok-latitude.was c.ok_or.ensures.ok_part c.degrees_field.ensures) in omega (arith, h)
 
 pub speed_on-requires : goal.speed_on-requires
-speed_on-requires c = let e = degrees-told (field_end c.args.t.now c.args.at) (read_degrees (field_from c.args.t.now c.args.at)) (sym (or-ok c.in_ok-latitude.was c.ok_or.ensures.ok_part) ∙ c.degrees_field.ensures) in omega (arith, e.1, field-inside c.args.t.now c.args.at c.if-t-at.false)
+speed_on-requires c = let h = degrees-within _ _ c.if-t-at.false _ (or-ok c.in_ok-latitude.was c.ok_or.ensures.ok_part c.degrees_field.ensures) in omega (arith, h)
 
 pub returns-in_err-latitude : goal.returns-in_err-latitude
 returns-in_err-latitude c = let k = or-failed c.in_err-latitude.was c.ok_or.ensures.value c.from_residual.ensures.1 in k.1 ∙ field-bad read_degrees _ _ _ _ c.if-t-at.false (degrees-bad _ _ (sym k.0 ∙ c.degrees_field.ensures)).1
 
 pub returns : goal.returns
-returns c = field-on read_degrees c.args.t.now c.args.at (speed_on c.args.timestamp c.args.longitude) 1 c.if-t-at.false (degrees-told _ _ (sym (or-ok c.in_ok-latitude.was c.ok_or.ensures.ok_part) ∙ c.degrees_field.ensures)) (rw (to_z-of_z c.ranges.longitude, degrees-word (field_from c.args.t.now c.args.at) c.in_ok-latitude.latitude (degrees-told (field_end c.args.t.now c.args.at) (read_degrees (field_from c.args.t.now c.args.at)) (sym (or-ok c.in_ok-latitude.was c.ok_or.ensures.ok_part) ∙ c.degrees_field.ensures)).0) at c.speed_on.ensures)
+returns c = field-on read_degrees c.args.t.now c.args.at (speed_on c.args.timestamp c.args.longitude) 1 c.if-t-at.false (degrees-told _ _ (or-ok c.in_ok-latitude.was c.ok_or.ensures.ok_part c.degrees_field.ensures)) (rw (to_z-of_z c.ranges.longitude, degrees-word (field_from c.args.t.now c.args.at) c.in_ok-latitude.latitude (degrees-told (field_end c.args.t.now c.args.at) (read_degrees (field_from c.args.t.now c.args.at)) (or-ok c.in_ok-latitude.was c.ok_or.ensures.ok_part c.degrees_field.ensures)).0) at c.speed_on.ensures)
