@@ -13,11 +13,11 @@ use mathlib.Core.Bool.{Bool, true, false}
 use mathlib.Core.List.{List, [], ◌∷◌}
 use lib.ListN.{length, drop, get_or}
 use lib.IntN.{ℤ, pos, negsuc}
-use lib.Dec.{eqb, leb, ltb}
-use borrow.Author.Tests.{leb-true, le-leb, lt-leb, lt-ltb, le-ltb, ne_eqb, eq-eqb}
+use lib.Dec.{eqb, leb}
+use borrow.Author.Tests.{leb-true, le-leb, lt-leb, lt-ltb, ne_eqb, eq-eqb}
 use Rattle.wire.specs.Numbers.{pick}
 use Rattle.wire.specs.Answers.{Answer, accepted, refused, refusal, on_accepted, check, check_at}
-use Rattle.wire.proofs.Accepting.{check-failed, check-passed, pick_true, pick-false}
+use Rattle.wire.proofs.Accepting.{check-failed, check-passed, pick-false}
 use Rattle.line.specs.Pieces.{before, behind}
 use Rattle.line.specs.LineReader.{all_digits, said, no_spare_zero, read_decimal, read_unsigned, read_degrees, positive, negative}
 use Rattle.scan.specs.Fields.{field_from, field_end, stands_at, ends_at, run, number_as, run_as, places_of, degrees_as, signed_as}

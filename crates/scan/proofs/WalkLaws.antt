@@ -1,5 +1,6 @@
 -- The walk along a line's fields.
 use Rattle.std.proofs.lemmas.Option.{some_pair_parts}
+use Rattle.std.specs.List.{IsLastAndRest}
 use Rattle.std.specs.Result.{result_ok, IsErrAnd}
 use Rattle.std.proofs.lemmas.Result.{err_from_is_err_and}
 use Rattle.std.specs.Option.{ok_or}
@@ -11,7 +12,7 @@ use mathlib.Core.Path.{◌≡◌, refl, sym, ap, ap₂, ◌∙◌}
 use mathlib.Core.Bool.{Bool, true, false}
 use mathlib.Core.List.{List, [], ◌∷◌}
 use lib.ListN.{length, take, drop, get_or, length-drop, get_or-eq_default}
-use lib.Seq.{drop-drop}
+use lib.Seq.{drop-drop, get_or-append_seam, take-append_seam}
 use lib.IntN.{ℤ, pos, negsuc}
 use mir.Syntax.{w32}
 use mir.Val.{to_z, of_z, SFits}
@@ -327,6 +328,17 @@ module _ (t : List ℕ) (at timestamp speed end : ℕ) (longitude latitude : ℤ
 -- a text without its last byte, as the code cuts it
 pub cut-body : (s : List ℕ) {last : ℕ} → last ≡ length s - 1 → take (last - 0) (drop 0 s) ≡ body s
 cut-body s {last} e = let same : last - 0 ≡ length s - 1 = omega (arith, e) in ap (λ (n : ℕ). take n s) same
+
+-- as `split_last` cuts it
+module _ (s t : List ℕ) (last : ℕ) (k : IsLastAndRest s last t) where
+  place : length s - 1 ≡ length t
+  place = omega (arith, k.1)
+
+  pub cut-last : get_or s (length s - 1) 0 ≡ last
+  cut-last = ap (λ (n : ℕ). get_or s n 0) place ∙ ap (λ (x : List ℕ). get_or x (length t) 0) k.0 ∙ get_or-append_seam t last [] 0
+
+  pub cut-rest : t ≡ body s
+  cut-rest = sym (ap (λ (n : ℕ). take n s) place ∙ ap (take (length t)) k.0 ∙ take-append_seam t (last ∷ []))
 
 module _ (s : List ℕ) where
   abbrev whole_line : Result LineFields ℕ

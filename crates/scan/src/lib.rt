@@ -386,14 +386,12 @@ fn longitude_on(t: &[u8], at: usize, timestamp: u64) -> Result<LineFields, usize
 fn judge_line(s: &[u8]) -> Result<LineFields, usize>
     ensures { result ≡ judged_as (field_start s.now 4) (judge_line s.now) }
 {
-    if s.len() < 1 {
+    let Some((&last, t)) = s.split_last() else {
         return Err(0);
-    }
-    let last = s.len() - 1;
-    if s[last] != 10 {
+    };
+    if last != 10 {
         return Err(s.len());
     }
-    let t = &s[0..last];
     let (timestamp, end) = number_field(t, 0, 0xFFFF_FFFF_FFFF_FFFF).ok_or(0usize)?;
     longitude_on(t, end + 1, timestamp)
 }

@@ -1,6 +1,6 @@
 use mathlib.Core.Path.{sym, ◌∙◌}
 use native.Mathlib.Omega.{arith}
-use Rattle.scan.proofs.WalkLaws.{left-start, left-done, left-wrong, left-turn, left_less, or-ok, or-failed, number-within, degrees-within}
+use Rattle.scan.proofs.WalkLaws.{left-start, left-done, left-wrong, left-turn, left_less, or-ok, or-failed}
 use Rattle.scan.proofs.elements_on.Goals as goal
 
 pub loop-next-init : goal.loop-next-init

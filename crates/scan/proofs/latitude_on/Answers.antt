@@ -4,7 +4,7 @@ use native.Mathlib.Omega.{arith}
 use Rattle.line.specs.LineReader.{read_degrees}
 use Rattle.scan.specs.Walking.{speed_on}
 use Rattle.scan.specs.Fields.{field_from, field_end}
-use Rattle.scan.proofs.WalkLaws.{field-inside, field-none, field-bad, field-on, degrees-told, degrees-word, degrees-bad, or-ok, or-failed, number-within, degrees-within}
+use Rattle.scan.proofs.WalkLaws.{field-none, field-bad, field-on, degrees-told, degrees-word, degrees-bad, or-ok, or-failed, degrees-within}
 use Rattle.scan.proofs.latitude_on.Goals as goal
 
 pub returns-then-t-at : goal.returns-then-t-at

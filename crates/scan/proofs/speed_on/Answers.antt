@@ -5,7 +5,7 @@ use native.Mathlib.Omega.{arith}
 use Rattle.line.specs.LineReader.{read_decimal}
 use Rattle.scan.specs.Fields.{field_from, field_end}
 use Rattle.scan.proofs.FieldLaws.{number-told, decimal-most}
-use Rattle.scan.proofs.WalkLaws.{field-inside, field-none, field-bad, number-read, speed-read, speed-bad, or-ok, or-failed, number-within, degrees-within}
+use Rattle.scan.proofs.WalkLaws.{field-none, field-bad, number-read, speed-read, speed-bad, or-ok, or-failed, number-within}
 use Rattle.std.specs.Prelude.{Err}
 use Rattle.std.proofs.lemmas.Result.{err_from_is_err_and}
 use Rattle.scan.proofs.speed_on.Goals as goal
