@@ -1,8 +1,5 @@
 -- From the walk to the answers: a line's fields, where it is wrong, and its elements one by one.
-use Rattle.std.specs.List.{position, position_or_len}
-use Rattle.std.proofs.lemmas.Option.{cond_some, none-some}
-use Rattle.std.proofs.lemmas.List.Recursion.{is_position_or_len}
-use Rattle.std.specs.Prelude.{cond, Some, None, Ok, Err}
+use Rattle.std.specs.Prelude.{Some, None, Ok, Err}
 use Prim.Native.Nat.{ℕ, zero, suc, ◌+◌, ◌-◌, ◌*◌, ◌^◌, ◌≤◌, ◌<◌}
 use native.Mathlib.Nat.{not-suc-le-zero, le_of_suc-le-suc}
 use native.Mathlib.Omega.{arith}
@@ -11,14 +8,13 @@ use mathlib.Core.Bool.{Bool, true, false, not}
 use mathlib.Core.List.{List, [], ◌∷◌, ◌++◌}
 use lib.ListN.{length, drop, get_or, length-drop, length-append, length-take, drop_of_length-le}
 use lib.Seq.{drop-drop, drop-append-add}
-use lib.Dec.{eqb, leb, ltb}
-use borrow.Author.Tests.{le-leb, lt-leb, ltb-false}
+use lib.Dec.{eqb, leb}
+use borrow.Author.Tests.{le-leb, lt-leb, ne_eqb}
 use Rattle.wire.specs.Sequences.{joined}
 use Rattle.wire.specs.declared.Refusal.{Refusal}
 use Rattle.wire.specs.Answers.{Answer, accepted, refused, refusal, on_accepted, told, unplaced, check, check_at}
 use Rattle.wire.specs.Reading.{Read, got, bad, and_then}
 use Rattle.wire.specs.Buffers.{leaving}
-use Rattle.wire.specs.Numbers.{pick}
 use Rattle.wire.proofs.Accepting.{by_length, pick-either, on_accepted-passed, on_accepted-refused}
 use Rattle.text.specs.Decimal.{decimal}
 use Rattle.text.specs.Hex.{among}
@@ -41,6 +37,7 @@ use Rattle.scan.specs.declared.LineElementAnswer.{LineElementAnswer}
 use Rattle.scan.specs.Fields.{field_from, field_end, tag_start, item_as}
 use Rattle.scan.specs.Walking.{pieces_from, judged_as, line_result, standing}
 use Rattle.scan.specs.Answers.{tag_bytes, element_result, answer_element, leaving_element, element_as}
+use Rattle.scan.proofs.FieldLaws.{field-behind, field-comma, field-byte}
 use Rattle.scan.proofs.WalkLaws.{pieces_none, pieces-some, start-on}
 
 -- ---- whatever is wrong is 20
@@ -110,26 +107,20 @@ module _ (s : List ℕ) (start : ℕ) where
 
 -- ---- where fields end and start
 
--- the comma's place, counted
-before-place : (s : List ℕ) → length (before 44 s) ≡ position_or_len (λ c. eqb c 44) s
-unfolding before
-before-place = is_position_or_len (λ s. length (before 44 s)) (λ c. eqb c 44) refl (λ c s. step c s (eqb c 44))
-  where
-    step : (c : ℕ) (s : List ℕ) (b : Bool) → length (pick b [] (c ∷ before 44 s)) ≡ cond b 0 (1 + length (before 44 s))
-    step c s true = refl
-    step c s false = omega arith
-
 module _ (t : List ℕ) (at : ℕ) where
-  pub end-comma : {n : ℕ} → position (λ c. eqb c 44) (drop at t) ≡ Some n → at + n ≡ field_end t at
-  end-comma {n} e = ap (λ (m : ℕ). at + m) (sym (before-place (drop at t) ∙ (cond_some _ _ _ e).1))
+  abbrev pub EndLeft : ℕ → Type 0
+  EndLeft i = (i ≤ length t) × (field_end t i ≡ field_end t at)
 
-  pub end-none : at ≤ length t → position (λ c. eqb c 44) (drop at t) ≡ None → length t ≡ field_end t at
-  end-none h e = go (ltb (position_or_len (λ c. eqb c 44) (drop at t)) (length (drop at t))) refl e
-    where
-      go : (b : Bool) → ltb (position_or_len (λ c. eqb c 44) (drop at t)) (length (drop at t)) ≡ b
-          → cond b (Some (position_or_len (λ c. eqb c 44) (drop at t))) None ≡ None → length t ≡ field_end t at
-      go true l e = absurd (none-some _ (sym e))
-      go false l e = omega (arith, h, ltb-false _ _ l, before-place (drop at t), before-short 44 (drop at t), length-drop at t)
+  pub end-comma : {i : ℕ} → EndLeft i → i < length t → get_or t i 0 ≡ 44 → i ≡ field_end t at
+  end-comma {i} l h e = omega (arith, l.1, ap length (field-comma t i h e))
+
+  pub end-turn : {i : ℕ} → EndLeft i → i < length t → (get_or t i 0 ≡ 44 → ⊥) → EndLeft (i + 1)
+  end-turn {i} l h e =
+      let more = field-byte t i h (ne_eqb (get_or t i 0) 44 e) in
+      (omega arith, omega (arith, ap length more, l.1))
+
+  pub end-done : {i : ℕ} → EndLeft i → length t ≤ i → length t ≡ field_end t at
+  end-done {i} l h = omega (arith, l.0, h, l.1, ap length (field-behind t i h))
 
 start_none : (n at : ℕ) → start_from n at [] ≡ at
 unfolding start_from

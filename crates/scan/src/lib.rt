@@ -1,8 +1,7 @@
 // Reading a line for the billing desk: its four leading fields, and its elements one by one.
 #![tactic(auto)]
 
-ghost use Rattle.std.specs.Prelude.{◌≡◌, ◌+◌, ◌≤◌, false, length, drop, eqb};
-ghost use Rattle.std.specs.List.{position};
+ghost use Rattle.std.specs.Prelude.{◌≡◌, ◌+◌, ◌≤◌, false, length, drop};
 ghost use Rattle.line.specs.LineReader.{read_decimal, read_unsigned, read_degrees, read_hex, read_tag, none, read_value, read_printed, read_elements, positive, negative, judge_line, wrong_at};
 ghost use Rattle.line.specs.LineElements.{start_from, field_start, element_of, element_at};
 ghost use Rattle.scan.specs.Fields.{field_from, field_end, stands_at, ends_at, run, number_as, run_as, places_of, degrees_as, signed_as, tag_start, item_as};
@@ -422,22 +421,18 @@ pub fn wrong_byte(s: &[u8]) -> usize
 
 // ---- elements one by one
 
-// Where the first comma stands.
-fn first_comma(t: &[u8]) -> Option<usize>
-    ensures { result ≡ position (λ c. eqb c 44) t.now }
-{
-    t.iter().position(|c| *c == 44)
-}
-
 // Where the field that starts at `at` ends.
 fn field_end(t: &[u8], at: usize) -> usize
     requires { at ≤ length t.now }
     ensures { result ≡ field_end t.now at }
 {
-    match first_comma(&t[at..]) {
-        Some(n) => at + n,
-        None => t.len(),
+    // Not `position`: with it the walk to an element by its number took a third longer.
+    for i in at..t.len() {
+        if t[i] == 44 {
+            return i;
+        }
     }
+    t.len()
 }
 
 // Where the n-th field from `at` on starts.

@@ -1,10 +1,15 @@
-use mathlib.Core.Path.{sym, ◌∙◌}
-use Rattle.std.proofs.lemmas.List.{take_rest}
-use Rattle.scan.proofs.AnswerLaws.{end-comma, end-none}
+use mathlib.Core.Path.{refl}
+use Rattle.scan.proofs.AnswerLaws.{end-comma, end-turn, end-done}
 use Rattle.scan.proofs.field_end.Goals as goal
 
-pub returns-in-Some : goal.returns-in-Some
-returns-in-Some c = end-comma _ _ (sym (rw (take_rest c.args.t.now c.args.at) at c.first_comma.ensures) ∙ c.in-Some.is)
+pub loop-i-init : goal.loop-i-init
+loop-i-init c = (c.requires, refl)
 
-pub returns-in-None : goal.returns-in-None
-returns-in-None c = end-none _ _ c.requires (sym (rw (take_rest c.args.t.now c.args.at) at c.first_comma.ensures) ∙ c.in-None.is)
+pub returns-then-t-i-eq44 : goal.returns-then-t-i-eq44
+returns-then-t-i-eq44 c = end-comma _ _ c.loop-i.invariant c.loop-i-test.true c.if-t-i-eq44.true
+
+pub loop-i-preserved : goal.loop-i-preserved
+loop-i-preserved c = end-turn _ _ c.loop-i.invariant c.loop-i-test.true c.if-t-i-eq44.false
+
+pub returns : goal.returns
+returns c = end-done _ _ c.loop-i.invariant c.loop-i-test.false
