@@ -1,16 +1,10 @@
 -- A text's first line, and the text from a line on.
-use Prim.Native.Nat.{ℕ, suc, ◌+◌, ◌-◌, ◌≤◌, ◌<◌}
-use native.Mathlib.Omega.{arith}
-use mathlib.Core.Path.{◌≡◌, refl, sym, ap, ◌∙◌}
-use mathlib.Core.Bool.{Bool, true, false}
-use mathlib.Core.List.{List, [], ◌∷◌}
-use lib.ListN.{length, take, drop, get_or, length-drop}
-use lib.Seq.{drop-drop}
-use lib.Dec.{eqb}
-use borrow.Author.Tests.{eq-eqb, ne_eqb}
+use Rattle.std.proofs.Common.{ℕ, suc, ◌+◌, ◌-◌, ◌≤◌, ◌<◌, ◌==◌, nat_lt, arith, ◌≡◌, refl, sym, ap, ◌∙◌, Bool, true, false, not, cond, eqb, List, [], ◌∷◌, Option, Some, None, position, length, take, drop, length-drop, drop-drop}
+use Rattle.std.specs.List.{position_or_len}
+use Rattle.std.proofs.lemmas.Bool.Decides.{nat_tests}
 use Rattle.wire.specs.Numbers.{pick}
 use Rattle.say.specs.Lines.{line_length, from_line, line_of}
-use Rattle.say.proofs.PageLaws.{rest, next, none_left}
+use Rattle.say.proofs.PageLaws.{rest}
 
 -- ---- the first line
 
@@ -23,18 +17,24 @@ line-fits (c ∷ s) = split (line-fits s) (eqb c 10)
     split h true = omega arith
     split h false = omega arith
 
-module _ (s : List ℕ) (i : ℕ) (inside : i < length s) where
-  pub line-ends : get_or s i 0 ≡ 10 → i + 1 ≡ i + line_length (drop i s)
-  unfolding line_length
-  line-ends e = rw (next s i inside) (simp (eq-eqb _ _ e))
+abbrev is_end : ℕ → Bool
+is_end c = c == 10
 
-  pub line_on : (get_or s i 0 ≡ 10 → ⊥) → i + 1 + line_length (drop (i + 1) s) ≡ i + line_length (drop i s)
-  unfolding line_length
-  line_on e = rw (next s i inside) (simp (ne_eqb _ _ e) (omega arith))
-
-pub line-done : (s : List ℕ) (i : ℕ) → length s ≤ i → i + line_length (drop i s) ≡ i
+line-position : (s : List ℕ) → line_length s ≡ cond (nat_lt (position_or_len is_end s) (length s)) (position_or_len is_end s + 1) (length s)
 unfolding line_length
-line-done s i h = rw (none_left s i h) (omega arith)
+line-position [] = refl
+line-position (c ∷ s) = split (line-position s) (eqb c 10)
+  where
+    split : line_length s ≡ cond (nat_lt (position_or_len is_end s) (length s)) (position_or_len is_end s + 1) (length s) → (t : Bool)
+        → pick t 1 (suc (line_length s)) ≡ cond (nat_lt (cond (not t) (1 + position_or_len is_end s) 0) (suc (length s))) (cond (not t) (1 + position_or_len is_end s) 0 + 1) (suc (length s))
+    split h true = grind (arith, nat_tests)
+    split h false = grind (arith, nat_tests, h)
+
+pub line-found : (s : List ℕ) (i : ℕ) → Some i ≡ position is_end s → i + 1 ≡ line_length s
+line-found s i e = grind (arith, nat_tests, line-position s)
+
+pub line-whole : (s : List ℕ) → None ≡ position is_end s → length s ≡ line_length s
+line-whole s e = grind (arith, nat_tests, line-position s)
 
 -- ---- the text from a line on: `left` lines behind the place `at`
 
@@ -42,8 +42,8 @@ pub record LinesLeft (s : List ℕ) (n at left : ℕ) : Type 0 where
   pub inside : at ≤ length s
   pub same : from_line left (drop at s) ≡ from_line n s
 
-pub lines-first : (s : List ℕ) (n : ℕ) → LinesLeft s n 0 n
-lines-first s n = record { inside = omega arith; same = refl }
+pub lines-first : (s : List ℕ) (n : ℕ) → LinesLeft s n 0 (n - 0)
+lines-first s n = record { inside = omega arith; same = ap (λ (m : ℕ). from_line m s) (omega arith) }
 
 module _ {s : List ℕ} {n at left k : ℕ} (h : LinesLeft s n at left) (e : k ≡ line_length (take (length s - at) (drop at s))) where
   pub line-inside : at + k ≤ length s
@@ -52,14 +52,13 @@ module _ {s : List ℕ} {n at left k : ℕ} (h : LinesLeft s n at left) (e : k �
       let size : length (drop at s) ≡ length s - at = length-drop at s in
       omega (arith, e ∙ ap line_length (rest s at), h.inside)
 
-  pub lines_next : 0 < left → LinesLeft s n (at + k) (left - 1)
+  pub lines_next : {fewer : ℕ} → left ≡ suc fewer → LinesLeft s n (at + k) fewer
   unfolding from_line
-  lines_next more =
-      let one : left ≡ suc (left - 1) = omega arith in
+  lines_next {fewer} one =
       let step : k ≡ line_length (drop at s) = e ∙ ap line_length (rest s at) in
       record {
         inside = line-inside;
-        same = rw step (sym (ap (from_line (left - 1)) (drop-drop (line_length (drop at s)) at s)) ∙ sym (ap (λ (m : ℕ). from_line m (drop at s)) one) ∙ h.same);
+        same = rw step (sym (ap (from_line fewer) (drop-drop (line_length (drop at s)) at s)) ∙ sym (ap (λ (m : ℕ). from_line m (drop at s)) one) ∙ h.same);
       }
 
   pub lines-done : left ≤ 0 → take (at + k - at) (drop at s) ≡ line_of n s

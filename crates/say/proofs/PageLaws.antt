@@ -79,8 +79,5 @@ next s i h = rw (add-one i) (drop-cons s i 0 h)
 pub none_left : (s : List ℕ) (i : ℕ) → length s ≤ i → drop i s ≡ []
 none_left s i h = drop_of_length-le s {i = i} h
 
-pub run-next : (n b : ℕ) → 0 < n → replicate n b ≡ (b ∷ []) ++ replicate (n - 1) b
-run-next n b h = let e : n ≡ suc (n - 1) = omega arith in ap (λ (k : ℕ). replicate k b) e
-
-pub run-done : (n b : ℕ) → n ≤ 0 → replicate n b ≡ []
-run-done n b h = let e : n ≡ 0 = omega arith in ap (λ (k : ℕ). replicate k b) e
+pub run-next : (n k b : ℕ) → k < n → replicate (n - k) b ≡ (b ∷ []) ++ replicate (n - (k + 1)) b
+run-next n k b h = let e : n - k ≡ suc (n - (k + 1)) = omega arith in ap (λ (m : ℕ). replicate m b) e

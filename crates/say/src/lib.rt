@@ -3,273 +3,262 @@
 // what goes to a stream: the functions that write answer how many of those bytes they hand over.
 #![tactic(auto)]
 
-ghost use Rattle.std.specs.Prelude.{◌≡◌, [], ◌∷◌, ◌-◌, ◌*◌, ◌<◌, min, length, take, drop, get_or, replicate};
-ghost use Rattle.say.specs.Page.{OnPage};
+ghost use Rattle.std.specs.Prelude.{◌≡◌, [], ◌∷◌, ◌-◌, ◌*◌, ◌<◌, ◌==◌, min, position, length, take, drop, replicate};
+ghost use Rattle.say.specs.Page.{OnPage, Puts};
 ghost use Rattle.say.specs.Rendering.{padded, width_of, shown, is_mark, rendered, is_plain, quotable, quoted, group, onward, around};
 ghost use Rattle.say.specs.Lines.{line_length, line_of};
 ghost use Rattle.text.specs.Hex.{hex_text};
 ghost use Rattle.text.specs.Decimal.{decimal};
 ghost use Rattle.wire.specs.Limits.{largest_of_all};
 
+use itoa::Buffer;
 use std::io::{Cursor, Write};
 use std::{io, str};
 
-// ---- a page; each function answers where it goes on
-
-fn put(page: &mut [u8], at: usize, b: u8) -> usize
-    ensures { OnPage (b ∷ []) page.old at page.new result }
-{
-    if at < page.len() {
-        page[at] = b;
-        return at + 1;
-    }
-    at
-}
-
-fn put_text(page: &mut [u8], at: usize, s: &[u8]) -> usize
-    ensures { OnPage s.now page.old at page.new result }
-{
-    let mut to = at;
-    let mut i: usize = 0;
-    while i < s.len() {
-        to = put(page, to, s[i]);
-        i += 1;
-    }
-    to
-}
-
-fn put_times(page: &mut [u8], at: usize, b: u8, times: usize) -> usize
-    ensures { OnPage (replicate times b) page.old at page.new result }
-{
-    let mut to = at;
-    let mut left = times;
-    while 0 < left {
-        to = put(page, to, b);
-        left -= 1;
-    }
-    to
-}
-
-fn less(a: usize, b: usize) -> usize
-    ensures { result ≡ a - b }
-{
-    if b < a { a - b } else { 0 }
-}
-
-// Stores the decimal digits of a number at the end of the room for them, and answers where they begin.
-fn decimal(n: u64, out: &mut [u8; 20]) -> usize
-    ensures within { result < 20 }
-    ensures digits { drop result out.new ≡ decimal n }
-{
-    let mut rest = n;
-    let mut start: usize = 19;
-    while 10 <= rest {
-        out[start] = (48 + rest % 10) as u8;
-        start -= 1;
-        rest = rest / 10;
-    }
-    out[start] = (48 + rest) as u8;
-    start
-}
-
-// A number, with `pad` in front up to `width`.
-fn put_padded(page: &mut [u8], at: usize, n: u64, width: usize, pad: u8) -> usize
-    ensures { OnPage (padded width pad n) page.old at page.new result }
-{
-    let mut digits = [0u8; 20];
-    let start = decimal(n, &mut digits);
-    let text = &digits[start..];
-    let to = put_times(page, at, pad, less(width, text.len()));
-    put_text(page, to, text)
-}
-
 // The width that a character means: 1 to 9, A for 10 to F for 15.
+#[tactic(auto, unfolding(crate::specs::Rendering::width_of))]
 fn width_of(c: u8) -> usize
     ensures { result ≡ width_of c }
 {
-    if c < 65 {
-        return less(c as usize, 48);
-    }
-    less(c as usize, 55)
+    let zero = if c < 65 { 48 } else { 55 };
+    usize::from(c.saturating_sub(zero))
 }
 
-fn put_number(page: &mut [u8], at: usize, mark: u8, c: u8, n: u64) -> usize
-    ensures { OnPage (shown mark c n) page.old at page.new result }
-{
-    if mark == b'%' {
-        return put_padded(page, at, n, width_of(c), b'0');
-    }
-    if mark == b'~' {
-        return put_padded(page, at, n, width_of(c), b' ');
-    }
-    put_times(page, at, c, n as usize)
-}
-
-// The number k, or 0.
-fn number_at(numbers: &[u64], k: usize) -> u64
-    ensures { result ≡ get_or numbers.now k 0 }
-{
-    if k < numbers.len() { numbers[k] } else { 0 }
-}
-
+#[tactic(auto, unfolding(crate::specs::Rendering::is_mark))]
 fn is_mark(c: u8) -> bool
     ensures { result ≡ is_mark c }
 {
-    if c == b'%' {
-        return true;
-    }
-    if c == b'~' {
-        return true;
-    }
-    c == b'^'
+    matches!(c, b'%' | b'~' | b'^')
 }
 
-// Text with numbers in it, each for two characters: %w is the number with zeros in front up to w
-// digits, ~w the same with spaces, and ^c the character c as often as the number says.
-pub fn render(page: &mut [u8], s: &[u8], numbers: &[u64]) -> usize
-    ensures { OnPage (rendered s.now numbers.now) page.old 0 page.new result }
-{
-    let mut to: usize = 0;
-    let mut k: usize = 0;
-    let mut i: usize = 0;
-    while i < s.len() {
-        let c = s[i];
-        i += 1;
-        if is_mark(c) {
-            if i < s.len() {
-                to = put_number(page, to, c, s[i], number_at(numbers, k));
-                i += 1;
-                k += 1;
-            }
-        } else {
-            to = put(page, to, c);
-        }
-    }
-    to
-}
-
-// The two digits of a byte.
-fn put_digits(page: &mut [u8], at: usize, b: u8) -> usize
-    ensures { OnPage (hex_text (b ∷ [])) page.old at page.new result }
-{
-    let mut digits = [0u8; 2];
-    text::encode(&[b], &mut digits);
-    put_text(page, at, &digits)
-}
-
+#[tactic(auto, unfolding(crate::specs::Rendering::is_plain))]
 fn is_plain(b: u8) -> bool
     ensures { result ≡ is_plain b }
 {
-    if b == b'"' {
-        return false;
-    }
-    if b == b'\\' {
-        return false;
-    }
-    text::is_printable(b)
-}
-
-// A printable byte as it is, but quote and backslash; every other one as \xNN.
-fn put_quotable(page: &mut [u8], at: usize, b: u8) -> usize
-    ensures { OnPage (quotable b) page.old at page.new result }
-{
-    if is_plain(b) {
-        return put(page, at, b);
-    }
-    let to = put_text(page, at, b"\\x");
-    put_digits(page, to, b)
-}
-
-// Text between quotes.
-pub fn quote(page: &mut [u8], s: &[u8]) -> usize
-    ensures { OnPage (quoted s.now) page.old 0 page.new result }
-{
-    let mut to = put(page, 0, b'"');
-    let mut i: usize = 0;
-    while i < s.len() {
-        to = put_quotable(page, to, s[i]);
-        i += 1;
-    }
-    put(page, to, b'"')
-}
-
-// ---- the bytes around a place
-
-// Bytes as hex text.
-fn put_hex(page: &mut [u8], at: usize, s: &[u8]) -> usize
-    ensures { OnPage (hex_text s.now) page.old at page.new result }
-{
-    let mut to = at;
-    let mut i: usize = 0;
-    while i < s.len() {
-        to = put_digits(page, to, s[i]);
-        i += 1;
-    }
-    to
-}
-
-// The same with a space in front; nothing for no bytes.
-fn put_group(page: &mut [u8], at: usize, s: &[u8]) -> usize
-    ensures { OnPage (group s.now) page.old at page.new result }
-{
-    if s.len() == 0 {
-        return at;
-    }
-    let to = put(page, at, b' ');
-    put_hex(page, to, s)
+    !matches!(b, b'"' | b'\\') && text::is_printable(b)
 }
 
 // The first `n` bytes, or all; and the bytes behind them.
 fn first(s: &[u8], n: usize) -> &[u8]
     ensures { result.now ≡ take n s.now }
 {
-    let end = least(n, s.len());
-    &s[0..end]
+    &s[..n.min(s.len())]
 }
 
 fn behind(s: &[u8], n: usize) -> &[u8]
     ensures { result.now ≡ drop n s.now }
 {
-    let start = least(n, s.len());
-    &s[start..]
+    &s[n.min(s.len())..]
 }
 
-// An input from a place on: its byte in brackets, which are empty at the input's end, and up to 16 behind it.
-fn put_onward(page: &mut [u8], at: usize, s: &[u8]) -> usize
-    ensures { OnPage (onward s.now) page.old at page.new result }
+// ---- a page, and the place where it goes on
+
+#[derive(Drop)]
+struct Page<'a> {
+    bytes: &'a mut [u8],
+    at: usize,
+}
+
+impl<'a> Page<'a> {
+    fn put(&mut self, b: u8)
+        ensures same { self.new.bytes.ghost_name ≡ self.old.bytes.ghost_name }
+        ensures page { Puts (b ∷ []) self.old self.new }
+    {
+        if self.at < self.bytes.len() {
+            self.bytes[self.at] = b;
+            self.at += 1;
+        }
+    }
+
+    fn put_text(&mut self, s: &[u8])
+        ensures same { self.new.bytes.ghost_name ≡ self.old.bytes.ghost_name }
+        ensures page { Puts s.now self.old self.new }
+    {
+        for b in s {
+            self.put(*b);
+        }
+    }
+
+    fn put_times(&mut self, b: u8, times: usize)
+        ensures same { self.new.bytes.ghost_name ≡ self.old.bytes.ghost_name }
+        ensures page { Puts (replicate times b) self.old self.new }
+    {
+        for _ in 0..times {
+            self.put(b);
+        }
+    }
+
+    // A number, with `pad` in front up to `width`.
+    fn put_padded(&mut self, n: u64, width: usize, pad: u8)
+        ensures same { self.new.bytes.ghost_name ≡ self.old.bytes.ghost_name }
+        ensures page { Puts (padded width pad n) self.old self.new }
+    {
+        let mut digits = Buffer::new();
+        let text = digits.format(n).as_bytes();
+        self.put_times(pad, width.saturating_sub(text.len()));
+        self.put_text(text);
+    }
+
+    #[tactic(auto, unfolding(crate::specs::Rendering::shown))]
+    fn put_number(&mut self, mark: u8, c: u8, n: u64)
+        ensures same { self.new.bytes.ghost_name ≡ self.old.bytes.ghost_name }
+        ensures page { Puts (shown mark c n) self.old self.new }
+    {
+        match mark {
+            b'%' => self.put_padded(n, width_of(c), b'0'),
+            b'~' => self.put_padded(n, width_of(c), b' '),
+            _ => self.put_times(c, n as usize),
+        }
+    }
+
+    // Text with numbers in it.
+    fn put_rendered(&mut self, s: &[u8], numbers: &[u64])
+        ensures same { self.new.bytes.ghost_name ≡ self.old.bytes.ghost_name }
+        ensures page { Puts (rendered s.now numbers.now) self.old self.new }
+    {
+        let mut text = s.iter();
+        let mut values = numbers.iter();
+        while let Some(c) = text.next() {
+            if is_mark(*c) {
+                if let Some(d) = text.next() {
+                    self.put_number(*c, *d, values.next().copied().unwrap_or(0));
+                }
+            } else {
+                self.put(*c);
+            }
+        }
+    }
+
+    // The two digits of a byte.
+    fn put_digits(&mut self, b: u8)
+        ensures same { self.new.bytes.ghost_name ≡ self.old.bytes.ghost_name }
+        ensures page { Puts (hex_text (b ∷ [])) self.old self.new }
+    {
+        let mut digits = [0u8; 2];
+        text::encode(&[b], &mut digits);
+        self.put_text(&digits);
+    }
+
+    // A printable byte as it is, but quote and backslash; every other one as \xNN.
+    #[tactic(auto, unfolding(crate::specs::Rendering::quotable))]
+    fn put_quotable(&mut self, b: u8)
+        ensures same { self.new.bytes.ghost_name ≡ self.old.bytes.ghost_name }
+        ensures page { Puts (quotable b) self.old self.new }
+    {
+        if is_plain(b) {
+            return self.put(b);
+        }
+        self.put_text(b"\\x");
+        self.put_digits(b);
+    }
+
+    // Text between quotes.
+    #[tactic(auto, unfolding(crate::specs::Rendering::quoted))]
+    fn put_quoted(&mut self, s: &[u8])
+        ensures same { self.new.bytes.ghost_name ≡ self.old.bytes.ghost_name }
+        ensures page { Puts (quoted s.now) self.old self.new }
+    {
+        self.put(b'"');
+        for b in s {
+            self.put_quotable(*b);
+        }
+        self.put(b'"');
+    }
+
+    // Bytes as hex text.
+    fn put_hex(&mut self, s: &[u8])
+        ensures same { self.new.bytes.ghost_name ≡ self.old.bytes.ghost_name }
+        ensures page { Puts (hex_text s.now) self.old self.new }
+    {
+        for b in s {
+            self.put_digits(*b);
+        }
+    }
+
+    // The same with a space in front; nothing for no bytes.
+    #[tactic(auto, unfolding(crate::specs::Rendering::group))]
+    fn put_group(&mut self, s: &[u8])
+        ensures same { self.new.bytes.ghost_name ≡ self.old.bytes.ghost_name }
+        ensures page { Puts (group s.now) self.old self.new }
+    {
+        if s.is_empty() {
+            return;
+        }
+        self.put(b' ');
+        self.put_hex(s);
+    }
+
+    // An input from a place on: its byte in brackets, which are empty at the input's end, and up to 16 behind it.
+    #[tactic(auto, unfolding(crate::specs::Rendering::onward))]
+    fn put_onward(&mut self, s: &[u8])
+        ensures same { self.new.bytes.ghost_name ≡ self.old.bytes.ghost_name }
+        ensures page { Puts (onward s.now) self.old self.new }
+    {
+        self.put_text(b" [");
+        self.put_hex(first(s, 1));
+        self.put_text(b"]");
+        self.put_group(first(behind(s, 1), 16));
+        self.put(b'\n');
+    }
+
+    // The offset of the first byte shown, up to 16 bytes before a place, and the input from there on.
+    fn put_around(&mut self, p: &[u8], place: usize)
+        ensures same { self.new.bytes.ghost_name ≡ self.old.bytes.ghost_name }
+        ensures page { Puts (around p.now place) self.old self.new }
+    {
+        let from = place.saturating_sub(16);
+        self.put_rendered(b"  from byte %1:", &[from as u64]);
+        self.put_group(behind(first(p, place), from));
+        self.put_onward(behind(p, place));
+    }
+}
+
+// ---- each function answers where the page goes on
+
+// Text with numbers in it, each for two characters: %w is the number with zeros in front up to w
+// digits, ~w the same with spaces, and ^c the character c as often as the number says.
+pub fn render(page: &mut [u8], s: &[u8], numbers: &[u64]) -> usize
+    ensures { OnPage (rendered s.now numbers.now) page.old 0 page.new result }
 {
-    let mut to = put_text(page, at, b" [");
-    to = put_hex(page, to, first(s, 1));
-    to = put_text(page, to, b"]");
-    to = put_group(page, to, first(behind(s, 1), 16));
-    put(page, to, b'\n')
+    let mut to = Page { bytes: page, at: 0 };
+    to.put_rendered(s, numbers);
+    to.at
 }
 
-// The offset of the first byte shown, up to 16 bytes before a place, and the input from there on.
+// Text between quotes.
+pub fn quote(page: &mut [u8], s: &[u8]) -> usize
+    ensures { OnPage (quoted s.now) page.old 0 page.new result }
+{
+    let mut to = Page { bytes: page, at: 0 };
+    to.put_quoted(s);
+    to.at
+}
+
+// The bytes around a place.
 pub fn around(page: &mut [u8], p: &[u8], place: usize) -> usize
     ensures { OnPage (around p.now place) page.old 0 page.new result }
 {
-    let from = less(place, 16);
-    let mut to = render(page, b"  from byte %1:", &[from as u64]);
-    to = put_group(page, to, behind(first(p, place), from));
-    put_onward(page, to, behind(p, place))
+    let mut to = Page { bytes: page, at: 0 };
+    to.put_around(p, place);
+    to.at
 }
 
 // ---- lines
+
+fn line_end(s: &[u8]) -> Option<usize>
+    ensures { result ≡ position (λ c. c == 10) s.now }
+{
+    s.iter().position(|c| *c == b'\n')
+}
 
 // How long the first line is, with its end.
 pub fn line_length(s: &[u8]) -> usize
     ensures { result ≡ line_length s.now }
 {
-    let mut i: usize = 0;
-    while i < s.len() {
-        let c = s[i];
-        i += 1;
-        if c == b'\n' {
-            return i;
-        }
+    match line_end(s) {
+        Some(i) => i + 1,
+        None => s.len(),
     }
-    i
 }
 
 // Line `n` of a text, counted from 0, with its end.
@@ -277,22 +266,14 @@ pub fn line_of(s: &[u8], n: usize) -> &[u8]
     ensures { result.now ≡ line_of n s.now }
 {
     let mut at: usize = 0;
-    let mut left = n;
-    while 0 < left {
+    for _ in 0..n {
         at += line_length(&s[at..]);
-        left -= 1;
     }
     let end = at + line_length(&s[at..]);
     &s[at..end]
 }
 
 // ---- what the program says
-
-fn least(a: usize, b: usize) -> usize
-    ensures { result ≡ min a b }
-{
-    if a < b { a } else { b }
-}
 
 // The system's words for an error, without the number that stands behind them.
 fn reason<'a>(error: &io::Error, page: &'a mut [u8]) -> &'a str {
@@ -320,8 +301,8 @@ pub fn fail(rt: &impl Eprint, what: &str, error: &io::Error) -> usize
 fn write(rt: &(impl Print + Eprint), page: &[u8], n: usize) -> usize
     ensures { result ≡ min n (length page.now) }
 {
-    let most = least(n, page.len());
-    if let Err(e) = rt.write_all(&page[0..most]) {
+    let most = n.min(page.len());
+    if let Err(e) = rt.write_all(&page[..most]) {
         fail(rt, "standard output", &e);
     }
     most

@@ -1,24 +1,24 @@
-use native.Mathlib.Omega.{arith}
+use Rattle.std.proofs.Common.{arith}
 use Rattle.say.proofs.LineLaws.{lines-first, lines_next, lines-done, line-inside}
 use Rattle.say.proofs.line_of.Goals as goal
 
-pub loop-left-init : goal.loop-left-init
-loop-left-init c = lines-first _ _
+pub loop-init : goal.loop-init
+loop-init c = lines-first _ _
 
 pub overflow_add-at : goal.overflow_add-at
-overflow_add-at c = omega (arith, line-inside c.loop-left.invariant c.line_length-at.ensures)
+overflow_add-at c = omega (arith, line-inside c.loop.invariant c.line_length-at.ensures)
 
-pub loop-left-preserved : goal.loop-left-preserved
-loop-left-preserved c = lines_next c.loop-left.invariant c.line_length-at.ensures c.loop-left-test.true
+pub loop-preserved : goal.loop-preserved
+loop-preserved c = lines_next c.loop.invariant c.line_length-at.ensures (omega arith)
 
 pub overflow_add-end : goal.overflow_add-end
-overflow_add-end c = omega (arith, line-inside c.loop-left.invariant c.line_length.ensures)
+overflow_add-end c = omega (arith, line-inside c.loop.invariant c.line_length.ensures)
 
 pub slice_bounds-result-end : goal.slice_bounds-result-end
-slice_bounds-result-end c = omega (arith, line-inside c.loop-left.invariant c.line_length.ensures)
+slice_bounds-result-end c = omega (arith, line-inside c.loop.invariant c.line_length.ensures)
 
 pub slice_bounds-result-count : goal.slice_bounds-result-count
-slice_bounds-result-count c = omega (arith, line-inside c.loop-left.invariant c.line_length.ensures)
+slice_bounds-result-count c = omega (arith, line-inside c.loop.invariant c.line_length.ensures)
 
 pub returns : goal.returns
-returns c = lines-done c.loop-left.invariant c.line_length.ensures c.loop-left-test.false
+returns c = lines-done c.loop.invariant c.line_length.ensures (omega arith)

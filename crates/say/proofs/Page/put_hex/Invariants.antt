@@ -1,0 +1,8 @@
+-- Invariant: what is left of the bytes, put here, gives the whole.
+use Rattle.std.proofs.Common.{◌≡◌, drop}
+use Rattle.text.specs.Hex.{hex_text}
+use Rattle.say.proofs.PageLaws.{Left}
+use Rattle.say.proofs.Page.put_hex.Given as goal
+
+abbrev pub invariant-loop-b : goal.invariant-loop-b
+invariant-loop-b l = (l.self.bytes.ghost_name ≡ l.initial.self.bytes.ghost_name) × Left (hex_text l.s) l.initial.self.bytes.now l.initial.self.at (hex_text (drop l.b-index l.s)) l.self.bytes.now l.self.at

@@ -1,0 +1,8 @@
+-- Invariant: what is left of the text, and the last quote, put here, give the whole.
+use Rattle.std.proofs.Common.{◌≡◌, drop}
+use Rattle.say.specs.Rendering.{closing}
+use Rattle.say.proofs.PageLaws.{Left}
+use Rattle.say.proofs.Page.put_quoted.Given as goal
+
+abbrev pub invariant-loop-b : goal.invariant-loop-b
+invariant-loop-b l = (l.self.bytes.ghost_name ≡ l.initial.self.bytes.ghost_name) × Left (closing l.s) l.initial.self.bytes.now l.initial.self.at (closing (drop l.b-index l.s)) l.self.bytes.now l.self.at
