@@ -1,5 +1,5 @@
 -- A text's first line, and the text from a line on.
-use Rattle.std.proofs.Common.{ℕ, suc, ◌+◌, ◌-◌, ◌≤◌, ◌<◌, ◌==◌, nat_lt, arith, ◌≡◌, refl, sym, ap, ◌∙◌, Bool, true, false, not, cond, eqb, List, [], ◌∷◌, Option, Some, None, position, length, take, drop, length-drop, drop-drop}
+use Rattle.std.proofs.Common.{ℕ, suc, ◌+◌, ◌-◌, ◌≤◌, ◌==◌, nat_lt, arith, ◌≡◌, refl, sym, ap, ◌∙◌, Bool, true, false, not, cond, eqb, List, [], ◌∷◌, Some, None, position, length, take, drop, length-drop, drop-drop}
 use Rattle.std.specs.List.{position_or_len}
 use Rattle.std.proofs.lemmas.Bool.Decides.{nat_tests}
 use Rattle.wire.specs.Numbers.{pick}

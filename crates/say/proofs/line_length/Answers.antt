@@ -1,4 +1,3 @@
-use Rattle.std.proofs.Common.{sym, ◌∙◌}
 use Rattle.say.proofs.LineLaws.{line-found, line-whole}
 use Rattle.say.proofs.line_length.Goals as goal
 

@@ -1,5 +1,5 @@
 -- The padding, and behind it the digits.
-use Rattle.std.proofs.Common.{length, sym, ap, ◌∙◌, ◌-◌}
+use Rattle.std.proofs.Common.{sym, ◌∙◌}
 use Rattle.say.proofs.RenderingLaws.{padded-put, same-decimal}
 use Rattle.say.proofs.Page.put_padded.Goals as goal
 

@@ -1,4 +1,4 @@
-use Rattle.std.proofs.Common.{ℕ, List, ◌∷◌, ◌++◌, refl, ap, sym, ◌∙◌, unwrap_or}
+use Rattle.std.proofs.Common.{ℕ, List, ◌∷◌, refl, ap, sym, ◌∙◌, unwrap_or}
 use Rattle.std.specs.Slice.Iter.{iter_rest}
 use Rattle.say.specs.Rendering.{rendered}
 use Rattle.say.proofs.RenderingLaws.{render-plain, render-mark, render-last, none-rendered, number-next}
