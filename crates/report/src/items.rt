@@ -28,8 +28,8 @@ pub fn say_item(
         }
         Item::Packet(n) => {
             say_place(rt, at, s.len());
-            if n <= packet.len() {
-                say_whole(rt, family, &packet[0..n]);
+            if let Some(whole) = packet.get(..n) {
+                say_whole(rt, family, whole);
             }
             0
         }
@@ -51,17 +51,20 @@ fn say_place(rt: &(impl Print + Eprint), at: usize, size: usize) {
 // By its codec, a packet goes by the command rules or by the data rules.
 fn say_whole(rt: &(impl Print + Eprint), family: usize, p: &[u8]) -> usize {
     if command::is_command(p) {
-        return show_command(rt, family, p);
+        show_command(rt, family, p)
+    } else {
+        show_packet(rt, family, p)
     }
-    show_packet(rt, family, p)
 }
 
 // The refusal of a packet; that of a login, 15, is said alike by both.
 fn refuse_item(rt: &(impl Print + Eprint), s: &[u8], r: Refusal) -> usize
     ensures { result ≡ r.number }
 {
-    if command::is_command(s) {
-        return refuse(rt, Judged::Command, s, r);
-    }
-    refuse(rt, Judged::Packet, s, r)
+    let what = if command::is_command(s) {
+        Judged::Command
+    } else {
+        Judged::Packet
+    };
+    refuse(rt, what, s, r)
 }

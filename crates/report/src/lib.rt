@@ -63,17 +63,14 @@ enum Judged {
 fn has_place(what: Judged, number: usize) -> bool {
     match what {
         Judged::Other => false,
-        Judged::Datagram => 5 <= number && number <= 15,
-        _ => 2 <= number && number <= 15 && number != 4,
+        Judged::Datagram => matches!(number, 5..=15),
+        _ => matches!(number, 2 | 3 | 5..=15),
     }
 }
 
 // The record's index goes with 8 to 12 of data.
 fn has_index(what: Judged, number: usize) -> bool {
-    match what {
-        Judged::Packet | Judged::Datagram => 8 <= number && number <= 12,
-        _ => false,
-    }
+    matches!(what, Judged::Packet | Judged::Datagram) && matches!(number, 8..=12)
 }
 
 fn say_where(rt: &(impl Print + Eprint), what: Judged, r: Refusal) {
@@ -120,7 +117,7 @@ fn say_codec(rt: &(impl Print + Eprint), codec: u8) {
 
 // 1 where a word has its plural.
 fn more(n: usize) -> u64 {
-    if n == 1 { 0 } else { 1 }
+    u64::from(n != 1)
 }
 
 // The end of a heading: the codec, the numbers of records and bytes, the acknowledgement.
@@ -213,13 +210,12 @@ pub fn show_command(rt: &(impl Print + Eprint), family: usize, p: &[u8]) -> usiz
     }
 }
 
-// Types 05, 06 and 11 (hexadecimal) are lines 0 to 2.
-fn line_of(kind: u8) -> usize {
+fn say_type(rt: &(impl Print + Eprint), kind: u8) {
     match kind {
-        0x05 => 0,
-        0x06 => 1,
-        _ => 2,
-    }
+        0x05 => say_bytes(rt, b"05 (command)\n"),
+        0x06 => say_bytes(rt, b"06 (response)\n"),
+        _ => say_bytes(rt, b"11 (IMEI doesn't match)\n"),
+    };
 }
 
 // A message's time. The maker's pages do not agree on its unit, so the date is only what it may be.
@@ -233,11 +229,7 @@ fn say_message_time(rt: &(impl Print + Eprint), time: u64) {
 // Codec and type; in codec 14 alone the IMEI, in codec 13 alone the time.
 fn say_message(rt: &(impl Print + Eprint), f: CommandFields) {
     say(rt, b", codec %1, type ", &[f.codec as u64]);
-    say_line(
-        rt,
-        b"05 (command)\n06 (response)\n11 (IMEI doesn't match)\n",
-        line_of(f.kind),
-    );
+    say_type(rt, f.kind);
     if f.codec == 0x0E {
         say(rt, b"IMEI %F\n", &[f.imei]);
     }
@@ -321,14 +313,12 @@ pub fn show_connection(rt: &(impl Print + Eprint), family: usize, p: &[u8]) -> u
     show_feeds(rt, family, p)
 }
 
-// The first of two refusals, where 0 is none.
+// The first of two refusals, where 0 is none: so say the clauses of all that is shown.
+#[tactic(auto, unfolding(crate::specs::Shown::earlier))]
 fn earlier(a: usize, b: usize) -> usize
     ensures { result ≡ earlier a b }
 {
-    if a == 0 {
-        return b;
-    }
-    a
+    if a == 0 { b } else { a }
 }
 
 // Billing lines, one by one; the number of the first refusal that is said. No tag of an input that the
@@ -358,23 +348,31 @@ pub fn show_form(rt: &(impl Print + Eprint), family: usize, f: &[u8]) -> usize
     match rebuild::packet_of_form(family, f, &mut p) {
         Written::Refused(r) => refuse(rt, Judged::Other, f, r),
         Written::Bytes(n) => {
-            if n <= p.len() {
+            if let Some(packet) = p.get(..n) {
                 say(
                     rt,
                     b"TLV form, %1 bytes, of this packet:\n",
                     &[f.len() as u64],
                 );
-                show_packet(rt, family, &p[0..n]);
+                show_packet(rt, family, packet);
             }
             0
         }
     }
+}
+
+// How what was written is said: as a line of hex text, or as it is.
+#[derive(Clone, Copy)]
+enum Spelling {
+    Hex,
+    Plain,
 }
 
 // What was written of `p`.
 fn say_written(
     rt: &(impl Print + Eprint),
     what: Judged,
+    spelling: Spelling,
     p: &[u8],
     answer: Written,
     out: &[u8],
@@ -384,34 +382,25 @@ fn say_written(
     match answer {
         Written::Refused(r) => refuse(rt, what, p, r),
         Written::Bytes(n) => {
-            if n <= out.len() {
-                say_hex_line(rt, &out[0..n]);
+            if let Some(bytes) = out.get(..n) {
+                say_spelled(rt, spelling, bytes);
             }
             0
         }
     }
 }
 
-// The same of lines, which are said as they are.
-fn say_written_lines(
-    rt: &(impl Print + Eprint),
-    what: Judged,
-    p: &[u8],
-    answer: Written,
-    out: &[u8],
-) -> usize
-    ensures { result ≡ refusal_number (written_as answer) }
-{
-    match answer {
-        Written::Refused(r) => refuse(rt, what, p, r),
-        Written::Bytes(n) => {
-            if n <= out.len() {
-                say_bytes(rt, &out[0..n]);
-            }
-            0
+fn say_spelled(rt: &(impl Print + Eprint), spelling: Spelling, bytes: &[u8]) {
+    match spelling {
+        Spelling::Hex => say_hex_line(rt, bytes),
+        Spelling::Plain => {
+            say_bytes(rt, bytes);
         }
     }
 }
+
+// The functions below are alike, but each names its writer and the definition of its refusal: a function for all would
+// take these two, and each of its callers would name them as it does here.
 
 // The TLV form of a TCP data packet, and of a datagram.
 pub fn say_form_of_packet(rt: &(impl Print + Eprint), family: usize, p: &[u8]) -> usize
@@ -419,7 +408,7 @@ pub fn say_form_of_packet(rt: &(impl Print + Eprint), family: usize, p: &[u8]) -
 {
     let mut out = [0u8; wire::LARGEST_FORM];
     let answer = form::form_of_packet(family, p, &mut out);
-    say_written(rt, Judged::Packet, p, answer, &out)
+    say_written(rt, Judged::Packet, Spelling::Hex, p, answer, &out)
 }
 
 pub fn say_form_of_datagram(rt: &(impl Print + Eprint), family: usize, p: &[u8]) -> usize
@@ -427,7 +416,7 @@ pub fn say_form_of_datagram(rt: &(impl Print + Eprint), family: usize, p: &[u8])
 {
     let mut out = [0u8; wire::LARGEST_FORM];
     let answer = form::form_of_datagram(family, p, &mut out);
-    say_written(rt, Judged::Datagram, p, answer, &out)
+    say_written(rt, Judged::Datagram, Spelling::Hex, p, answer, &out)
 }
 
 // The billing lines of a TCP data packet, and of a datagram: they have at most as many bytes as a TLV form.
@@ -436,7 +425,7 @@ pub fn say_lines_of_packet(rt: &(impl Print + Eprint), family: usize, p: &[u8]) 
 {
     let mut out = [0u8; wire::LARGEST_FORM];
     let answer = print::lines_of_packet(family, p, &mut out);
-    say_written_lines(rt, Judged::Packet, p, answer, &out)
+    say_written(rt, Judged::Packet, Spelling::Plain, p, answer, &out)
 }
 
 pub fn say_lines_of_datagram(rt: &(impl Print + Eprint), family: usize, p: &[u8]) -> usize
@@ -444,7 +433,7 @@ pub fn say_lines_of_datagram(rt: &(impl Print + Eprint), family: usize, p: &[u8]
 {
     let mut out = [0u8; wire::LARGEST_FORM];
     let answer = print::lines_of_datagram(family, p, &mut out);
-    say_written_lines(rt, Judged::Datagram, p, answer, &out)
+    say_written(rt, Judged::Datagram, Spelling::Plain, p, answer, &out)
 }
 
 // The TCP data packet of a TLV form.
@@ -453,7 +442,7 @@ pub fn say_packet_of(rt: &(impl Print + Eprint), family: usize, f: &[u8]) -> usi
 {
     let mut out = [0u8; wire::LARGEST];
     let answer = rebuild::packet_of_form(family, f, &mut out);
-    say_written(rt, Judged::Other, f, answer, &out)
+    say_written(rt, Judged::Other, Spelling::Hex, f, answer, &out)
 }
 
 // A command packet.
@@ -470,5 +459,5 @@ pub fn say_command(
 {
     let mut out = [0u8; wire::LARGEST];
     let answer = command::write_command(family, codec, kind, imei, time, text, &mut out);
-    say_written(rt, Judged::Other, text, answer, &out)
+    say_written(rt, Judged::Other, Spelling::Hex, text, answer, &out)
 }

@@ -33,9 +33,10 @@ fn contents_at(family: usize, udp: bool, p: &[u8], table: &mut [u64]) -> Written
     ensures buffer { table.new ≡ leaving (contents_here family udp p.now) table.old }
 {
     if udp {
-        return contents::contents_of_datagram(family, p, table);
+        contents::contents_of_datagram(family, p, table)
+    } else {
+        contents::contents_of_packet(family, p, table)
     }
-    contents::contents_of_packet(family, p, table)
 }
 
 // The records whose words stand behind the packet's two; how many they are.
@@ -46,12 +47,10 @@ fn say_rows(rt: &(impl Print + Eprint), codec: u8, p: &[u8], t: &[u64]) -> usize
 {
     let count = contents::record_count(t);
     let mut at: usize = 2;
-    let mut n: usize = 0;
-    while n < count {
+    for n in 0..count {
         at = say_record(rt, codec, n, p, t, at);
-        n += 1;
     }
-    n
+    count
 }
 
 // The record whose words begin at `at`; where those of the next begin.
@@ -110,11 +109,7 @@ fn say_origin(rt: &(impl Print + Eprint), codec: u8, f: RecordFields) {
 
 // 1 for a negative number, else 0.
 fn sign(x: i32) -> u64 {
-    if x < 0 { 1 } else { 0 }
-}
-
-fn wide(x: i16) -> i32 {
-    x as i32
+    u64::from(x.is_negative())
 }
 
 // Longitude and latitude are ten-millionths of a degree.
@@ -129,7 +124,7 @@ fn say_coordinates(rt: &(impl Print + Eprint), longitude: i32, latitude: i32) {
 }
 
 fn say_position(rt: &(impl Print + Eprint), f: RecordFields) {
-    let altitude = wide(f.altitude);
+    let altitude = i32::from(f.altitude);
     say_coordinates(rt, f.longitude, f.latitude);
     say(
         rt,
@@ -157,13 +152,11 @@ fn say_values(rt: &(impl Print + Eprint), p: &[u8], t: &[u64], first: usize, cou
     requires count_in_bounds { first + count ≤ length t.now }
     requires by_index { (k : ℕ) → k < count → (value_of (get_or t.now (first + k) 0)).offset + (value_of (get_or t.now (first + k) 0)).size ≤ length p.now }
 {
-    let mut k: usize = 0;
-    while k < count {
-        let v = contents::value_of(t[first + k]);
+    for word in &t[first..first + count] {
+        let v = contents::value_of(*word);
         let start = v.offset;
         let end = v.offset + v.size;
         say_found(rt, v, &p[start..end]);
-        k += 1;
     }
 }
 
@@ -250,10 +243,8 @@ fn say_elements(
     bytes: &mut [u8],
 ) {
     let mut at = start;
-    let mut left = count;
-    while 0 < left {
+    for _ in 0..count {
         at = say_element(rt, s, at, bytes);
-        left -= 1;
     }
 }
 

@@ -5,4 +5,4 @@ use Rattle.report.proofs.say_lines_of_packet.Goals as goal
 
 pub returns : goal.returns
 unfolding lines_of_packet_refusal written_refusal
-returns g c = c.say_written_lines.ensures ∙ ap refusal_number c.lines_of_packet-answer.ensures.answer
+returns g c = c.say_written.ensures ∙ ap refusal_number c.lines_of_packet-answer.ensures.answer

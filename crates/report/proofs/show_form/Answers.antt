@@ -7,10 +7,10 @@ pub returns-in-Refused : goal.returns-in-Refused
 unfolding packet_of_form_refusal written_refusal refusal_number written_as
 returns-in-Refused g c = simp (← c.packet_of_form.ensures.answer, c.in-Refused.is) c.refuse.ensures
 
-pub returns-then-n-le1280 : goal.returns-then-n-le1280
+pub returns-in-Some : goal.returns-in-Some
 unfolding packet_of_form_refusal written_refusal refusal_number written_as
-returns-then-n-le1280 g c = simp (← c.packet_of_form.ensures.answer, c.in-Bytes.is)
+returns-in-Some g c = simp (← c.packet_of_form.ensures.answer, c.in-Bytes.is)
 
-pub returns-else-n-le1280 : goal.returns-else-n-le1280
+pub returns-in_default : goal.returns-in_default
 unfolding packet_of_form_refusal written_refusal refusal_number written_as
-returns-else-n-le1280 g c = simp (← c.packet_of_form.ensures.answer, c.in-Bytes.is)
+returns-in_default g c = simp (← c.packet_of_form.ensures.answer, c.in-Bytes.is)

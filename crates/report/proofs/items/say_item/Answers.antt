@@ -10,13 +10,13 @@ pub returns-in-Login : goal.returns-in-Login
 unfolding item_refusal
 returns-in-Login g c = simp c.in-Login.is
 
-pub returns-then-n-packet : goal.returns-then-n-packet
+pub returns-in-Some : goal.returns-in-Some
 unfolding item_refusal
-returns-then-n-packet g c = simp c.in-Packet.is
+returns-in-Some g c = simp c.in-Packet.is
 
-pub returns-else-n-packet : goal.returns-else-n-packet
+pub returns-in_default : goal.returns-in_default
 unfolding item_refusal
-returns-else-n-packet g c = simp c.in-Packet.is
+returns-in_default g c = simp c.in-Packet.is
 
 pub returns-in-Refused : goal.returns-in-Refused
 unfolding item_refusal

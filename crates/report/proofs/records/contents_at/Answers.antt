@@ -5,6 +5,6 @@ pub returns-then-udp : goal.returns-then-udp
 unfolding contents_here
 returns-then-udp c = record { answer = simp c.if-udp.true c.contents_of_datagram.ensures.answer; buffer = simp c.if-udp.true c.contents_of_datagram.ensures.buffer }
 
-pub returns : goal.returns
+pub returns-else-udp : goal.returns-else-udp
 unfolding contents_here
-returns c = record { answer = simp c.if-udp.false c.contents_of_packet.ensures.answer; buffer = simp c.if-udp.false c.contents_of_packet.ensures.buffer }
+returns-else-udp c = record { answer = simp c.if-udp.false c.contents_of_packet.ensures.answer; buffer = simp c.if-udp.false c.contents_of_packet.ensures.buffer }
