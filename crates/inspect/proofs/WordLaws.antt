@@ -1,17 +1,11 @@
--- What a search among words has left to look at.
-use Prim.Native.Nat.{ℕ, suc, ◌+◌, ◌-◌, ◌≤◌, ◌<◌}
-use native.Mathlib.Numerals.{add-one}
-use native.Mathlib.Omega.{arith}
-use mathlib.Core.Path.{◌≡◌, refl, sym, ◌∙◌}
-use mathlib.Core.Bool.{Bool, true, false, ◌&&◌}
-use mathlib.Core.List.{List, [], ◌∷◌}
-use lib.ListN.{length, take, drop, get_or, length-take, length-drop, drop_of_length-le}
-use lib.Seq.{take-suc, drop-cons, get_or-drop}
-use lib.Dec.{eqb}
+-- What a search in a table of words has left to look at.
+use Rattle.std.proofs.Common.{ℕ, suc, ◌+◌, ◌≤◌, ◌<◌, arith, add-one, ◌≡◌, refl, sym, ap, ◌∙◌, Bool, true, false, ◌&&◌, eqb, Option, Some, None, option_map, List, [], ◌∷◌, length, get_or, drop, take, map, slice_get, length-take}
+use Rattle.std.proofs.Math.Seq.{drop-cons}
+use Rattle.std.proofs.Math.ListN.{drop_of_length-le}
+use Rattle.std.proofs.lemmas.Option.{slice_get_read, slice_get_past, slice_get-map}
 use lib.Pointwise.{pointwise}
-use borrow.Author.Tests.{eq-eqb, ne_eqb}
 use Rattle.wire.specs.Numbers.{pick}
-use Rattle.inspect.specs.Words.{words_from, words_of, same_bytes, place_of, PlaceOfSome}
+use Rattle.inspect.specs.Words.{same_bytes, place_of, PlaceOfSome, StandsFor}
 
 -- ---- the same bytes
 
@@ -30,55 +24,32 @@ same-as (x ∷ a) (y ∷ b) = split (same-as a b) (eqb x y)
 pub same-told : {r t : Bool} (a b : List ℕ) → r ≡ pointwise eqb a b → r ≡ t → same_bytes a b ≡ t
 same-told a b e h = same-as a b ∙ sym e ∙ h
 
--- ---- the words that are left, with the one begun at `start`
+-- ---- the place among the words that are left gives the place among all
 
-pub record WordsLeft (w words : List ℕ) (n start i : ℕ) : Type 0 where
-  pub inside : i ≤ length words
-  pub begun : start ≤ i
-  pub behind : n ≤ i
-  pub left : n + place_of w (words_from (take (i - start) (drop start words)) (drop i words)) ≡ place_of w (words_of words)
+pub record TableLeft {X : Type 0} (f : X → List ℕ) (w : List ℕ) (table : List X) (i : ℕ) : Type 0 where
+  pub inside : i ≤ length table
+  pub place : i + place_of w (map f (drop i table)) ≡ place_of w (map f table)
 
-pub words-first : (w words : List ℕ) → WordsLeft w words 0 0 0
-words-first w words = record { inside = omega arith; begun = omega arith; behind = omega arith; left = omega arith }
+module _ {X : Type 0} {f : X → List ℕ} {w : List ℕ} {table : List X} {i : ℕ} (h : TableLeft f w table i) where
+  module _ (more : i < length table) (e : X) (is : e ≡ get_or table i e) where
+    here : drop i table ≡ e ∷ drop (i + 1) table
+    here = rw (add-one i) (drop-cons table i e more ∙ ap (λ (x : X). x ∷ drop (suc i) table) (sym is))
 
-pub words-done : {w words : List ℕ} {n start i : ℕ} → WordsLeft w words n start i → length words ≤ i → n ≡ place_of w (words_of words)
-unfolding words_from place_of
-words-done {w} {words} {n} {start} {i} h done = omega (arith, rw (drop_of_length-le words {i = i} done) at h.left)
+    pub table-next : same_bytes w (f e) ≡ false → TableLeft f w table (i + 1)
+    unfolding place_of
+    table-next other = record { inside = omega arith; place = omega (arith, simp (here, other) at h.place) }
 
-module _ {w words : List ℕ} {n start i : ℕ} (h : WordsLeft w words n start i) (more : i < length words) where
-  next : drop i words ≡ get_or words i 0 ∷ drop (i + 1) words
-  next = rw (add-one i) (drop-cons words i 0 more)
+    pub table-found : {A : Type 0} (value : X → A) → same_bytes w (f e) ≡ true → Some (value e) ≡ slice_get (map value table) (place_of w (map f table))
+    unfolding place_of
+    table-found value same =
+        let at : i ≡ place_of w (map f table) = omega (arith, simp (here, same) at h.place) in
+        rw (← at) (sym (slice_get-map value table i ∙ ap (option_map value) (slice_get_read table (length table) i e refl more is)))
 
-  -- a space ends a word, which is the one looked for
-  pub words-found : get_or words i 0 ≡ 32 → same_bytes w (take (i - start) (drop start words)) ≡ true → n ≡ place_of w (words_of words)
-  unfolding words_from place_of
-  words-found space same = omega (arith, simp (next, eq-eqb _ _ space, same) at h.left)
-
-  -- a space ends a word, which is another
-  pub words-next : get_or words i 0 ≡ 32 → same_bytes w (take (i - start) (drop start words)) ≡ false → WordsLeft w words (n + 1) (i + 1) (i + 1)
-  unfolding words_from place_of
-  words-next space other =
-      let none : i + 1 - (i + 1) ≡ 0 = omega arith in
-      record {
-        inside = omega arith;
-        begun = omega arith;
-        behind = omega (arith, h.behind);
-        left = rw none (omega (arith, simp (next, eq-eqb _ _ space, other) at h.left));
-      }
-
-  -- any other character goes on with the word
-  pub words-on : (get_or words i 0 ≡ 32 → ⊥) → WordsLeft w words n start (i + 1)
-  unfolding words_from
-  words-on letter =
-      let size : i + 1 - start ≡ suc (i - start) = omega (arith, h.begun) in
-      let inner : i - start < length (drop start words) = simp length-drop (omega (arith, h.begun)) in
-      let place : start + (i - start) ≡ i = omega (arith, h.begun) in
-      record {
-        inside = omega arith;
-        begun = omega (arith, h.begun);
-        behind = omega (arith, h.behind);
-        left = rw (size, take-suc (drop start words) (i - start) 0 inner, get_or-drop start words (i - start) 0, place) (simp (next, ne_eqb _ _ letter) at h.left);
-      }
+  pub table-done : {A : Type 0} (value : X → A) → length table ≤ i → None ≡ slice_get (map value table) (place_of w (map f table))
+  unfolding place_of
+  table-done value done =
+      let at : i ≡ place_of w (map f table) = omega (arith, rw (drop_of_length-le table {i = i} done) at h.place) in
+      rw (← at) (sym (slice_get-map value table i ∙ ap (option_map value) (slice_get_past table i done)))
 
 -- ---- a place is within the words
 
@@ -91,7 +62,7 @@ place-within w (x ∷ words) = split (place-within w words) (same_bytes w x)
     split rest true = omega arith
     split rest false = omega arith
 
-pub place-of-some : {most place : ℕ} (n : ℕ) (buffer words : List ℕ) → length buffer ≡ most → place ≡ place_of (take n buffer) (words_of words) → PlaceOfSome most words place
-place-of-some {most} n buffer words size e =
+pub stands-for : {A : Type 0} {most : ℕ} {result : Option A} (n : ℕ) (buffer : List ℕ) (words : List (List ℕ)) (values : List A) → length buffer ≡ most → result ≡ slice_get values (place_of (take n buffer) words) → StandsFor most words values result
+stands-for {most = most} n buffer words values size e =
     let short : length (take n buffer) ≤ most = simp length-take (omega arith) in
-    record { word = take n buffer; short = short; found = e; within = rw e (place-within _ _) }
+    record { place = place_of (take n buffer) words; some = record { word = take n buffer; short = short; found = refl; within = place-within _ _ }; value = e }

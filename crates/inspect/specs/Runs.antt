@@ -4,7 +4,7 @@ use Rattle.wire.specs.Numbers.{pick}
 use Rattle.report.specs.Shown.{packet_refusal, datagram_refusal, login_refusal, command_refusal, connection_refusal, lines_refusal, packet_of_form_refusal, form_of_packet_refusal, form_of_datagram_refusal, lines_of_packet_refusal, lines_of_datagram_refusal}
 use Rattle.inspect.specs.FirstBytes.{is_tcp}
 use Rattle.inspect.specs.declared.Task.{Task}
-use Rattle.inspect.specs.declared.Task.TheVariants.{Auto, Packet, Datagram, Login, Command, Form, Connection, Line, FormOf, PacketOf, Lines, Write, Help, Unknown}
+use Rattle.inspect.specs.declared.Task.TheVariants.{Auto, Packet, Datagram, Login, Command, Form, Connection, Line, FormOf, PacketOf, Lines, Write, Help}
 
 -- by a task on an input of the kind that it asks for, from a unit of the family; a login and billing lines are the same in all
 unfoldable pub refusal_by : ℕ → Task → List ℕ → ℕ
@@ -21,4 +21,3 @@ refusal_by family PacketOf p = packet_of_form_refusal family p
 refusal_by family Lines p = pick (is_tcp p) (lines_of_packet_refusal family p) (lines_of_datagram_refusal family p)
 refusal_by family Write p = 0
 refusal_by family Help p = 0
-refusal_by family Unknown p = 0

@@ -9,7 +9,7 @@ ghost use Rattle.std.specs.Prelude.{◌≡◌, ◌≤◌};
 ghost use Rattle.inspect.specs.declared.Task.{Task};
 ghost use Rattle.inspect.specs.Runs.{refusal_by};
 
-use input::Input;
+use input::ReadError;
 use std::env::{Env, FillError};
 use std::io::Input as StandardInput;
 use std::rt::Files;
@@ -31,8 +31,42 @@ pub enum Task {
     Lines,
     Write,
     Help,
-    Unknown,
 }
+
+const TASKS: [(&str, Task); 13] = [
+    ("auto", Task::Auto),
+    ("packet", Task::Packet),
+    ("datagram", Task::Datagram),
+    ("login", Task::Login),
+    ("command", Task::Command),
+    ("form", Task::Form),
+    ("connection", Task::Connection),
+    ("line", Task::Line),
+    ("form-of", Task::FormOf),
+    ("packet-of", Task::PacketOf),
+    ("lines", Task::Lines),
+    ("write", Task::Write),
+    ("help", Task::Help),
+];
+
+// The codec and the type of a command packet to be written.
+#[derive(Clone, Copy)]
+struct Message {
+    codec: u8,
+    kind: u8,
+}
+
+const MESSAGES: [(&str, Message); 7] = [
+    ("12", Message { codec: 0x0C, kind: 0x05 }),
+    ("12-response", Message { codec: 0x0C, kind: 0x06 }),
+    ("13", Message { codec: 0x0D, kind: 0x05 }),
+    ("13-response", Message { codec: 0x0D, kind: 0x06 }),
+    ("14", Message { codec: 0x0E, kind: 0x05 }),
+    ("14-response", Message { codec: 0x0E, kind: 0x06 }),
+    ("14-mismatch", Message { codec: 0x0E, kind: 0x11 }),
+];
+
+const FAMILIES: [(&str, usize); 2] = [("1", 1), ("2", 2)];
 
 const USAGE: &str = "inspect [KIND] [FILE]            what is in the input, or its refusal\n\
 inspect form-of [FILE]           the TLV form of a TCP data packet or a datagram, as hex text\n\
@@ -69,27 +103,6 @@ fn wrong(rt: &impl Eprint) {
     fail(rt, USAGE);
 }
 
-fn task_of(rt: &impl Env, i: usize) -> Task {
-    let words =
-        b"auto packet datagram login command form connection line form-of packet-of lines write help ";
-    match input::place_of_word(rt, i, words) {
-        0 => Task::Auto,
-        1 => Task::Packet,
-        2 => Task::Datagram,
-        3 => Task::Login,
-        4 => Task::Command,
-        5 => Task::Form,
-        6 => Task::Connection,
-        7 => Task::Line,
-        8 => Task::FormOf,
-        9 => Task::PacketOf,
-        10 => Task::Lines,
-        11 => Task::Write,
-        12 => Task::Help,
-        _ => Task::Unknown,
-    }
-}
-
 // Does a task on an input; the number of the refusal that it says, 0 if none.
 fn run(rt: &(impl Print + Eprint), family: usize, task: Task, p: &[u8]) -> usize
     ensures { result ≡ refusal_by family task p.now }
@@ -108,7 +121,6 @@ fn run(rt: &(impl Print + Eprint), family: usize, task: Task, p: &[u8]) -> usize
         Task::Auto => 0,
         Task::Write => 0,
         Task::Help => 0,
-        Task::Unknown => 0,
     }
 }
 
@@ -132,17 +144,9 @@ fn run_lines(rt: &(impl Print + Eprint), family: usize, p: &[u8]) -> usize
 
 fn run_on(rt: &(impl Print + Eprint), family: usize, task: Task, p: &[u8]) {
     match task {
+        Task::Auto | Task::Line if p.is_empty() => empty(rt),
         Task::Auto => {
-            if p.len() == 0 {
-                return empty(rt);
-            }
             run(rt, family, input::found(p), p);
-        }
-        Task::Line => {
-            if p.len() == 0 {
-                return empty(rt);
-            }
-            run(rt, family, task, p);
         }
         _ => {
             run(rt, family, task, p);
@@ -166,8 +170,8 @@ fn run_on_text(rt: &(impl Print + Eprint), family: usize, task: Task, s: &[u8]) 
             }
             let mut bytes = [0u8; 32768];
             let n = text::decode(s, &mut bytes);
-            if n <= bytes.len() {
-                run_on(rt, family, task, &bytes[0..n]);
+            if let Some(bytes) = bytes.get(..n) {
+                run_on(rt, family, task, bytes);
             }
         }
     }
@@ -190,22 +194,15 @@ fn inspect<R: Print + Eprint + StandardInput + Env + Files>(
 ) {
     let mut buf = [0u8; 65537];
     match input::read_word(rt, i, &mut buf) {
-        Input::Failed => {}
-        Input::Long => fail(rt, "inspect: the input is longer than 65536 bytes\n"),
-        Input::Bytes(n) => {
-            if n <= buf.len() {
-                run_on_input(rt, family, task, &buf[0..n]);
-            }
-        }
+        Ok(n) => run_on_input(rt, family, task, &buf[..n]),
+        Err(ReadError::Long) => fail(rt, "inspect: the input is longer than 65536 bytes\n"),
+        Err(ReadError::Failed) => {}
     }
 }
 
 fn wrong_time(rt: &impl Eprint) {
     fail(rt, "inspect: TIME is not a whole number below 4294967296\n");
 }
-
-// The number of a word that is never there.
-const NONE: usize = usize::MAX;
 
 // The number of word `i`, none for one that is missing or has over 20 digits.
 fn number_of_word(rt: &impl Env, i: usize) -> Read {
@@ -214,51 +211,53 @@ fn number_of_word(rt: &impl Env, i: usize) -> Read {
     text::number_of(&w[..n], usize::MAX)
 }
 
-// Writes a command with the IMEI of word `i`, a time, and the text of word `j`, the last of the words.
+// Writes a command with the IMEI of word `i`, if it has one, a time, and the text of word `j`, the last of the words.
 fn write_words<R: Print + Eprint + Env>(
     rt: &R,
     family: usize,
-    codec: u8,
-    kind: u8,
-    i: usize,
+    message: Message,
+    i: Option<usize>,
     time: Read,
     j: usize,
     words: usize,
 ) {
-    if words == 0 || words - 1 != j {
+    if words.checked_sub(1) != Some(j) {
         return wrong(rt);
     }
     let Read::Of(t) = time else {
         return wrong_time(rt);
     };
-    if 0xFFFF_FFFF < t {
+    let Ok(time) = u32::try_from(t) else {
         return wrong_time(rt);
-    }
+    };
     let mut imei = [0u8; 16];
     let mut text = [0u8; 4096];
-    let n = input::word_of(rt, i, &mut imei);
+    let n = match i {
+        Some(i) => input::word_of(rt, i, &mut imei),
+        None => 0,
+    };
     let Ok(m) = rt.arg(j, &mut text) else {
         return fail(rt, "inspect: the text is longer than 4096 bytes\n");
     };
-    report::say_command(rt, family, codec, kind, &imei[..n], t as u32, &text[..m]);
+    let Message { codec, kind } = message;
+    report::say_command(rt, family, codec, kind, &imei[..n], time, &text[..m]);
 }
 
-// The same with the message of word `i`.
+// The same with the message of word `i`: behind it stands a time in codec 13 alone, an IMEI in codec 14 alone.
 fn write_task<R: Print + Eprint + Env>(rt: &R, family: usize, i: usize, words: usize)
     requires { i ≤ 4 }
 {
-    let messages = b"12 12-response 13 13-response 14 14-response 14-mismatch ";
-    let time = number_of_word(rt, i + 1);
+    let Some(message) = input::word_named(rt, i, &MESSAGES) else {
+        return wrong(rt);
+    };
     let none = Read::Of(0);
-    match input::place_of_word(rt, i, messages) {
-        0 => write_words(rt, family, 0x0C, 0x05, NONE, none, i + 1, words),
-        1 => write_words(rt, family, 0x0C, 0x06, NONE, none, i + 1, words),
-        2 => write_words(rt, family, 0x0D, 0x05, NONE, time, i + 2, words),
-        3 => write_words(rt, family, 0x0D, 0x06, NONE, time, i + 2, words),
-        4 => write_words(rt, family, 0x0E, 0x05, i + 1, none, i + 2, words),
-        5 => write_words(rt, family, 0x0E, 0x06, i + 1, none, i + 2, words),
-        6 => write_words(rt, family, 0x0E, 0x11, i + 1, none, i + 2, words),
-        _ => wrong(rt),
+    match message.codec {
+        0x0D => {
+            let time = number_of_word(rt, i + 1);
+            write_words(rt, family, message, None, time, i + 2, words)
+        }
+        0x0E => write_words(rt, family, message, Some(i + 1), none, i + 2, words),
+        _ => write_words(rt, family, message, None, none, i + 1, words),
     }
 }
 
@@ -278,17 +277,16 @@ fn do_words<R: Print + Eprint + StandardInput + Env + Files>(rt: &R, family: usi
     requires { i ≤ 3 }
 {
     let words = word_count(rt);
-    let task = task_of(rt, i);
-    match task {
-        Task::Help => usage(rt),
-        Task::Write => write_task(rt, family, i + 1, words),
-        Task::Unknown => {
+    match input::word_named(rt, i, &TASKS) {
+        Some(Task::Help) => usage(rt),
+        Some(Task::Write) => write_task(rt, family, i + 1, words),
+        None => {
             if i + 1 < words {
                 return wrong(rt);
             }
             inspect(rt, family, Task::Auto, i)
         }
-        _ => {
+        Some(task) => {
             if i + 2 < words {
                 return wrong(rt);
             }
@@ -297,17 +295,13 @@ fn do_words<R: Print + Eprint + StandardInput + Env + Files>(rt: &R, family: usi
     }
 }
 
-// The family that word `i` names; 0, which is none, for any other word and for none.
+// The family that word `i` names; 0, which is refused as unknown, for any other word and for none.
 fn family_of(rt: &impl Env, i: usize) -> usize {
-    match input::place_of_word(rt, i, b"1 2 ") {
-        0 => 1,
-        1 => 2,
-        _ => 0,
-    }
+    input::word_named(rt, i, &FAMILIES).unwrap_or(0)
 }
 
 fn main(rt: HostRuntime) {
-    if input::place_of_word(&rt, 1, b"family ") == 0 {
+    if input::word_named(&rt, 1, &[("family", ())]).is_some() {
         return do_words(&rt, family_of(&rt, 2), 3);
     }
     do_words(&rt, 2, 1)

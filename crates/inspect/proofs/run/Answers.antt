@@ -51,7 +51,3 @@ returns-in-Write g c = simp c.in-Write.is
 pub returns-in-Help : goal.returns-in-Help
 unfolding refusal_by
 returns-in-Help g c = simp c.in-Help.is
-
-pub returns-in-Unknown : goal.returns-in-Unknown
-unfolding refusal_by
-returns-in-Unknown g c = simp c.in-Unknown.is
