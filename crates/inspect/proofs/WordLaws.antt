@@ -5,7 +5,7 @@ use Rattle.std.proofs.Math.ListN.{drop_of_length-le}
 use Rattle.std.proofs.lemmas.Option.{slice_get_read, slice_get_past, slice_get-map}
 use lib.Pointwise.{pointwise}
 use Rattle.wire.specs.Numbers.{pick}
-use Rattle.inspect.specs.Words.{same_bytes, place_of, PlaceOfSome, StandsFor}
+use Rattle.inspect.specs.Words.{same_bytes, place_of, StandsFor}
 
 -- ---- the same bytes
 

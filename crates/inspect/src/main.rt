@@ -57,13 +57,55 @@ struct Message {
 }
 
 const MESSAGES: [(&str, Message); 7] = [
-    ("12", Message { codec: 0x0C, kind: 0x05 }),
-    ("12-response", Message { codec: 0x0C, kind: 0x06 }),
-    ("13", Message { codec: 0x0D, kind: 0x05 }),
-    ("13-response", Message { codec: 0x0D, kind: 0x06 }),
-    ("14", Message { codec: 0x0E, kind: 0x05 }),
-    ("14-response", Message { codec: 0x0E, kind: 0x06 }),
-    ("14-mismatch", Message { codec: 0x0E, kind: 0x11 }),
+    (
+        "12",
+        Message {
+            codec: 0x0C,
+            kind: 0x05,
+        },
+    ),
+    (
+        "12-response",
+        Message {
+            codec: 0x0C,
+            kind: 0x06,
+        },
+    ),
+    (
+        "13",
+        Message {
+            codec: 0x0D,
+            kind: 0x05,
+        },
+    ),
+    (
+        "13-response",
+        Message {
+            codec: 0x0D,
+            kind: 0x06,
+        },
+    ),
+    (
+        "14",
+        Message {
+            codec: 0x0E,
+            kind: 0x05,
+        },
+    ),
+    (
+        "14-response",
+        Message {
+            codec: 0x0E,
+            kind: 0x06,
+        },
+    ),
+    (
+        "14-mismatch",
+        Message {
+            codec: 0x0E,
+            kind: 0x11,
+        },
+    ),
 ];
 
 const FAMILIES: [(&str, usize); 2] = [("1", 1), ("2", 2)];

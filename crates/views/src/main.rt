@@ -7,7 +7,7 @@
 
 mod words;
 
-ghost use Rattle.std.specs.Prelude.{◌≡◌};
+ghost use Rattle.std.specs.Prelude.{◌≡◌, ◌≤◌, length};
 ghost use Rattle.views.specs.Asked.{view_asked};
 
 use std::io;
@@ -21,29 +21,18 @@ pub enum Call {
     DatagramIdView,
     LastKnownView,
     CommandText,
-    Unknown,
 }
 
-fn call_of(w: &[u8]) -> Call {
-    if w == b"view_in_packet".as_slice() {
-        return Call::PacketView;
+fn call_of(w: &[u8]) -> Option<Call> {
+    match w {
+        b"view_in_packet" => Some(Call::PacketView),
+        b"view_in_datagram" => Some(Call::DatagramView),
+        b"id_view_in_packet" => Some(Call::PacketIdView),
+        b"id_view_in_datagram" => Some(Call::DatagramIdView),
+        b"last_known_view" => Some(Call::LastKnownView),
+        b"command_text" => Some(Call::CommandText),
+        _ => None,
     }
-    if w == b"view_in_datagram".as_slice() {
-        return Call::DatagramView;
-    }
-    if w == b"id_view_in_packet".as_slice() {
-        return Call::PacketIdView;
-    }
-    if w == b"id_view_in_datagram".as_slice() {
-        return Call::DatagramIdView;
-    }
-    if w == b"last_known_view".as_slice() {
-        return Call::LastKnownView;
-    }
-    if w == b"command_text".as_slice() {
-        return Call::CommandText;
-    }
-    Call::Unknown
 }
 
 // ---- one call
@@ -67,7 +56,6 @@ fn view<'a>(
         Call::DatagramIdView => lookup::id_view_in_datagram(family, p, n, id),
         Call::LastKnownView => lookup::last_known_view(family, p, older, id),
         Call::CommandText => command::command_text(family, p),
-        Call::Unknown => &p[0..0],
     }
 }
 
@@ -82,41 +70,19 @@ fn wrong(rt: &(impl Print + Eprint), place: u64, why: &str) {
     let _ = eprint!(rt; "views: line {place}{why}");
 }
 
-// A digit A to F in lower case.
-fn lower(b: u8) -> u8 {
-    if b < 65 {
-        return b;
-    }
-    if 70 < b {
-        return b;
-    }
-    b + 32
-}
-
-fn to_lower(s: &mut [u8], n: usize) {
-    if s.len() < n {
-        return;
-    }
-    let mut i: usize = 0;
-    while i < n {
-        let b = lower(s[i]);
-        s[i] = b;
-        i += 1;
-    }
-}
-
 fn say_digits(rt: &(impl Print + Eprint), page: &mut [u8], n: usize, place: u64) {
-    to_lower(page, n);
-    if n <= page.len() {
-        write(rt, b"bytes ");
-        write(rt, &page[0..n]);
-        return write(rt, b"\n");
+    if page.len() < n {
+        return wrong(rt, place, ": the view is longer than 2048 bytes\n");
     }
-    wrong(rt, place, ": the view is longer than 2048 bytes\n");
+    let digits = &mut page[..n];
+    digits.make_ascii_lowercase();
+    write(rt, b"bytes ");
+    write(rt, digits);
+    write(rt, b"\n")
 }
 
 fn say_view(rt: &(impl Print + Eprint), v: &[u8], place: u64) {
-    if v.len() == 0 {
+    if v.is_empty() {
         return write(rt, b"bytes -\n");
     }
     let mut page = [0u8; 4096];
@@ -127,7 +93,6 @@ fn say_view(rt: &(impl Print + Eprint), v: &[u8], place: u64) {
 // How many words a line of the call has.
 fn words_of(call: Call) -> usize {
     match call {
-        Call::Unknown => 0,
         Call::CommandText => 3,
         _ => 5,
     }
@@ -160,11 +125,12 @@ fn last_number(call: Call, line: &[u8]) -> Read {
     }
 }
 
-fn id_of(k: usize) -> u16 {
-    if k <= 65535 {
-        return k as u16;
-    }
-    0
+fn no_bytes(rt: &(impl Print + Eprint), place: u64) {
+    wrong(
+        rt,
+        place,
+        ": neither '-' nor hex digits of at most 69632 bytes\n",
+    );
 }
 
 fn answer_with(
@@ -180,30 +146,21 @@ fn answer_with(
     let mut second = [0u8; 69632];
     let a = words::bytes_of(words::word(line, 2), &mut first);
     let b = older_bytes(call, line, &mut second);
-    if let Read::Of(i) = a {
-        if let Read::Of(j) = b {
-            if i <= first.len() {
-                if j <= second.len() {
-                    let v = view(call, family, &first[0..i], &second[0..j], n, k, id_of(k));
-                    return say_view(rt, v, place);
-                }
-            }
-        }
-    }
-    wrong(
-        rt,
-        place,
-        ": neither '-' nor hex digits of at most 69632 bytes\n",
-    );
+    let (Read::Of(i), Read::Of(j)) = (a, b) else {
+        return no_bytes(rt, place);
+    };
+    let (Some(p), Some(older)) = (first.get(..i), second.get(..j)) else {
+        return no_bytes(rt, place);
+    };
+    let id = u16::try_from(k).unwrap_or(0);
+    say_view(rt, view(call, family, p, older, n, k, id), place)
 }
 
 fn answer_line(rt: &(impl Print + Eprint), line: &[u8], place: u64) {
-    let call = call_of(words::word(line, 0));
-    let words = words_of(call);
-    if words == 0 {
+    let Some(call) = call_of(words::word(line, 0)) else {
         return wrong(rt, place, ": no such call\n");
-    }
-    if words::count(line) != words {
+    };
+    if words::count(line) != words_of(call) {
         return wrong(rt, place, ": not the words of this call\n");
     }
     let Read::Of(family) = text::number_of(words::word(line, 1), usize::MAX) else {
@@ -228,120 +185,84 @@ fn answer(rt: &(impl Print + Eprint), line: &[u8], place: u64, cut: bool) {
     answer_line(rt, line, place)
 }
 
-// How far the input is answered: bytes held of the line that `place` counts, whether its first pieces did not fit, and
-// whether there may be more.
-#[derive(Drop)]
+// How far the input is answered: bytes held of the line that `place` counts, and whether its first pieces did not fit.
+#[derive(Clone, Copy)]
 struct Progress {
     held: usize,
     place: u64,
     cut: bool,
-    more: bool,
 }
 
 // Answers each line that is whole; what is held then starts at `held`.
-fn answer_lines(rt: &(impl Print + Eprint), s: &[u8], place: u64, cut: bool) -> Progress {
-    let mut at = place;
-    let mut broken = cut;
-    let mut start: usize = 0;
-    let mut i: usize = 0;
-    while i < s.len() {
-        let end = i;
-        i += 1;
-        if s[end] == b'\n' {
-            answer(rt, &s[start..end], at, broken);
-            broken = false;
-            at = std::num::wrapping_add_u64(at, 1);
-            start = i;
-        }
-    }
-    Progress {
-        held: start,
-        place: at,
-        cut: broken,
-        more: true,
-    }
-}
-
-// Moves what stands from `start` to `end` to the front, and answers how many bytes that are.
-fn keep(buf: &mut [u8], start: usize, end: usize) -> usize {
-    if buf.len() < end {
-        return 0;
-    }
-    let mut to: usize = 0;
-    let mut from = start;
-    while from < end {
-        let b = buf[from];
-        buf[to] = b;
-        to += 1;
-        from += 1;
-    }
-    to
-}
-
-fn ended(place: u64) -> Progress {
-    Progress {
+fn answer_lines(rt: &(impl Print + Eprint), s: &[u8], place: u64, cut: bool) -> Progress
+    ensures { result.held ≤ length s.now }
+{
+    let mut done = Progress {
         held: 0,
         place,
-        cut: false,
-        more: false,
+        cut,
+    };
+    for (i, c) in s.iter().enumerate() {
+        if *c == b'\n' {
+            answer(rt, &s[done.held..i], done.place, done.cut);
+            done = Progress {
+                held: i + 1,
+                place: done.place.wrapping_add(1),
+                cut: false,
+            };
+        }
     }
+    done
 }
 
-// One read. A line without its end is answered at the end of the input.
+// One read; none is left where the input ends or fails. A line without its end is answered at the end of the input.
 fn turn(
     rt: &(impl Print + Eprint),
     from: &mut impl io::Read,
     buf: &mut [u8],
-    held: usize,
-    place: u64,
-    cut: bool,
-) -> Progress {
-    if buf.len() <= held {
-        return Progress {
+    at: Progress,
+) -> Option<Progress> {
+    if buf.len() <= at.held {
+        return Some(Progress {
             held: 0,
-            place,
+            place: at.place,
             cut: true,
-            more: true,
-        };
+        });
     }
-    let more = match from.read(&mut buf[held..]) {
+    let more = match from.read(&mut buf[at.held..]) {
         Ok(more) => more,
         Err(e) => {
             say::fail(rt, "standard input", &e);
-            return ended(place);
+            return None;
         }
     };
     if more == 0 {
-        if 0 < held || cut {
-            answer(rt, &buf[0..held], place, cut);
+        if 0 < at.held || at.cut {
+            answer(rt, &buf[..at.held], at.place, at.cut);
         }
-        return ended(place);
+        return None;
     }
-    let end = held + more;
-    let done = answer_lines(rt, &buf[0..end], place, cut);
-    let kept = keep(buf, done.held, end);
-    Progress {
-        held: kept,
+    let end = at.held + more;
+    let done = answer_lines(rt, &buf[..end], at.place, at.cut);
+    buf.copy_within(done.held..end, 0);
+    Some(Progress {
+        held: end - done.held,
         place: done.place,
         cut: done.cut,
-        more: true,
-    }
+    })
 }
 
 fn run(rt: &(impl Print + Eprint), from: &mut impl io::Read, buf: &mut [u8]) {
-    let mut turns = u64::MAX;
-    let mut held: usize = 0;
-    let mut place: u64 = 1;
-    let mut cut = false;
-    while 0 < turns {
-        turns -= 1;
-        let t = turn(rt, from, buf, held, place, cut);
-        if !t.more {
+    let mut at = Progress {
+        held: 0,
+        place: 1,
+        cut: false,
+    };
+    for _ in 0..u64::MAX {
+        let Some(next) = turn(rt, from, buf, at) else {
             return;
-        }
-        held = t.held;
-        place = t.place;
-        cut = t.cut;
+        };
+        at = next;
     }
 }
 

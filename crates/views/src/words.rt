@@ -9,16 +9,7 @@ use text::{Kind, Read};
 pub fn count(line: &[u8]) -> usize
     ensures { result ≡ spaces line.now + 1 }
 {
-    let mut n: usize = 1;
-    let mut i: usize = 0;
-    while i < line.len() {
-        let c = line[i];
-        i += 1;
-        if c == b' ' {
-            n += 1;
-        }
-    }
-    n
+    line.iter().filter(|c| **c == b' ').count() + 1
 }
 
 // Word `k`, counted from 0; empty if there is none.
@@ -27,22 +18,16 @@ pub fn word(line: &[u8], k: usize) -> &[u8]
 {
     let mut left = k;
     let mut start: usize = 0;
-    let mut i: usize = 0;
-    while i < line.len() {
-        let end = i;
-        i += 1;
-        if line[end] == b' ' {
+    for (i, c) in line.iter().enumerate() {
+        if *c == b' ' {
             if left == 0 {
-                return &line[start..end];
+                return &line[start..i];
             }
             left -= 1;
-            start = i;
+            start = i + 1;
         }
     }
-    if left == 0 {
-        return &line[start..i];
-    }
-    &line[0..0]
+    if left == 0 { &line[start..] } else { &[] }
 }
 
 // Pairs of hex digits and nothing else, or '-'.
@@ -60,10 +45,9 @@ pub fn bytes_of(w: &[u8], buf: &mut [u8]) -> Read
     ensures buffer { buf.new ≡ sets buf.old 0 (hex_bytes w.now) }
 {
     let n = text::decode(w, buf);
-    if is_bytes(w) {
-        if n <= buf.len() {
-            return Read::Of(n);
-        }
+    if is_bytes(w) && n <= buf.len() {
+        Read::Of(n)
+    } else {
+        Read::Wrong
     }
-    Read::Wrong
 }

@@ -1,4 +1,3 @@
-use Rattle.std.proofs.Common.{refl}
 use Rattle.views.specs.Asked.{view_asked}
 use Rattle.views.proofs.view.Goals as goal
 
@@ -25,7 +24,3 @@ returns-in-LastKnownView c = rw c.in-LastKnownView.is c.last_known_view.ensures.
 pub returns-in-CommandText : goal.returns-in-CommandText
 unfolding view_asked
 returns-in-CommandText c = rw c.in-CommandText.is c.command_text.ensures.bytes
-
-pub returns-in-Unknown : goal.returns-in-Unknown
-unfolding view_asked
-returns-in-Unknown c = rw c.in-Unknown.is refl

@@ -1,4 +1,3 @@
-use Rattle.std.proofs.Common.{ap}
 use Rattle.inspect.proofs.WordLaws.{table-next, table-found, table-done, same-told}
 use Rattle.inspect.proofs.input.named.Goals as goal
 

@@ -1,5 +1,4 @@
 -- What the word that the system gave stands for, as far as it gave it.
-use Rattle.std.proofs.Common.{map}
 use Rattle.inspect.proofs.WordLaws.{stands-for}
 use Rattle.inspect.proofs.input.word_named.Goals as goal
 
