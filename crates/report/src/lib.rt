@@ -281,6 +281,7 @@ fn show_feeds(rt: &(impl Print + Eprint), family: usize, p: &[u8]) -> usize
     let mut phase: u8 = 0;
     let mut fill: usize = 0;
     let mut at: usize = 0;
+    // Not a `for`: how far a turn goes is known only when it has fed.
     while at < p.len() {
         let fed = connection::feed_lent(family, phase, fill, &mut held, &p[at..], &mut packet);
         let item = fed.item;
@@ -330,6 +331,7 @@ pub fn show_lines(rt: &(impl Print + Eprint), s: &[u8]) -> usize
     let mut first: usize = 0;
     let mut at: usize = 0;
     let mut k: usize = 0;
+    // Not a `for` over the lines: that would count `at`, the place of a refusal, beside them just so.
     while at < s.len() {
         let end = at + say::line_length(&s[at..]);
         let number = show_line(rt, k, at, &s[at..end], &mut bytes);
