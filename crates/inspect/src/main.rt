@@ -33,6 +33,7 @@ pub enum Task {
     Help,
 }
 
+// Tables, and no `match` on the words: with a clause that leaves a goal for each byte of each word.
 const TASKS: [(&str, Task); 13] = [
     ("auto", Task::Auto),
     ("packet", Task::Packet),
