@@ -42,9 +42,6 @@ pub record LinesLeft (s : List ℕ) (n at left : ℕ) : Type 0 where
   pub inside : at ≤ length s
   pub same : from_line left (drop at s) ≡ from_line n s
 
-pub lines-first : (s : List ℕ) (n : ℕ) → LinesLeft s n 0 (n - 0)
-lines-first s n = record { inside = omega arith; same = ap (λ (m : ℕ). from_line m s) (omega arith) }
-
 module _ {s : List ℕ} {n at left k : ℕ} (h : LinesLeft s n at left) (e : k ≡ line_length (take (length s - at) (drop at s))) where
   pub line-inside : at + k ≤ length s
   line-inside =

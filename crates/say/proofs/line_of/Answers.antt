@@ -1,9 +1,6 @@
 use Rattle.std.proofs.Common.{arith}
-use Rattle.say.proofs.LineLaws.{lines-first, lines_next, lines-done, line-inside}
+use Rattle.say.proofs.LineLaws.{lines_next, lines-done, line-inside}
 use Rattle.say.proofs.line_of.Goals as goal
-
-pub loop-init : goal.loop-init
-loop-init c = lines-first _ _
 
 pub overflow_add-at : goal.overflow_add-at
 overflow_add-at c = omega (arith, line-inside c.loop.invariant c.line_length-at.ensures)
@@ -16,9 +13,6 @@ overflow_add-end c = omega (arith, line-inside c.loop.invariant c.line_length.en
 
 pub slice_bounds-result-end : goal.slice_bounds-result-end
 slice_bounds-result-end c = omega (arith, line-inside c.loop.invariant c.line_length.ensures)
-
-pub slice_bounds-result-count : goal.slice_bounds-result-count
-slice_bounds-result-count c = omega (arith, line-inside c.loop.invariant c.line_length.ensures)
 
 pub returns : goal.returns
 returns c = lines-done c.loop.invariant c.line_length.ensures (omega arith)
