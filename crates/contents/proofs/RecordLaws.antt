@@ -21,12 +21,10 @@ use Rattle.element.proofs.ReadLaws.{got_same}
 use Rattle.store.proofs.StoredLaws.{stored-before, stored_of}
 use Rattle.traverse.specs.declared.Moved.{Moved}
 use Rattle.traverse.specs.Texts.{groups_text, record_text}
-use Rattle.traverse.specs.Copying.{Ready, Copies}
-use Rattle.traverse.proofs.CopyLaws.{moved, copies_of, Paced}
-use Rattle.traverse.proofs.PaceLaws.{paced-record}
+use Rattle.traverse.specs.Copying.{Ready, Copies, OnPace}
+use Rattle.traverse.proofs.CopyLaws.{moved, copies_of}
 use Rattle.contents.specs.Words.{quad, record_words}
 use Rattle.contents.specs.Listing.{listed_word, head_text}
-use Rattle.contents.proofs.ListLaws.{paced-value}
 use Rattle.contents.proofs.SizeLaws.{length-words, record-size}
 
 -- a word that is stored
@@ -129,6 +127,11 @@ module _ (w : Widths) {s : List ℕ} {at to : ℕ} (k : Ready (plain_record w) s
         reads = groups-read;
       }
 
+  -- the fixed fields make room for the four words
+  pub record-pace : {q : Moved} → OnPace s (at + fixed_size w) (to + 4) q → OnPace s at to q
+  unfolding fixed_size
+  record-pace p = record { inside = p.inside; ahead = omega (arith, p.ahead) }
+
   keep : GroupsRules w (kinds w) k.content.groups
   keep = (((groups-exact w (kinds w)).sound s (at + fixed_size w) k.bytes groups-inside).if-got _ _ groups-read).1
 
@@ -170,8 +173,3 @@ module _ (w : Widths) {s : List ℕ} {at to : ℕ} (k : Ready (plain_record w) s
         let front : after ≡ sets mid to head = h _ _ k.reads ∙ ap₂ (λ (i j : ℕ). sets mid to (record_words k.content.fixed (base + at) i j)) counted-bytes.1 counted-elements.1 in
         let stored = stored-before (stored_of head front) (stored_of values (c.stores _ _ groups-read)) in
         copies_of k.reads (moved-is ∙ ap (moved k.next) (omega (arith, length-append head values))) stored.buffer
-
--- the fixed fields make room for the four words
-pub paced-words : (base : ℕ) (w : Widths) → Paced (plain_record w) (record_text (listed_word base) w (head_text base w))
-unfolding record_words
-paced-words base w = paced-record (listed_word base) w (paced-value base w) (head_text base w) (λ at r. omega arith)

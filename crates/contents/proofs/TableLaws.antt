@@ -1,5 +1,5 @@
 -- What is written along a data field is the table of its contents.
-use Prim.Native.Nat.{ℕ, zero, suc, ◌+◌, ◌-◌, ◌*◌, ◌/◌, ◌^◌, ◌≤◌, ◌<◌}
+use Prim.Native.Nat.{ℕ, zero, suc, ◌+◌, ◌-◌, ◌*◌, ◌≤◌}
 use native.Mathlib.Nat.{add-zero}
 use native.Mathlib.Omega.{arith}
 use mathlib.Core.Path.{◌≡◌, refl, sym, ap, ap₂, ◌∙◌, subst}
@@ -131,14 +131,6 @@ pub title-stored : (l : List ℕ) (a b : ℕ) {o₁ o₂ : List ℕ} {x : ℕ} �
 title-stored l a b e is f = f ∙ ap (λ (o : List ℕ). set o 1 b) (e ∙ ap (set l 0) is)
 
 -- the space between the counts of a short data field is short
-pub body-short : (base : ℕ) (d : List ℕ) → base + length d < 2 ^ 16 → base + length (take (length d - 1 - 2) (drop 2 d)) < 2 ^ 16
-body-short base d h = omega (arith, h, length-take (length d - 1 - 2) (drop 2 d), length-drop 2 d)
-
--- a table fits where the lent words are more than half the bytes
-pub table_fits : (h : Header) (base longest : ℕ) (d out : List ℕ) (a : AvlData) → Bytes d → 3 ≤ length d → length d / 2 < length out → read_data longest d ≡ accepted a
-    → length (field_contents h base a) ≤ length out
-table_fits h base longest d out a b l room e = omega (arith, room, contents-size h base longest d a b l e)
-
 -- ---- a packet and a datagram
 
 untold : {A B : Type 0} (r : Answer A) (f : A → B) {x : Refusal} → refused x ≡ on_accepted r (λ a. accepted (f a)) → r ≡ refused x

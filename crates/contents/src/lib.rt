@@ -5,27 +5,26 @@ ghost use Rattle.std.specs.Prelude.{◌≡◌, ℕ, ◌+◌, ◌*◌, ◌^◌, �
 ghost use Rattle.std.proofs.lemmas.List.Edits.{sets};
 ghost use Rattle.wire.specs.Limits.{limits_of};
 ghost use Rattle.wire.specs.Numbers.{number_at};
-ghost use Rattle.wire.specs.Reading.{got, repeat};
+ghost use Rattle.wire.specs.Reading.{got};
 ghost use Rattle.wire.specs.Buffers.{writing, leaving, written_as};
-ghost use Rattle.avl.specs.Codecs.{widths_of, kinds};
 ghost use Rattle.avl.specs.Records.{AvlRecord};
-ghost use Rattle.avl.specs.RecordReader.{element, group, groups, plain_record};
+ghost use Rattle.avl.specs.RecordReader.{plain_record};
 ghost use Rattle.walk.specs.Walks.{Narrow};
-ghost use Rattle.traverse.specs.Texts.{element_text, group_text, groups_text, record_text, records_text};
-ghost use Rattle.traverse.specs.Copying.{Ready, Copies};
-ghost use Rattle.traverse.specs.Fields.{field_text, Field, Writes};
-ghost use Rattle.contents.specs.Words.{quad, bits, record_words, title_result, record_of, value_of};
+ghost use Rattle.traverse.specs.Texts.{record_text};
+ghost use Rattle.traverse.specs.Copying.{Ready};
+ghost use Rattle.traverse.specs.Fields.{Field, Writes};
+ghost use Rattle.contents.specs.Words.{quad, record_words, title_result, record_of, value_of};
 ghost use Rattle.contents.specs.Contents.{contents_of_packet, contents_of_datagram};
 ghost use Rattle.contents.specs.Listing.{listed_word, head_text, field_contents};
 
 use avl::Widths;
 use datagram::DatagramAnswer;
 use element::{RecordFields, Value};
-use traverse::Moved;
+use traverse::{ElementWriter, FieldWriter, Moved, RecordWriter};
 use walk::DataWalk;
-use wire::{Refusal, Written};
+use wire::Written;
 
-// Four numbers of 16 bits in a word, the first in the lowest: the sum that the definition states; `from_le_bytes` would take eight bytes.
+// Four numbers of 16 bits in a word, the first in the lowest.
 fn quad_word(a: u64, b: u64, c: u64, d: u64) -> u64
     requires { (a < 2 ^ 16) × (b < 2 ^ 16) × (c < 2 ^ 16) × (d < 2 ^ 16) }
     ensures { result ≡ quad a b c d }
@@ -33,83 +32,40 @@ fn quad_word(a: u64, b: u64, c: u64, d: u64) -> u64
     a + 0x1_0000 * b + 0x1_0000_0000 * c + 0x1_0000_0000_0000 * d
 }
 
-// The word of the element at `at`; the bytes `s` stand in the input from `base` on.
-fn put_value(
-    w: Widths,
-    kind: usize,
+// Writes the words of elements and records; the bytes that are read stand in the input from `base` on.
+#[derive(Clone, Copy)]
+struct Listing {
     base: usize,
-    s: &[u8],
-    at: usize,
-    out: &mut [u64],
-    to: usize,
-) -> Moved
-    requires narrow { Narrow w }
-    requires le_kind { (1 ≤ kind) × (kind ≤ 9) }
-    requires s_bound { base + length s.now < 2 ^ 16 }
-    requires ready { Ready (element w kind) s.now at to }
-    ensures { Copies (element w kind) (element_text (listed_word base) w kind) s.now at to out.old out.new result }
-{
-    let v = element::element_value(w, kind, s, at);
-    let offset = base + v.offset;
-    store::store_word(
-        out,
-        to,
-        quad_word(v.id as u64, v.kind as u64, offset as u64, v.size as u64),
-    );
-    Moved {
-        from: v.offset + v.size,
-        to: to + 1,
-    }
 }
 
-// The words of a group's elements.
-fn put_group(
-    w: Widths,
-    kind: usize,
-    base: usize,
-    s: &[u8],
-    at: usize,
-    out: &mut [u64],
-    to: usize,
-) -> Moved
-    requires narrow { Narrow w }
-    requires le_kind { (1 ≤ kind) × (kind ≤ 9) }
-    requires s_bound { base + length s.now < 2 ^ 16 }
-    requires ready { Ready (group w kind) s.now at to }
-    ensures { Copies (group w kind) (group_text (listed_word base) w kind) s.now at to out.old out.new result }
-{
-    let count = w.count;
-    let mut left = wire::short_number(s, at, count);
-    let mut from = at + count;
-    let mut dest = to;
-    while 0 < left {
-        let moved = put_value(w, kind, base, s, from, out, dest);
-        from = moved.from;
-        dest = moved.to;
-        left -= 1;
-    }
-    Moved { from, to: dest }
-}
+impl ElementWriter for Listing {
+    type Item = u64;
 
-// The words of a record's elements, group by group.
-fn put_groups(w: Widths, base: usize, s: &[u8], at: usize, out: &mut [u64], to: usize) -> Moved
-    requires narrow { Narrow w }
-    requires s_bound { base + length s.now < 2 ^ 16 }
-    requires ready { Ready (groups w (kinds w)) s.now at to }
-    ensures { Copies (groups w (kinds w)) (groups_text (listed_word base) w (kinds w)) s.now at to out.old out.new result }
-{
-    let n = walk::kind_count(w);
-    let mut from = at;
-    let mut dest = to;
-    let mut k: usize = 0;
-    while k < n {
-        let kind = walk::kind_at(k);
-        let moved = put_group(w, kind, base, s, from, out, dest);
-        from = moved.from;
-        dest = moved.to;
-        k += 1;
+    ghost of_element = { λ x. listed_word x.base };
+
+    ghost takes = { λ x n. x.base + n < 2 ^ 16 };
+
+    fn put_element(
+        self,
+        w: Widths,
+        kind: usize,
+        s: &[u8],
+        at: usize,
+        out: &mut [u64],
+        to: usize,
+    ) -> Moved {
+        let v = element::element_value(w, kind, s, at);
+        let offset = self.base + v.offset;
+        store::store_word(
+            out,
+            to,
+            quad_word(v.id as u64, v.kind as u64, offset as u64, v.size as u64),
+        );
+        Moved {
+            from: v.offset + v.size,
+            to: to + 1,
+        }
     }
-    Moved { from, to: dest }
 }
 
 // ---- the words of a record
@@ -123,7 +79,6 @@ fn motion(w: Widths, s: &[u8], at: usize) -> u64
 {
     let event = w.event;
     let generation = w.generation;
-    // The number of seven bytes by one load; `wire::number` would load each byte.
     let low = wire::be64(s, at + 16) % 0x100_0000_0000_0000;
     let priority = wire::short_number(s, at + 8, 1);
     let reason = wire::short_number(s, at + 24 + event, generation);
@@ -165,127 +120,65 @@ fn put_head(
     store::store_word(out, to + 3, extent(w, s, at, base + at, size, elements));
 }
 
-// The words of a record and its elements. Its own come last: how many elements and bytes it has shows then.
-fn put_record(w: Widths, base: usize, s: &[u8], at: usize, out: &mut [u64], to: usize) -> Moved
-    requires narrow { Narrow w }
-    requires s_bound { base + length s.now < 2 ^ 16 }
-    requires ready { Ready (plain_record w) s.now at to }
-    ensures { Copies (plain_record w) (record_text (listed_word base) w (head_text base w)) s.now at to out.old out.new result }
-{
-    let first = to + 4;
-    let moved = put_groups(w, base, s, at + element::fixed_size(w), out, first);
-    put_head(w, base, s, at, moved.from - at, moved.to - first, out, to);
-    moved
-}
+impl RecordWriter for Listing {
+    ghost of_record = { λ x w. record_text (listed_word x.base) w (head_text x.base w) };
 
-// The words of `count` records, which begin at 0.
-fn put_records(w: Widths, count: usize, base: usize, s: &[u8], out: &mut [u64], to: usize) -> Moved
-    requires narrow { Narrow w }
-    requires s_bound { base + length s.now < 2 ^ 16 }
-    requires ready { Ready (repeat count (plain_record w)) s.now 0 to }
-    ensures { Copies (repeat count (plain_record w)) (records_text (record_text (listed_word base) w (head_text base w)) w) s.now 0 to out.old out.new result }
-{
-    let mut from: usize = 0;
-    let mut dest = to;
-    let mut i: usize = 0;
-    while i < count {
-        let moved = put_record(w, base, s, from, out, dest);
-        from = moved.from;
-        dest = moved.to;
-        i += 1;
-    }
-    Moved { from, to: dest }
-}
-
-// The table of the records in `s`: the packet's words, then theirs. A datagram's header goes by its fields: a struct of mixed widths is slow to copy.
-fn put_contents(
-    packet: u16,
-    unused: u8,
-    avl: u8,
-    imei: u64,
-    codec: u8,
-    count: usize,
-    base: usize,
-    s: &[u8],
-    out: &mut [u64],
-) -> Moved
-    requires count_bound { count < 2 ^ 16 }
-    requires s_bound { base + length s.now < 2 ^ 16 }
-    requires ready { Ready (repeat count (plain_record (widths_of codec))) s.now 0 2 }
-    ensures { Copies (repeat count (plain_record (widths_of codec))) (field_text (field_contents (record { packet = packet; unused = unused; avl = avl; imei = imei }) base) codec) s.now 0 0 out.old out.new result }
-{
-    let marks = (unused as u64) + 0x100 * (avl as u64);
-    store::store_word(
-        out,
-        0,
-        quad_word(codec as u64, count as u64, packet as u64, marks),
-    );
-    store::store_word(out, 1, imei);
-    put_records(walk::widths_of(codec), count, base, s, out, 2)
-}
-
-// The table of the data field `d`, which has at most a word for every two bytes. Where `out` is shorter than that, a run over no buffer gives the table's length first: 18 where it is longer than `out`.
-fn write_field(
-    packet: u16,
-    unused: u8,
-    avl: u8,
-    imei: u64,
-    base: usize,
-    d: &[u8],
-    out: &mut [u64],
-) -> Written
-    requires field { Field d.now }
-    requires d_bound { base + length d.now < 2 ^ 16 }
-    ensures { Writes (field_contents (record { packet = packet; unused = unused; avl = avl; imei = imei }) base) d.now out.old out.new result }
-{
-    let codec = d[0];
-    let count = d[1] as usize;
-    let last = d.len() - 1;
-    if d.len() / 2 < out.len() {
-        let done = put_contents(
-            packet,
-            unused,
-            avl,
-            imei,
-            codec,
-            count,
-            base,
-            &d[2..last],
+    // The words of a record and its elements. Its own come last: how many elements and bytes it has shows then.
+    fn put_record(self, w: Widths, s: &[u8], at: usize, out: &mut [u64], to: usize) -> Moved {
+        let first = to + 4;
+        let moved = traverse::put_groups(self, w, s, at + element::fixed_size(w), out, first);
+        put_head(
+            w,
+            self.base,
+            s,
+            at,
+            moved.from - at,
+            moved.to - first,
             out,
+            to,
         );
-        return Written::Bytes(done.to);
+        moved
     }
-    let size = put_contents(
-        packet,
-        unused,
-        avl,
-        imei,
-        codec,
-        count,
-        base,
-        &d[2..last],
-        &mut out[0..0],
-    )
-    .to;
-    if out.len() < size {
-        return Written::Refused(Refusal {
-            number: 18,
-            index: 0,
-            place: 0,
-        });
+}
+
+// Writes a table: what a datagram's header says, and where the records stand in the input.
+#[derive(Clone, Copy)]
+struct Table {
+    packet: u16,
+    unused: u8,
+    avl: u8,
+    imei: u64,
+    base: usize,
+}
+
+impl FieldWriter for Table {
+    type Item = u64;
+
+    ghost of_field = { λ x. field_contents (record { packet = x.packet; unused = x.unused; avl = x.avl; imei = x.imei }) x.base };
+
+    ghost spans = { λ x n. x.base + n < 2 ^ 16 };
+
+    // The packet's words, then those of the records in `s`.
+    fn put_field(self, codec: u8, count: usize, s: &[u8], out: &mut [u64]) -> Moved {
+        let marks = (self.unused as u64) + 0x100 * (self.avl as u64);
+        store::store_word(
+            out,
+            0,
+            quad_word(codec as u64, count as u64, self.packet as u64, marks),
+        );
+        store::store_word(out, 1, self.imei);
+        let listing = Listing { base: self.base };
+        traverse::put_records(listing, walk::widths_of(codec), count, s, out, 2)
     }
-    put_contents(
-        packet,
-        unused,
-        avl,
-        imei,
-        codec,
-        count,
-        base,
-        &d[2..last],
-        out,
-    );
-    Written::Bytes(size)
+}
+
+// The table of the data field `d`, which has at most a word for every two bytes.
+fn write_field(table: Table, d: &[u8], out: &mut [u64]) -> Written
+    requires field { Field d.now }
+    requires d_bound { table.base + length d.now < 2 ^ 16 }
+    ensures { Writes (field_contents (record { packet = table.packet; unused = table.unused; avl = table.avl; imei = table.imei }) table.base) d.now out.old out.new result }
+{
+    traverse::write_field(table, d, d.len() / 2 + 1, out)
 }
 
 // The table of contents of a TCP data packet.
@@ -301,7 +194,14 @@ pub fn contents_of_packet(family: usize, p: &[u8], out: &mut [u64]) -> Written
             span: _,
         } => {
             let end = p.len() - 4;
-            write_field(0, 0, 0, 0, 10, &p[8..end], out)
+            let table = Table {
+                packet: 0,
+                unused: 0,
+                avl: 0,
+                imei: 0,
+                base: 10,
+            };
+            write_field(table, &p[8..end], out)
         }
     }
 }
@@ -317,35 +217,27 @@ pub fn contents_of_datagram(family: usize, p: &[u8], out: &mut [u64]) -> Written
             codec: _,
             count: _,
             header,
-        } => write_field(
-            header.packet,
-            header.unused,
-            header.avl,
-            header.imei,
-            25,
-            &p[23..],
-            out,
-        ),
+        } => {
+            let table = Table {
+                packet: header.packet,
+                unused: header.unused,
+                avl: header.avl,
+                imei: header.imei,
+                base: 25,
+            };
+            write_field(table, &p[23..], out)
+        }
     }
 }
 
 // ---- reading a table
-
-// `n` bits of a word, from bit `at` on.
-fn bits(word: u64, at: u32, n: u32) -> u64
-    requires { (at < 64) × (n < 64) }
-    ensures value { result ≡ bits word at n }
-    ensures below { result < 2 ^ n }
-{
-    (word >> at) % (1 << n)
-}
 
 // How many records the packet has.
 pub fn record_count(t: &[u64]) -> usize
     requires { 1 ≤ length t.now }
     ensures { result ≡ (title_result t.now).count }
 {
-    bits(t[0], 16, 16) as usize
+    (t[0] / 0x1_0000 % 0x1_0000) as usize
 }
 
 // The record whose words begin at `at`.
@@ -358,16 +250,16 @@ pub fn record_at(t: &[u64], at: usize) -> RecordFields
     let extent = t[at + 3];
     RecordFields {
         timestamp: t[at],
-        latitude: wire::signed32(bits(place, 0, 32) as u32),
-        longitude: wire::signed32(bits(place, 32, 32) as u32),
-        speed: bits(motion, 0, 16) as u16,
-        satellites: bits(motion, 16, 8) as u8,
-        angle: bits(motion, 24, 16) as u16,
-        altitude: wire::signed16(bits(motion, 40, 16) as u16),
-        priority: bits(motion, 56, 4) as u8,
-        generation: bits(motion, 60, 4) as u8,
-        event: bits(extent, 0, 16) as u16,
-        elements: bits(extent, 48, 16) as usize,
+        latitude: wire::signed32((place % 0x1_0000_0000) as u32),
+        longitude: wire::signed32((place / 0x1_0000_0000 % 0x1_0000_0000) as u32),
+        speed: (motion % 0x1_0000) as u16,
+        satellites: (motion / 0x1_0000 % 0x100) as u8,
+        angle: (motion / 0x100_0000 % 0x1_0000) as u16,
+        altitude: wire::signed16((motion / 0x100_0000_0000 % 0x1_0000) as u16),
+        priority: (motion / 0x100_0000_0000_0000 % 0x10) as u8,
+        generation: (motion / 0x1000_0000_0000_0000 % 0x10) as u8,
+        event: (extent % 0x1_0000) as u16,
+        elements: (extent / 0x1_0000_0000_0000 % 0x1_0000) as usize,
     }
 }
 
@@ -376,9 +268,9 @@ pub fn value_of(word: u64) -> Value
     ensures { result ≡ value_of word }
 {
     Value {
-        id: bits(word, 0, 16) as u16,
-        kind: bits(word, 16, 8) as u8,
-        offset: bits(word, 32, 16) as usize,
-        size: bits(word, 48, 16) as usize,
+        id: (word % 0x1_0000) as u16,
+        kind: (word / 0x1_0000 % 0x100) as u8,
+        offset: (word / 0x1_0000_0000 % 0x1_0000) as usize,
+        size: (word / 0x1_0000_0000_0000 % 0x1_0000) as usize,
     }
 }

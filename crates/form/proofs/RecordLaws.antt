@@ -17,7 +17,7 @@ use Rattle.store.specs.Entries.{entry_bytes}
 use Rattle.tlv.specs.Form.{fixed_entry}
 use Rattle.traverse.specs.declared.Moved.{Moved}
 use Rattle.traverse.specs.Texts.{groups_text, record_text}
-use Rattle.traverse.specs.Copying.{Ready, Copies}
+use Rattle.traverse.specs.Copying.{Ready, Copies, OnPace}
 use Rattle.traverse.proofs.CopyLaws.{moved, copies_of}
 use Rattle.form.specs.Moves.{entry_text, fixed_text, head_text}
 
@@ -58,6 +58,11 @@ module _ (w : Widths) {s : List ℕ} {at to : ℕ} (k : Ready (plain_record w) s
           next = k.next;
           reads = groups-read;
         }
+
+    -- the fixed fields make room for their entry
+    pub record-pace : {q : Moved} → OnPace s (r.from + w.count) r.to q → OnPace s at to q
+    unfolding entry_bytes fixed_entry le fixed_size
+    record-pace p = record { inside = p.inside; ahead = omega (arith, p.ahead, behind-is, place_is) }
 
     pub record-copied : {after : List ℕ} {q : Moved} → Copies (groups w (kinds w)) (groups_text entry_text w (kinds w)) s (r.from + w.count) r.to mid after q
         → Copies (plain_record w) (record_text entry_text w head_text) s at to before after q

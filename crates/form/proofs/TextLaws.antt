@@ -11,14 +11,14 @@ use Rattle.wire.proofs.Exactness.{meets-weaken}
 use Rattle.avl.specs.declared.Widths.{Widths}
 use Rattle.avl.specs.Codecs.{kinds}
 use Rattle.avl.specs.Records.{Element, AvlRecord, element_bytes, group_bytes, record_bytes}
-use Rattle.avl.specs.RecordReader.{element, plain_record}
+use Rattle.avl.specs.RecordReader.{element}
 use Rattle.avl.proofs.Inversion.{size-read, element-read}
 use Rattle.element.specs.Elements.{locate_group, locate_groups, fixed_size}
 use Rattle.store.specs.Entries.{Entry, entry_bytes}
 use Rattle.tlv.specs.Form.{fixed_entry, element_entry, group_entries, groups_entries, records_entries}
 use Rattle.traverse.specs.Texts.{element_text, run_text, groups_text, record_text, records_text}
 use Rattle.traverse.proofs.CopyLaws.{Paced}
-use Rattle.traverse.proofs.PaceLaws.{joined-append, paced-record}
+use Rattle.traverse.proofs.PaceLaws.{joined-append}
 use Rattle.form.specs.Moves.{entry_text, head_text}
 
 -- the bytes of entries
@@ -59,7 +59,3 @@ module _ (w : Widths) where
             let value : length e.value ≡ k.size = ap (λ (x : Element). length x.value) k.is ∙ length-take-le k.size (drop k.start s) (simp length-drop (omega (arith, k.inside))) in
             (omega (arith, k.end, k.inside), omega (arith, sized, value, k.end)));
       }
-
-  pub paced-entries : Paced (plain_record w) (record_text entry_text w head_text)
-  unfolding entry_bytes fixed_entry le
-  paced-entries = paced-record entry_text w paced-element head_text (λ at r. omega arith)

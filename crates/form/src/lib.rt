@@ -6,21 +6,21 @@ ghost use Rattle.wire.specs.Numbers.{number_at, le};
 ghost use Rattle.wire.specs.Reading.{got, repeat};
 ghost use Rattle.wire.specs.Buffers.{writing, leaving, written_as};
 ghost use Rattle.store.specs.Stores.{Stored};
-ghost use Rattle.avl.specs.RecordReader.{value_size, element, group, groups, fixed_fields, plain_record};
-ghost use Rattle.avl.specs.Codecs.{widths_of, kinds};
+ghost use Rattle.avl.specs.RecordReader.{value_size, fixed_fields, plain_record};
+ghost use Rattle.avl.specs.Codecs.{widths_of};
 ghost use Rattle.walk.specs.Walks.{Narrow};
 ghost use Rattle.tlv.specs.Form.{form};
 ghost use Rattle.tlv.specs.PacketOf.{form_of_packet, form_of_datagram};
 ghost use Rattle.wire.specs.Limits.{limits_of};
-ghost use Rattle.traverse.specs.Texts.{element_text, group_text, groups_text, record_text, records_text};
+ghost use Rattle.traverse.specs.Texts.{record_text};
 ghost use Rattle.traverse.specs.Copying.{Ready, Copies};
 ghost use Rattle.traverse.specs.Fields.{field_text, Field, Writes};
 ghost use Rattle.form.specs.Moves.{entry_text, fixed_text, head_text, form_of_field};
 
 use avl::Widths;
-use traverse::Moved;
+use traverse::{ElementWriter, FieldWriter, Moved, RecordWriter};
 use walk::DataWalk;
-use wire::{Refusal, Written};
+use wire::Written;
 
 // Reads a number of `w` bytes and stores it in `v`, the lowest first.
 fn store_number(s: &[u8], at: usize, w: usize, out: &mut [u8], to: usize, v: usize) -> usize
@@ -105,128 +105,74 @@ fn put_head(out: &mut [u8], to: usize, size: u64, kind: u64, id: u64) -> usize
     store::store_le(out, next, 2, id)
 }
 
-// The entry of an element: its kind, its ID, its value as it stands.
-fn put_element(w: Widths, kind: usize, s: &[u8], at: usize, out: &mut [u8], to: usize) -> Moved
-    requires narrow { Narrow w }
-    requires le_kind { (1 ≤ kind) × (kind ≤ 9) }
-    requires ready { Ready (element w kind) s.now at to }
-    ensures { Copies (element w kind) (element_text entry_text w kind) s.now at to out.old out.new result }
-{
-    let id = w.id;
-    let value = value_at(kind, s, at + id);
-    let start = value.start;
-    let size = value.size;
-    let end = start + size;
-    let number = wire::short_number(s, at, id);
-    put_head(out, to, (2 + size) as u64, kind as u64, number);
-    store::store_bytes(out, to + 6, &s[start..end]);
-    Moved {
-        from: end,
-        to: to + 6 + size,
+// Writes entries.
+#[derive(Clone, Copy)]
+struct Entries;
+
+impl ElementWriter for Entries {
+    type Item = u8;
+
+    ghost of_element = { λ x. entry_text };
+
+    ghost takes = { λ x n. Unit {0} };
+
+    // The entry of an element: its kind, its ID, its value as it stands.
+    fn put_element(
+        self,
+        w: Widths,
+        kind: usize,
+        s: &[u8],
+        at: usize,
+        out: &mut [u8],
+        to: usize,
+    ) -> Moved {
+        let id = w.id;
+        let value = value_at(kind, s, at + id);
+        let start = value.start;
+        let size = value.size;
+        let end = start + size;
+        let number = wire::short_number(s, at, id);
+        put_head(out, to, (2 + size) as u64, kind as u64, number);
+        store::store_bytes(out, to + 6, &s[start..end]);
+        Moved {
+            from: end,
+            to: to + 6 + size,
+        }
     }
 }
 
-// The entries of a group: those of its elements.
-fn put_group(w: Widths, kind: usize, s: &[u8], at: usize, out: &mut [u8], to: usize) -> Moved
-    requires narrow { Narrow w }
-    requires le_kind { (1 ≤ kind) × (kind ≤ 9) }
-    requires ready { Ready (group w kind) s.now at to }
-    ensures { Copies (group w kind) (group_text entry_text w kind) s.now at to out.old out.new result }
-{
-    let count = w.count;
-    let mut left = wire::short_number(s, at, count);
-    let mut from = at + count;
-    let mut dest = to;
-    while 0 < left {
-        let moved = put_element(w, kind, s, from, out, dest);
-        from = moved.from;
-        dest = moved.to;
-        left -= 1;
+impl RecordWriter for Entries {
+    ghost of_record = { λ x w. record_text entry_text w head_text };
+
+    // The entries of a record: that of the fixed fields, then those of its groups, which are those of its elements.
+    fn put_record(self, w: Widths, s: &[u8], at: usize, out: &mut [u8], to: usize) -> Moved {
+        let count = w.count;
+        let fixed = put_fixed(w, s, at, out, to);
+        traverse::put_groups(self, w, s, fixed.from + count, out, fixed.to)
     }
-    Moved { from, to: dest }
 }
 
-// The entries of a record's groups, in the order of their kinds.
-fn put_groups(w: Widths, s: &[u8], at: usize, out: &mut [u8], to: usize) -> Moved
-    requires narrow { Narrow w }
-    requires ready { Ready (groups w (kinds w)) s.now at to }
-    ensures { Copies (groups w (kinds w)) (groups_text entry_text w (kinds w)) s.now at to out.old out.new result }
-{
-    let n = walk::kind_count(w);
-    let mut from = at;
-    let mut dest = to;
-    let mut k: usize = 0;
-    while k < n {
-        let kind = walk::kind_at(k);
-        let moved = put_group(w, kind, s, from, out, dest);
-        from = moved.from;
-        dest = moved.to;
-        k += 1;
+impl FieldWriter for Entries {
+    type Item = u8;
+
+    ghost of_field = { λ x. form };
+
+    ghost spans = { λ x n. Unit {0} };
+
+    // The form of the records in `s`: the entry of the codec, then theirs.
+    fn put_field(self, codec: u8, count: usize, s: &[u8], out: &mut [u8]) -> Moved {
+        let head: [u8; 5] = [1, 0, 100, 0, codec];
+        store::store_bytes(out, 0, &head);
+        traverse::put_records(self, walk::widths_of(codec), count, s, out, 5)
     }
-    Moved { from, to: dest }
 }
 
-// The entries of a record.
-fn put_record(w: Widths, s: &[u8], at: usize, out: &mut [u8], to: usize) -> Moved
-    requires narrow { Narrow w }
-    requires ready { Ready (plain_record w) s.now at to }
-    ensures { Copies (plain_record w) (record_text entry_text w head_text) s.now at to out.old out.new result }
-{
-    let count = w.count;
-    let fixed = put_fixed(w, s, at, out, to);
-    put_groups(w, s, fixed.from + count, out, fixed.to)
-}
-
-// The entries of `count` records, which begin at 0.
-fn put_records(w: Widths, count: usize, s: &[u8], out: &mut [u8], to: usize) -> Moved
-    requires narrow { Narrow w }
-    requires ready { Ready (repeat count (plain_record w)) s.now 0 to }
-    ensures { Copies (repeat count (plain_record w)) (records_text (record_text entry_text w head_text) w) s.now 0 to out.old out.new result }
-{
-    let mut from: usize = 0;
-    let mut dest = to;
-    let mut i: usize = 0;
-    while i < count {
-        let moved = put_record(w, s, from, out, dest);
-        from = moved.from;
-        dest = moved.to;
-        i += 1;
-    }
-    Moved { from, to: dest }
-}
-
-// The form of the records in `s`: the entry of the codec, then theirs.
-fn put_form(codec: u8, count: usize, s: &[u8], out: &mut [u8]) -> Moved
-    requires { Ready (repeat count (plain_record (widths_of codec))) s.now 0 5 }
-    ensures { Copies (repeat count (plain_record (widths_of codec))) (field_text form codec) s.now 0 0 out.old out.new result }
-{
-    let head: [u8; 5] = [1, 0, 100, 0, codec];
-    store::store_bytes(out, 0, &head);
-    put_records(walk::widths_of(codec), count, s, out, 5)
-}
-
-// The form of the data field `d`, which is at most four times as long. Where `out` is shorter than that, a run over no buffer gives the form's length first: 18 where it is longer than `out`.
+// The form of the data field `d`, which is at most four times as long.
 fn write_field(d: &[u8], out: &mut [u8]) -> Written
     requires { Field d.now }
     ensures { Writes form d.now out.old out.new result }
 {
-    let codec = d[0];
-    let count = d[1] as usize;
-    let last = d.len() - 1;
-    if 4 * d.len() <= out.len() {
-        let done = put_form(codec, count, &d[2..last], out);
-        return Written::Bytes(done.to);
-    }
-    let size = put_form(codec, count, &d[2..last], &mut out[0..0]).to;
-    if out.len() < size {
-        return Written::Refused(Refusal {
-            number: 18,
-            index: 0,
-            place: 0,
-        });
-    }
-    put_form(codec, count, &d[2..last], out);
-    Written::Bytes(size)
+    traverse::write_field(Entries, d, 4 * d.len(), out)
 }
 
 // The form of a data field, which is judged first.

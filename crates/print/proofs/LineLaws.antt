@@ -1,5 +1,5 @@
 -- Lines: the leading fields, the elements and the end of the line, stored one behind another.
-use Prim.Native.Nat.{ℕ, ◌+◌, ◌^◌, ◌≤◌}
+use Prim.Native.Nat.{ℕ, ◌+◌, ◌≤◌}
 use native.Mathlib.Omega.{arith}
 use mathlib.Core.Path.{◌≡◌, refl, sym, ap, ap₂, ◌∙◌}
 use mathlib.Core.List.{List, [], ◌∷◌, ◌++◌, append-nil, append_assoc}
@@ -8,29 +8,26 @@ use lib.IntN.{ℤ}
 use Rattle.wire.specs.Numbers.{signed}
 use Rattle.wire.specs.Sequences.{joined}
 use Rattle.wire.specs.Reading.{got}
-use Rattle.wire.proofs.Exactness.{meets-weaken}
 use Rattle.avl.specs.declared.Widths.{Widths}
 use Rattle.avl.specs.Codecs.{kinds}
 use Rattle.avl.specs.Records.{Element, AvlRecord, element_bytes, group_bytes}
 use Rattle.avl.specs.RecordReader.{groups, plain_record}
 use Rattle.avl.proofs.Inversion.{fixed_at, RecordRead, record-read, FixedRead, fixed-read}
-use Rattle.walk.specs.Walks.{Narrow}
 use Rattle.element.specs.Elements.{Located, locate_group, locate_groups, fixed_size, elements}
 use Rattle.text.specs.Decimal.{decimal}
 use Rattle.store.specs.Stores.{Stored}
 use Rattle.store.proofs.StoredLaws.{stored-as, stored-then}
 use Rattle.traverse.specs.declared.Moved.{Moved}
 use Rattle.traverse.specs.Texts.{groups_text, record_text}
-use Rattle.traverse.specs.Copying.{Ready, Copies}
-use Rattle.traverse.proofs.CopyLaws.{moved, copies_of, Paced}
-use Rattle.traverse.proofs.PaceLaws.{joined-append, paced-record}
+use Rattle.traverse.specs.Copying.{Ready, Copies, OnPace}
+use Rattle.traverse.proofs.CopyLaws.{moved, copies_of}
+use Rattle.traverse.proofs.PaceLaws.{joined-append}
 use Rattle.line.specs.Pieces.{separated}
 use Rattle.line.specs.Lines.{degrees, printed_text, texts, line_fields, line_bytes}
 use Rattle.line.specs.RecordLines.{printed_of, printed_all, record_line}
 use Rattle.print.specs.Printing.{printed, coordinate, leading, head_text, line_text}
 use Rattle.text.proofs.DecimalLaws.{decimal-most}
 use Rattle.print.proofs.DegreeLaws.{coordinate-few, stored-mark}
-use Rattle.print.proofs.ElementLaws.{paced-element}
 
 -- ---- the leading fields
 
@@ -106,11 +103,6 @@ line-long w at r =
     let b = groups_text printed w (kinds w) (at + fixed_size w) r.groups in
     omega (arith, ap length (line-parts w at r), length-append (a ++ b) (10 ∷ []), length-append a b)
 
-pub paced-line : (w : Widths) → Narrow w → Paced (plain_record w) (line_text w)
-paced-line w narrow =
-    let p = paced-record printed w (paced-element w narrow) head_end (λ at r. omega (arith, leading-most r.fixed.timestamp r.fixed.longitude r.fixed.latitude r.fixed.speed)) in
-    record { pace = λ s at b i. meets-weaken (p.pace s at b i) (λ r n k. (k.0, omega (arith, k.1, line-long w at r))) }
-
 -- ---- a line that is read and stored
 
 module _ (w : Widths) {s : List ℕ} {at to : ℕ} (k : Ready (plain_record w) s at to) where
@@ -151,6 +143,13 @@ module _ (w : Widths) {s : List ℕ} {at to : ℕ} (k : Ready (plain_record w) s
           reads = groups-read;
         }
 
+    -- the fixed fields make room for the leading ones and the end of the line
+    pub line-pace : {q : Moved} → OnPace s (at + fixed_size w) first q → OnPace s at to (moved q.from (q.to + 1))
+    unfolding fixed_size
+    line-pace p =
+        let f = fixed_at w s at in
+        record { inside = p.inside; ahead = omega (arith, p.ahead, h.place, leading-most f.timestamp f.longitude f.latitude f.speed) }
+
     module _ {last : List ℕ} {q : Moved} (c : Copies (groups w (kinds w)) (groups_text printed w (kinds w)) s (at + fixed_size w) first mid last q) where
       abbrev values : List ℕ
       values = groups_text printed w (kinds w) (at + fixed_size w) k.content.groups
@@ -160,24 +159,6 @@ module _ (w : Widths) {s : List ℕ} {at to : ℕ} (k : Ready (plain_record w) s
 
       values-stored : Stored values mid last first q.to
       values-stored = record { place = ap (λ (x : Moved). x.to) moved-is; buffer = c.stores _ _ groups-read }
-
-      -- eight places for each byte read, and one for the end of the line
-      pub line-near : Narrow w → q.to ≤ 2 ^ 36
-      line-near narrow =
-          let p = ((paced-line w narrow).pace s at k.bytes k.inside).if-got _ _ k.reads in
-          let head = head_text k.content.fixed in
-          omega (
-            arith,
-            p.0,
-            p.1,
-            k.behind,
-            k.small,
-            head-stored.place,
-            values-stored.place,
-            ap length (line-parts w at k.content),
-            length-append (head ++ values) (10 ∷ []),
-            length-append head values,
-          )
 
       pub line-copied : {after : List ℕ} → after ≡ set last q.to 10 → Copies (plain_record w) (line_text w) s at to before after (moved q.from (q.to + 1))
       line-copied e =

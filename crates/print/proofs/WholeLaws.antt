@@ -1,8 +1,8 @@
 -- Writing lines: that of a record, and those of a packet or a datagram.
-use Prim.Native.Nat.{ℕ, ◌+◌, ◌-◌, ◌^◌, ◌≤◌, ◌<◌}
+use Prim.Native.Nat.{ℕ, ◌+◌, ◌-◌, ◌*◌, ◌^◌, ◌<◌}
 use native.Mathlib.Omega.{arith}
 use mathlib.Core.Path.{◌≡◌, refl, sym, ap, ◌∙◌, subst}
-use mathlib.Core.List.{List, [], ◌∷◌, ◌++◌}
+use mathlib.Core.List.{List, [], ◌∷◌, append-nil}
 use lib.ListN.{length, take, drop, length-take, length-drop}
 use lib.Seq.{sets}
 use Rattle.wire.specs.declared.Limits.{Limits}
@@ -10,19 +10,16 @@ use Rattle.wire.proofs.LimitLaws.{Most}
 use Rattle.wire.specs.declared.Refusal.{Refusal}
 use Rattle.wire.specs.declared.Written.{Written}
 use Rattle.wire.specs.Numbers.{Bytes}
-use Rattle.wire.specs.Reading.{got, repeat}
-use Rattle.wire.specs.Answers.{Answer, accepted, refused, refusal}
-use Rattle.wire.specs.Buffers.{written_as}
+use Rattle.wire.specs.Reading.{got, Reader, pure, repeat, and_then, ◌>>=◌}
+use Rattle.wire.specs.Answers.{Answer, accepted, refused}
+use Rattle.wire.specs.Buffers.{writing, leaving}
 use Rattle.wire.proofs.Widths.{bytes_take, bytes_drop}
-use Rattle.wire.proofs.BufferLaws.{writing-done, writing-short, leaving-done, leaving-short, sets-front}
 use Rattle.wire.proofs.Accepting.{on_accepted-accepted, on_accepted-passed, on_accepted-refused}
 use Rattle.avl.specs.declared.Widths.{Widths}
 use Rattle.avl.specs.Codecs.{widths_of}
 use Rattle.avl.specs.Records.{AvlRecord}
 use Rattle.avl.specs.RecordReader.{plain_record}
 use Rattle.avl.specs.DataField.{AvlData}
-use Rattle.avl.proofs.FieldLaws.{codec, count, body}
-use Rattle.walk.specs.Walks.{Narrow}
 use Rattle.walk.proofs.WalkLaws.{narrow}
 use Rattle.packet.specs.DataPackets.{read_packet}
 use Rattle.packet.proofs.FieldLaws.{packet-field, packet-most}
@@ -36,19 +33,15 @@ use Rattle.lookup.proofs.PartLaws.{part-narrow}
 use Rattle.traverse.specs.declared.Moved.{Moved}
 use Rattle.traverse.specs.Texts.{records_text}
 use Rattle.traverse.specs.Copying.{Ready, Copies}
-use Rattle.traverse.specs.Fields.{field_text, Field, Writes}
+use Rattle.traverse.specs.Fields.{field_text, Writes, WritesRecords, HasRoom}
 use Rattle.traverse.proofs.CopyLaws.{moved}
-use Rattle.traverse.proofs.FieldLaws.{field-ready, Answers, written-field, refused-whole}
+use Rattle.traverse.proofs.FieldLaws.{Answers, written-field, refused-whole}
 use Rattle.line.specs.Lines.{line_bytes}
 use Rattle.line.specs.RecordLines.{record_line, lines_of_packet, lines_of_datagram}
 use Rattle.print.specs.Printing.{line_text, lines_text, WritesLine, ShortPart}
-use Rattle.print.proofs.BoundLaws.{lines-laid}
+use Rattle.print.proofs.BoundLaws.{lines-laid, line-fits}
 
 -- ---- the lines of a data field
-
-pub lines-ready : (d : List ℕ) {w : Widths} → w ≡ widths_of (codec d) → Bytes d → Field d → Narrow w × Ready (repeat (count d) (plain_record w)) (body d) 0 0
-lines-ready d is b k =
-    subst (λ (v : Widths). Narrow v × Ready (repeat (count d) (plain_record v)) (body d) 0 0) (sym is) (narrow (codec d), field-ready d 0 (omega arith) b k)
 
 pub lines_copied : (codec count : ℕ) {w : Widths} {s before after : List ℕ} {r : Moved} → w ≡ widths_of codec
     → Copies (repeat count (plain_record w)) (records_text (line_text w) w) s 0 0 before after r
@@ -62,78 +55,62 @@ lines_copied codec count {w} {s} {before} {after} {r} is c =
 
 -- ---- the line of a record
 
-length-zero : (l : List ℕ) → length l ≡ 0 → l ≡ []
-length-zero [] e = refl
-length-zero (x ∷ l) e = absurd (omega arith)
+one-read : {A : Type 0} (m : Reader A) {s : List ℕ} {at n : ℕ} {x : A} → m s at ≡ got x n → repeat 1 m s at ≡ got (x ∷ []) n
+unfolding repeat pure ◌>>=◌ and_then
+one-read m e = rw e
 
-module _ (w : Widths) (s : List ℕ) where
-  abbrev Run : List ℕ → List ℕ → Moved → Type 0
-  Run before after r = Copies (plain_record w) (line_text w) s 0 0 before after r
-
-  -- as long as a line of what is read
-  abbrev Long : ℕ → Type 0
-  Long n = (x : AvlRecord) (m : ℕ) → plain_record w s 0 ≡ got x m → n ≡ length (line_bytes (record_line w x))
-
-  long : {before after : List ℕ} {r : Moved} → Run before after r → Long r.to
-  long c x m e = omega (arith, ap (λ (q : Moved). q.to) (c.moves x m e))
-
-  whole : {out after : List ℕ} {r : Moved} {n : ℕ} → Run out after r → Long n → ((x : AvlRecord) (m : ℕ) → plain_record w s 0 ≡ got x m → length (line_bytes (record_line w x)) ≤ length out)
-      → WritesLine w s out after (Written.Bytes n)
-  unfolding written_as
-  whole {out} c h room =
+module _ (codec : ℕ) (s : List ℕ) where
+  pub line-ready : Ready (plain_record (widths_of codec)) s 0 0 → Ready (repeat 1 (plain_record (widths_of codec))) s 0 5
+  line-ready k =
       record {
-        answer = λ x m e. ap accepted (h x m e) ∙ sym (writing-done (line_bytes (record_line w x)) out (room x m e));
-        buffer = λ x m e.
-            let line = line_bytes (record_line w x) in
-            c.stores x m e ∙ sets-front line out (room x m e) ∙ sym (leaving-done line out (room x m e));
+        bytes = k.bytes;
+        small = k.small;
+        inside = k.inside;
+        behind = omega arith;
+        content = k.content ∷ [];
+        next = k.next;
+        reads = one-read (plain_record (widths_of codec)) k.reads;
       }
 
-  pub line-room : {out after : List ℕ} {r : Moved} → ((x : AvlRecord) (m : ℕ) → plain_record w s 0 ≡ got x m → length (line_bytes (record_line w x)) ≤ length out) → Run out after r
-      → WritesLine w s out after (Written.Bytes r.to)
-  line-room room c = whole c (long c) room
+  pub line-enough : Ready (plain_record (widths_of codec)) s 0 0 → HasRoom codec 1 lines_text s (4 * length s)
+  line-enough k rs n e =
+      let one = one-read (plain_record (widths_of codec)) k.reads in
+      let same : k.content ∷ [] ≡ rs = cc in
+      let line = line_bytes (record_line (widths_of codec) k.content) in
+      omega (
+        arith,
+        ap (λ (l : List AvlRecord). length (lines_text (record { codec = codec; records = l }))) same,
+        ap length (append-nil line),
+        line-fits (widths_of codec) (narrow codec) s k.bytes k.content k.next k.reads,
+      )
 
-  -- a run over no buffer changes nothing
-  module _ {none last out : List ℕ} {r : Moved} (run : Run none last r) (empty : length last ≡ 0) where
-    unchanged : last ++ out ≡ out
-    unchanged = ap (λ (l : List ℕ). l ++ out) (length-zero last empty)
-
-    pub line-short : length (last ++ out) < r.to → WritesLine w s out (last ++ out) (Written.Refused (refusal 18))
-    unfolding written_as
-    line-short h =
-        record {
-          answer = λ x m e. sym (writing-short (line_bytes (record_line w x)) out (omega (arith, h, long run x m e, ap length unchanged)));
-          buffer = λ x m e. unchanged ∙ sym (leaving-short (line_bytes (record_line w x)) out (omega (arith, h, long run x m e, ap length unchanged)));
-        }
-
-    pub line-done : {after : List ℕ} {q : Moved} → r.to ≤ length (last ++ out) → Run (last ++ out) after q → WritesLine w s out after (Written.Bytes r.to)
-    line-done {after} {q} h c =
-        whole (subst (λ (l : List ℕ). Run l after q) unchanged c) (long run) (λ x m e. omega (arith, h, long run x m e, ap length unchanged))
+  pub line-written : {before after : List ℕ} {r : Written} → WritesRecords codec 1 lines_text s before after r → WritesLine (widths_of codec) s before after r
+  line-written {before} h =
+      record {
+        answer = λ x n e.
+            h.answer (x ∷ []) n (one-read (plain_record (widths_of codec)) e)
+            ∙ ap (λ (l : List ℕ). writing (accepted l) before) (append-nil (line_bytes (record_line (widths_of codec) x)));
+        buffer = λ x n e.
+            h.buffer (x ∷ []) n (one-read (plain_record (widths_of codec)) e)
+            ∙ ap (λ (l : List ℕ). leaving (accepted l) before) (append-nil (line_bytes (record_line (widths_of codec) x)));
+      }
 
 -- ---- by record number
 
-pub part-ready : {p : List ℕ} {codec start end elements : ℕ} → RecordAt p codec start end elements → {w : Widths} → w ≡ widths_of codec → Bytes p → length p < 2 ^ 32
-    → Narrow w × Ready (plain_record w) (take (end - start) (drop start p)) 0 0
+pub part-ready : {p : List ℕ} {codec start end elements : ℕ} → RecordAt p codec start end elements → Bytes p → length p < 2 ^ 32
+    → Ready (plain_record (widths_of codec)) (take (end - start) (drop start p)) 0 0
 unfolding part
-part-ready {p} {codec} {start} {end} h is b few =
-    let k = part-narrow h is in
-    let r = k.1 in (
-      k.0,
-      record {
-        bytes = bytes_take (end - start) (drop start p) (bytes_drop start p b);
-        small = omega (arith, few, length-take (end - start) (drop start p), length-drop start p);
-        inside = omega arith;
-        behind = omega arith;
-        content = r.content;
-        next = r.next;
-        reads = r.reads;
-      },
-    )
-
-pub line_made : (codec : ℕ) {w : Widths} {s before after : List ℕ} {r : Written} → w ≡ widths_of codec → WritesLine w s before after r → (x : AvlRecord) (n : ℕ)
-    → plain_record (widths_of codec) s 0 ≡ got x n → Answers (accepted (line_bytes (record_line (widths_of codec) x))) before after r
-line_made codec {w} {s} {before} {after} {r} is h x n e =
-    let made : WritesLine (widths_of codec) s before after r = subst (λ (v : Widths). WritesLine v s before after r) is h in
-    (made.answer x n e, made.buffer x n e)
+part-ready {p} {codec} {start} {end} h b few =
+    let r = (part-narrow h refl).1 in
+    record {
+      bytes = bytes_take (end - start) (drop start p) (bytes_drop start p b);
+      small = omega (arith, few, length-take (end - start) (drop start p), length-drop start p);
+      inside = omega arith;
+      behind = omega arith;
+      content = r.content;
+      next = r.next;
+      reads = r.reads;
+    }
 
 part-source : (source : Answer Source) (n : ℕ) {q : Part} → part_as q ≡ part_of source n → (codec start end elements : ℕ) → q ≡ Part.Of codec start elements end → (x : Source) × (source ≡ accepted x)
 unfolding part_as part_of

@@ -7,15 +7,12 @@ ghost use Rattle.wire.specs.Limits.{limits_of};
 ghost use Rattle.wire.specs.Numbers.{number_at, digits};
 ghost use Rattle.wire.specs.Sequences.{joined};
 ghost use Rattle.wire.specs.Imei.{ascii_digit};
-ghost use Rattle.wire.specs.Reading.{repeat};
 ghost use Rattle.wire.specs.Buffers.{writing, leaving, written_as};
 ghost use Rattle.store.specs.Stores.{Stored};
 ghost use Rattle.text.specs.Decimal.{decimal};
-ghost use Rattle.avl.specs.Codecs.{kinds};
-ghost use Rattle.avl.specs.RecordReader.{element, group, groups, plain_record};
-ghost use Rattle.walk.specs.Walks.{Narrow};
-ghost use Rattle.traverse.specs.Texts.{element_text, group_text, groups_text, records_text};
-ghost use Rattle.traverse.specs.Copying.{Ready, Copies};
+ghost use Rattle.avl.specs.Codecs.{widths_of};
+ghost use Rattle.avl.specs.RecordReader.{plain_record};
+ghost use Rattle.traverse.specs.Copying.{Ready};
 ghost use Rattle.traverse.specs.Fields.{Field, Writes};
 ghost use Rattle.lookup.specs.Answers.{PartIn};
 ghost use Rattle.line.specs.Lines.{unsigned_degrees, degrees, escaped, quoted};
@@ -24,9 +21,9 @@ ghost use Rattle.print.specs.Printing.{printed, leading, line_text, lines_text, 
 
 use avl::Widths;
 use lookup::Part;
-use traverse::Moved;
+use traverse::{ElementWriter, FieldWriter, Moved, RecordWriter};
 use walk::DataWalk;
-use wire::{Refusal, Written};
+use wire::Written;
 
 // ---- decimal numbers
 
@@ -246,70 +243,45 @@ fn value_number(s: &[u8], at: usize, w: usize) -> u64
     wire::number(s, at, w)
 }
 
-// The element at `at`, behind a comma: its ID, and its number or its tag.
-fn put_element(w: Widths, kind: usize, s: &[u8], at: usize, out: &mut [u8], to: usize) -> Moved
-    requires narrow { Narrow w }
-    requires le_kind { (1 ≤ kind) × (kind ≤ 9) }
-    requires ready { Ready (element w kind) s.now at to }
-    ensures { Copies (element w kind) (element_text printed w kind) s.now at to out.old out.new result }
-{
-    let v = element::element_value(w, kind, s, at);
-    let start = v.offset;
-    let end = start + v.size;
-    let mark = store_marked(out, to, 44, v.id as u64);
-    if kind == 9 {
-        store::store_byte(out, mark, 61);
-        let last = store_quoted(out, mark + 1, &s[start..end]);
-        return Moved {
+// Writes elements and lines.
+#[derive(Clone, Copy)]
+struct Lines;
+
+impl ElementWriter for Lines {
+    type Item = u8;
+
+    ghost of_element = { λ x. printed };
+
+    ghost takes = { λ x n. Unit {0} };
+
+    // The element at `at`, behind a comma: its ID, and its number or its tag.
+    fn put_element(
+        self,
+        w: Widths,
+        kind: usize,
+        s: &[u8],
+        at: usize,
+        out: &mut [u8],
+        to: usize,
+    ) -> Moved {
+        let v = element::element_value(w, kind, s, at);
+        let start = v.offset;
+        let end = start + v.size;
+        let mark = store_marked(out, to, 44, v.id as u64);
+        if kind == 9 {
+            store::store_byte(out, mark, 61);
+            let last = store_quoted(out, mark + 1, &s[start..end]);
+            return Moved {
+                from: end,
+                to: last,
+            };
+        }
+        let last = store_marked(out, mark, 61, value_number(s, start, kind));
+        Moved {
             from: end,
             to: last,
-        };
+        }
     }
-    let last = store_marked(out, mark, 61, value_number(s, start, kind));
-    Moved {
-        from: end,
-        to: last,
-    }
-}
-
-// The elements of a group.
-fn put_group(w: Widths, kind: usize, s: &[u8], at: usize, out: &mut [u8], to: usize) -> Moved
-    requires narrow { Narrow w }
-    requires le_kind { (1 ≤ kind) × (kind ≤ 9) }
-    requires ready { Ready (group w kind) s.now at to }
-    ensures { Copies (group w kind) (group_text printed w kind) s.now at to out.old out.new result }
-{
-    let count = w.count;
-    let mut left = wire::short_number(s, at, count);
-    let mut from = at + count;
-    let mut dest = to;
-    while 0 < left {
-        let moved = put_element(w, kind, s, from, out, dest);
-        from = moved.from;
-        dest = moved.to;
-        left -= 1;
-    }
-    Moved { from, to: dest }
-}
-
-// The elements of a record, group by group.
-fn put_groups(w: Widths, s: &[u8], at: usize, out: &mut [u8], to: usize) -> Moved
-    requires narrow { Narrow w }
-    requires ready { Ready (groups w (kinds w)) s.now at to }
-    ensures { Copies (groups w (kinds w)) (groups_text printed w (kinds w)) s.now at to out.old out.new result }
-{
-    let n = walk::kind_count(w);
-    let mut from = at;
-    let mut dest = to;
-    let mut k: usize = 0;
-    while k < n {
-        let kind = walk::kind_at(k);
-        let moved = put_group(w, kind, s, from, out, dest);
-        from = moved.from;
-        dest = moved.to;
-        k += 1;
-    }
-    Moved { from, to: dest }
 }
 
 // ---- lines
@@ -325,85 +297,49 @@ fn put_head(s: &[u8], at: usize, out: &mut [u8], to: usize) -> usize
     store_marked(out, third, 44, wire::be16(s, at + 22) as u64)
 }
 
-// The line of the record at `at`.
-fn put_line(w: Widths, s: &[u8], at: usize, out: &mut [u8], to: usize) -> Moved
-    requires narrow { Narrow w }
-    requires ready { Ready (plain_record w) s.now at to }
-    ensures { Copies (plain_record w) (line_text w) s.now at to out.old out.new result }
-{
-    let first = put_head(s, at, out, to);
-    let moved = put_groups(w, s, at + element::fixed_size(w), out, first);
-    let last = moved.to;
-    let end = last + 1;
-    store::store_byte(out, last, 10);
-    Moved {
-        from: moved.from,
-        to: end,
+impl RecordWriter for Lines {
+    ghost of_record = { λ x w. line_text w };
+
+    // The line of the record at `at`.
+    fn put_record(self, w: Widths, s: &[u8], at: usize, out: &mut [u8], to: usize) -> Moved {
+        let first = put_head(s, at, out, to);
+        let moved = traverse::put_groups(self, w, s, at + element::fixed_size(w), out, first);
+        let last = moved.to;
+        let end = last + 1;
+        store::store_byte(out, last, 10);
+        Moved {
+            from: moved.from,
+            to: end,
+        }
     }
 }
 
-// The lines of `count` records, which begin at 0.
-fn put_lines(w: Widths, count: usize, s: &[u8], out: &mut [u8]) -> Moved
-    requires narrow { Narrow w }
-    requires ready { Ready (repeat count (plain_record w)) s.now 0 0 }
-    ensures { Copies (repeat count (plain_record w)) (records_text (line_text w) w) s.now 0 0 out.old out.new result }
-{
-    let mut from: usize = 0;
-    let mut dest: usize = 0;
-    let mut i: usize = 0;
-    while i < count {
-        let moved = put_line(w, s, from, out, dest);
-        from = moved.from;
-        dest = moved.to;
-        i += 1;
+impl FieldWriter for Lines {
+    type Item = u8;
+
+    ghost of_field = { λ x. lines_text };
+
+    ghost spans = { λ x n. Unit {0} };
+
+    fn put_field(self, codec: u8, count: usize, s: &[u8], out: &mut [u8]) -> Moved {
+        traverse::put_records(self, walk::widths_of(codec), count, s, out, 0)
     }
-    Moved { from, to: dest }
 }
 
-// The lines of the data field `d`, which have at most four characters for each of its bytes. Where `out` is shorter than that, a run over no buffer gives their length first: 18 where it is longer than `out`.
+// The lines of the data field `d`, which have at most four characters for each of its bytes.
 fn write_field(d: &[u8], out: &mut [u8]) -> Written
     requires { Field d.now }
     ensures { Writes lines_text d.now out.old out.new result }
 {
-    let w = walk::widths_of(d[0]);
-    let count = d[1] as usize;
-    let last = d.len() - 1;
-    if 4 * d.len() <= out.len() {
-        let done = put_lines(w, count, &d[2..last], out);
-        return Written::Bytes(done.to);
-    }
-    let size = put_lines(w, count, &d[2..last], &mut out[0..0]).to;
-    if out.len() < size {
-        return Written::Refused(Refusal {
-            number: 18,
-            index: 0,
-            place: 0,
-        });
-    }
-    put_lines(w, count, &d[2..last], out);
-    Written::Bytes(size)
+    traverse::write_field(Lines, d, 4 * d.len(), out)
 }
 
 // The line of the record that `s` is, in the same way.
-fn write_line(w: Widths, s: &[u8], out: &mut [u8]) -> Written
-    requires narrow { Narrow w }
-    requires ready { Ready (plain_record w) s.now 0 0 }
-    ensures { WritesLine w s.now out.old out.new result }
+fn write_line(codec: u8, s: &[u8], out: &mut [u8]) -> Written
+    requires { Ready (plain_record (widths_of codec)) s.now 0 0 }
+    ensures { WritesLine (widths_of codec) s.now out.old out.new result }
 {
-    if 4 * s.len() <= out.len() {
-        let done = put_line(w, s, 0, out, 0);
-        return Written::Bytes(done.to);
-    }
-    let size = put_line(w, s, 0, &mut out[0..0], 0).to;
-    if out.len() < size {
-        return Written::Refused(Refusal {
-            number: 18,
-            index: 0,
-            place: 0,
-        });
-    }
-    put_line(w, s, 0, out, 0);
-    Written::Bytes(size)
+    traverse::write_records(Lines, codec, 1, s, 4 * s.len(), out)
 }
 
 // The line of the record that the part is.
@@ -419,7 +355,7 @@ fn line_in(p: &[u8], part: Part, out: &mut [u8]) -> Written
             start,
             end,
             elements: _,
-        } => write_line(walk::widths_of(codec), &p[start..end], out),
+        } => write_line(codec, &p[start..end], out),
     }
 }
 

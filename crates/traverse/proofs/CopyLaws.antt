@@ -2,20 +2,24 @@
 use Prim.Native.Nat.{ℕ, ◌+◌, ◌*◌, ◌≤◌}
 use native.Mathlib.Nat.{add-zero}
 use native.Mathlib.Omega.{arith}
-use mathlib.Core.Path.{◌≡◌, sym, ap, ap₂, ◌∙◌, subst₂}
+use mathlib.Core.Path.{◌≡◌, sym, ap, ap₂, ◌∙◌}
 use mathlib.Core.List.{List, [], ◌∷◌, ◌++◌}
 use lib.ListN.{length, length-append}
 use lib.Seq.{sets}
 use Rattle.wire.specs.Numbers.{Bytes}
 use Rattle.wire.specs.Reading.{got, Reader}
-use Rattle.wire.proofs.Exactness.{Meets, meets-weaken}
+use Rattle.wire.proofs.Exactness.{Meets}
 use Rattle.wire.proofs.Storing.{sets-append}
 use Rattle.avl.proofs.Inversion.{listed, list_read}
 use Rattle.traverse.specs.declared.Moved.{Moved}
-use Rattle.traverse.specs.Copying.{Ready, Copies}
+use Rattle.traverse.specs.Copying.{Ready, Copies, OnPace}
 
 abbrev pub moved : ℕ → ℕ → Moved
 moved from to = record { from = from; to = to }
+
+pub ready-nearer : {A : Type 0} {m : Reader A} {s : List ℕ} {from to nearer : ℕ} → nearer ≤ to → Ready m s from to → Ready m s from nearer
+ready-nearer h k =
+    record { bytes = k.bytes; small = k.small; inside = k.inside; behind = omega (arith, h, k.behind); content = k.content; next = k.next; reads = k.reads }
 
 -- ---- how far storing gets ahead of reading
 
@@ -23,25 +27,29 @@ pub record Paced {A : Type 0} (m : Reader A) (text : ℕ → A → List ℕ) : T
   pub pace : (s : List ℕ) (at : ℕ) → Bytes s → at ≤ length s → Meets (m s at) (λ a n. (n ≤ length s) × (8 * at + length (text at a) ≤ 8 * n))
 
 module _ {A : Type 0} {m : Reader A} {text : ℕ → A → List ℕ} where
+  pub on-pace : {s : List ℕ} {from to : ℕ} {before after : List ℕ} {r : Moved} → Paced m text → Ready m s from to → Copies m text s from to before after r → OnPace s from to r
+  on-pace {s} {from} {to} {r = r} p k c =
+      let h = (p.pace s from k.bytes k.inside).if-got _ _ k.reads in
+      let is = c.moves _ _ k.reads in
+      let from_is = ap (λ (x : Moved). x.from) is in
+      let to_is = ap (λ (x : Moved). x.to) is in
+      record { inside = omega (arith, h.0, from_is); ahead = omega (arith, h.1, from_is, to_is) }
+
   -- the place behind what was read is a place to go on
   pub ready-behind : {B : Type 0} {whole : Reader B} {rest : Reader B} {s : List ℕ} {from to : ℕ} {before after : List ℕ} {r : Moved}
-      → Paced m text → Ready whole s from to → Copies m text s from to before after r → {a : A} {mid : ℕ} → m s from ≡ got a mid
+      → OnPace s from to r → Ready whole s from to → Copies m text s from to before after r → {a : A} {mid : ℕ} → m s from ≡ got a mid
       → {b : B} {n : ℕ} → rest s mid ≡ got b n → Ready rest s r.from r.to
-  ready-behind {rest = rest} {s = s} {from = from} {to = to} {r = r} p k c {a} {mid} e {b} {n} f =
-      let h = (p.pace s _ k.bytes k.inside).if-got _ _ e in
-      let is = c.moves _ _ e in
-      let from_is : mid ≡ r.from = ap (λ (x : Moved). x.from) (sym is) in
-      let to_is : to + length (text from a) ≡ r.to = ap (λ (x : Moved). x.to) (sym is) in
-      subst₂ (λ (i j : ℕ). Ready rest s i j) from_is to_is
-      (record {
+  ready-behind {rest = rest} {s = s} {r = r} p k c e {b} {n} f =
+      let from_is = ap (λ (x : Moved). x.from) (c.moves _ _ e) in
+      record {
         bytes = k.bytes;
         small = k.small;
-        inside = h.0;
-        behind = omega (arith, k.behind, h.1);
+        inside = p.inside;
+        behind = omega (arith, k.behind, p.ahead);
         content = b;
         next = n;
-        reads = f;
-      })
+        reads = ap (rest s) from_is ∙ f;
+      }
 
   -- ---- another reader that reads the same, and has the same text
 
@@ -84,7 +92,7 @@ module _ {A : Type 0} (m : Reader A) (rest : Reader (List A)) {s : List ℕ} {fr
       record { bytes = k.bytes; small = k.small; inside = k.inside; behind = k.behind; content = p.first; next = p.mid; reads = p.one }
 
   module _ {one : ℕ → A → List ℕ} where
-    pub ready-others : {before after : List ℕ} {r : Moved} → Paced m one → Ready (listed m rest) s from to → Copies m one s from to before after r
+    pub ready-others : {before after : List ℕ} {r : Moved} → OnPace s from to r → Ready (listed m rest) s from to → Copies m one s from to before after r
         → Ready rest s r.from r.to
     ready-others p k c =
         let q = (list_read m rest s from).if-got _ _ k.reads in
@@ -115,16 +123,3 @@ module _ {A : Type 0} (m : Reader A) (rest : Reader (List A)) {s : List ℕ} {fr
                 ∙ sym (sets-append before to (one from p.first) (many p.mid p.others))
                 ∙ ap (sets before to) (sym (ap (whole from) p.is ∙ joins from p.mid p.first p.others inside p.one));
           }
-
--- ---- the pace of a list
-
-pub paced-list : {A : Type 0} (m : Reader A) (rest : Reader (List A)) {one : ℕ → A → List ℕ} {many whole : ℕ → List A → List ℕ}
-    → ((s : List ℕ) → Bytes s → Joins m one many whole s) → Paced m one → Paced rest many → Paced (listed m rest) whole
-paced-list m rest {one} {many} {whole} joins p q =
-    record {
-      pace = λ s at b h. meets-weaken (list_read m rest s at) (λ l n k.
-          let i = (p.pace s at b h).if-got _ _ k.one in
-          let j = (q.pace s k.mid b i.0).if-got _ _ k.more in
-          let size = ap length (ap (whole at) k.is ∙ joins s b at k.mid k.first k.others h k.one) ∙ length-append (one at k.first) (many k.mid k.others) in
-          (j.0, omega (arith, i.1, j.1, size)));
-    }

@@ -4,9 +4,9 @@ use native.Mathlib.Omega.{arith}
 use mathlib.Core.Path.{◌≡◌, refl, sym, ap, ◌∙◌, subst}
 use mathlib.Core.List.{List, [], ◌∷◌, ◌++◌}
 use lib.ListN.{length, drop, length-drop}
-use lib.Seq.{sets, length-take-le}
+use lib.Seq.{length-take-le}
 use Rattle.wire.specs.Numbers.{Bytes}
-use Rattle.wire.specs.Reading.{repeat}
+use Rattle.wire.specs.Reading.{Read, got, repeat}
 use Rattle.wire.specs.declared.Refusal.{Refusal}
 use Rattle.wire.specs.declared.Written.{Written}
 use Rattle.wire.specs.Answers.{Answer, accepted, refused, refusal, on_accepted}
@@ -14,14 +14,15 @@ use Rattle.wire.specs.Buffers.{writing, leaving, written_as}
 use Rattle.wire.proofs.Widths.{bytes_take, bytes_drop}
 use Rattle.wire.proofs.BufferLaws.{writing-done, writing-short, leaving-done, leaving-short, sets-front}
 use Rattle.avl.specs.Codecs.{widths_of}
+use Rattle.avl.specs.Records.{AvlRecord}
 use Rattle.avl.specs.RecordReader.{plain_record}
-use Rattle.avl.specs.DataField.{AvlData, read_data}
+use Rattle.avl.specs.DataField.{AvlData}
 use Rattle.avl.proofs.FieldLaws.{FieldOf, codec, count, body, field-read}
 use Rattle.traverse.specs.declared.Moved.{Moved}
 use Rattle.traverse.specs.Copying.{Ready, Copies}
-use Rattle.traverse.specs.Fields.{field_text, Field, Writes}
+use Rattle.traverse.specs.Fields.{field_text, Field, Writes, WritesRecords, HasRoom, FieldRoom}
 
-length-zero : (l : List ℕ) → length l ≡ 0 → l ≡ []
+length-zero : {A : Type 0} (l : List A) → length l ≡ 0 → l ≡ []
 length-zero [] e = refl
 length-zero (x ∷ l) e = absurd (omega arith)
 
@@ -43,49 +44,71 @@ field-ready d to h b k =
       reads = r.reads;
     }
 
-module _ (text : AvlData → List ℕ) (d : List ℕ) where
+-- ---- records
+
+module _ (codec count : ℕ) (text : AvlData → List ℕ) (s : List ℕ) where
   -- a run over a buffer
   abbrev pub Run : List ℕ → List ℕ → Moved → Type 0
-  Run before after r = Copies (repeat (count d) (plain_record (widths_of (codec d)))) (field_text text (codec d)) (body d) 0 0 before after r
+  Run before after r = Copies (repeat count (plain_record (widths_of codec))) (field_text text codec) s 0 0 before after r
 
-  ran : {before after : List ℕ} {r : Moved} → Run before after r → (longest : ℕ) (a : AvlData) → read_data longest d ≡ accepted a
-      → (r.to ≡ length (text a)) × (after ≡ sets before 0 (text a))
-  ran {before} c longest a e =
-      let k = field-read d longest a e in
-      let size = ap (λ (x : Moved). x.to) (c.moves _ _ k.reads) in
-      let same = ap text (sym k.is) in
-      (omega (arith, size, ap length same), c.stores _ _ k.reads ∙ ap (sets before 0) same)
+  abbrev Reads : List AvlRecord → ℕ → Type 0
+  Reads rs n = repeat count (plain_record (widths_of codec)) s 0 ≡ got rs n
+
+  ran : {before after : List ℕ} {r : Moved} → Run before after r → (rs : List AvlRecord) (n : ℕ) → Reads rs n → r.to ≡ length (field_text text codec 0 rs)
+  ran c rs n e = omega (arith, ap (λ (x : Moved). x.to) (c.moves _ _ e))
 
   -- a run over a buffer that is long enough
-  writes-whole : {out after : List ℕ} {r : Moved} {n : ℕ} → Run out after r → ((longest : ℕ) (a : AvlData) → read_data longest d ≡ accepted a → (n ≡ length (text a)) × (length (text a) ≤ length out))
-      → Writes text d out after (Written.Bytes n)
+  writes-whole : {out after : List ℕ} {r : Moved} {k : ℕ} → Run out after r
+      → ((rs : List AvlRecord) (n : ℕ) → Reads rs n → (k ≡ length (field_text text codec 0 rs)) × (length (field_text text codec 0 rs) ≤ length out))
+      → WritesRecords codec count text s out after (Written.Bytes k)
   unfolding written_as
   writes-whole {out} c h =
       record {
-        answer = λ longest a e. ap accepted (h longest a e).0 ∙ sym (writing-done (text a) out (h longest a e).1);
-        buffer = λ longest a e. (ran c longest a e).1 ∙ sets-front (text a) out (h longest a e).1 ∙ sym (leaving-done (text a) out (h longest a e).1);
+        answer = λ rs n e. ap accepted (h rs n e).0 ∙ sym (writing-done (field_text text codec 0 rs) out (h rs n e).1);
+        buffer = λ rs n e. c.stores _ _ e ∙ sets-front (field_text text codec 0 rs) out (h rs n e).1 ∙ sym (leaving-done (field_text text codec 0 rs) out (h rs n e).1);
       }
 
-  pub writes-room : {out after : List ℕ} {r : Moved} → ((longest : ℕ) (a : AvlData) → read_data longest d ≡ accepted a → length (text a) ≤ length out) → Run out after r
-      → Writes text d out after (Written.Bytes r.to)
-  writes-room h c = writes-whole c (λ longest a e. ((ran c longest a e).0, h longest a e))
+  pub writes-room : {out after : List ℕ} {r : Moved} {room : ℕ} → HasRoom codec count text s room → room ≤ length out → Run out after r
+      → WritesRecords codec count text s out after (Written.Bytes r.to)
+  writes-room h i c = writes-whole c (λ rs n e. (ran c rs n e, omega (arith, h rs n e, i)))
 
   -- a run over no buffer changes nothing
-  module _ {none last out : List ℕ} {r : Moved} (run : Run none last r) (empty : length last ≡ 0) where
-    unchanged : last ++ out ≡ out
-    unchanged = ap (λ (l : List ℕ). l ++ out) (length-zero last empty)
+  module _ {A : Type 0} (numbers : List A → List ℕ) (same : (l : List A) → length (numbers l) ≡ length l) {none last out : List A} {r : Moved}
+      (run : Run (numbers none) (numbers last) r) (empty : length last ≡ 0) where
+    unchanged : (last ++ out ≡ out) × (length (last ++ out) ≡ length (numbers out))
+    unchanged = let none = ap (λ (l : List A). l ++ out) (length-zero last empty) in (none, ap length none ∙ sym (same out))
 
-    pub writes_short : length (last ++ out) < r.to → Writes text d out (last ++ out) (Written.Refused (refusal 18))
+    pub writes_short : length (last ++ out) < r.to → WritesRecords codec count text s (numbers out) (numbers (last ++ out)) (Written.Refused (refusal 18))
     unfolding written_as
     writes_short h =
         record {
-          answer = λ longest a e. sym (writing-short (text a) out (omega (arith, (ran run longest a e).0, ap length unchanged)));
-          buffer = λ longest a e. unchanged ∙ sym (leaving-short (text a) out (omega (arith, (ran run longest a e).0, ap length unchanged)));
+          answer = λ rs n e. sym (writing-short (field_text text codec 0 rs) (numbers out) (omega (arith, h, ran run rs n e, unchanged.1)));
+          buffer = λ rs n e. ap numbers unchanged.0 ∙ sym (leaving-short (field_text text codec 0 rs) (numbers out) (omega (arith, h, ran run rs n e, unchanged.1)));
         }
 
-    pub writes-done : {after : List ℕ} {q : Moved} → r.to ≤ length (last ++ out) → Run (last ++ out) after q → Writes text d out after (Written.Bytes r.to)
+    pub writes-done : {after : List A} {q : Moved} → r.to ≤ length (last ++ out) → Run (numbers (last ++ out)) (numbers after) q
+        → WritesRecords codec count text s (numbers out) (numbers after) (Written.Bytes r.to)
     writes-done {after} {q} h c =
-        writes-whole (subst (λ (l : List ℕ). Run l after q) unchanged c) (λ longest a e. ((ran run longest a e).0, omega (arith, (ran run longest a e).0, ap length unchanged)))
+        writes-whole (subst (λ (l : List A). Run (numbers l) (numbers after) q) unchanged.0 c) (λ rs n e. (ran run rs n e, omega (arith, h, ran run rs n e, unchanged.1)))
+
+-- ---- of a data field
+
+module _ (text : AvlData → List ℕ) (d : List ℕ) where
+  pub room-inside : {room : ℕ} → Field d → FieldRoom text d room → HasRoom (codec d) (count d) text (body d) room
+  room-inside {room} k h rs n e =
+      let f = field-read d k.longest k.content k.accepts in
+      let same : k.content ≡ record { codec = codec d; records = rs } = f.is ∙ ap (λ (l : List AvlRecord). record { codec = codec d; records = l }) (got-same f.reads e) in
+      omega (arith, h k.longest k.content k.accepts, ap (λ (a : AvlData). length (text a)) same)
+    where
+      got-same : {r : Read (List AvlRecord)} {a b : List AvlRecord} {m n : ℕ} → r ≡ got a m → r ≡ got b n → a ≡ b
+      got-same i j = cc
+
+  pub writes-field : {before after : List ℕ} {r : Written} → WritesRecords (codec d) (count d) text (body d) before after r → Writes text d before after r
+  writes-field {before} w =
+      record {
+        answer = λ longest a e. let f = field-read d longest a e in w.answer f.records f.end f.reads ∙ ap (λ (x : AvlData). writing (accepted (text x)) before) (sym f.is);
+        buffer = λ longest a e. let f = field-read d longest a e in w.buffer f.records f.end f.reads ∙ ap (λ (x : AvlData). leaving (accepted (text x)) before) (sym f.is);
+      }
 
 -- ---- the call around it
 

@@ -1,5 +1,5 @@
 -- Loops over content: what is left, read and stored from here on, gives what the whole gives.
-use Prim.Native.Nat.{ℕ, zero, suc, ◌+◌, ◌-◌, ◌≤◌, ◌<◌}
+use Prim.Native.Nat.{ℕ, suc, ◌+◌, ◌-◌, ◌*◌, ◌≤◌, ◌<◌}
 use native.Mathlib.Omega.{arith}
 use mathlib.Core.Path.{◌≡◌, refl, sym, ap, ◌∙◌, subst}
 use mathlib.Core.List.{List, [], ◌∷◌}
@@ -16,20 +16,20 @@ use Rattle.walk.proofs.KindLaws.{next-kind}
 use Rattle.element.specs.Elements.{Located, locate_group, locate_groups}
 use Rattle.traverse.specs.declared.Moved.{Moved}
 use Rattle.traverse.specs.Texts.{element_text, run_text, group_text, groups_text, records_text}
-use Rattle.traverse.specs.Copying.{Ready, Copies}
-use Rattle.traverse.proofs.CopyLaws.{moved, Paced, Joins, copies-is, copies-none, copies-list, ready-first, ready-others}
-use Rattle.traverse.proofs.PaceLaws.{run-joins, groups-joins, records-joins, paced-group}
+use Rattle.traverse.specs.Copying.{Ready, Copies, OnPace}
+use Rattle.traverse.proofs.CopyLaws.{moved, Joins, copies-is, copies-none, copies-list, ready-first, ready-others}
+use Rattle.traverse.proofs.PaceLaws.{run-joins, groups-joins, records-joins}
 
 -- `m` is left, to be read at `from` and stored at `dest`, of `whole`, which began at `at` and `to`
 pub record Left {A : Type 0} (m : Reader A) (text : ℕ → A → List ℕ) (whole : Reader A) (all : ℕ → A → List ℕ)
     (s : List ℕ) (at to : ℕ) (before : List ℕ) (from dest : ℕ) (out : List ℕ) : Type 0 where
   pub ready : Ready m s from dest
   pub rest : (after : List ℕ) (r : Moved) → Copies m text s from dest out after r → Copies whole all s at to before after r
-  pub long : length out ≡ length before
+  pub ahead : 8 * at + dest ≤ 8 * from + to
 
 pub left-start : {A : Type 0} {m : Reader A} {text : ℕ → A → List ℕ} {s : List ℕ} {at to : ℕ} {out : List ℕ} → Ready m s at to
     → Left m text m text s at to out at to out
-left-start k = record { ready = k; rest = λ after r c. c; long = refl }
+left-start k = record { ready = k; rest = λ after r c. c; ahead = omega arith }
 
 -- ---- one turn, and the end
 
@@ -42,41 +42,49 @@ module _ {A : Type 0} {whole : Reader (List A)} {all : ℕ → List A → List �
     pub left-first : Ready m s from dest
     left-first = ready-first m rest more.ready
 
-    pub left-on : {one : ℕ → A → List ℕ} {many : ℕ → List A → List ℕ} → Joins m one many lot s → Paced m one
-        → {mid : List ℕ} {r : Moved} → Copies m one s from dest out mid r → length mid ≡ length out → Left rest many whole all s at to before r.from r.to mid
-    left-on joins p c e =
+    pub left-on : {one : ℕ → A → List ℕ} {many : ℕ → List A → List ℕ} → Joins m one many lot s
+        → {mid : List ℕ} {r : Moved} → OnPace s from dest r → Copies m one s from dest out mid r → Left rest many whole all s at to before r.from r.to mid
+    left-on joins p c =
         record {
           ready = ready-others m rest p more.ready c;
           rest = λ after q d. more.rest after q (copies-list m rest joins more.ready.inside c d);
-          long = e ∙ l.long;
+          ahead = omega (arith, p.ahead, l.ahead);
         }
 
   pub left-done : {m : Reader (List A)} {text : ℕ → List A → List ℕ} (a : List A) → Left m text whole all s at to before from dest out
       → m s from ≡ got a from → text from a ≡ [] → Copies whole all s at to before out (moved from dest)
   left-done a l e z = l.rest out (moved from dest) (copies-none a e z)
 
-repeat-more : {A : Type 0} (m : Reader A) (n : ℕ) → 0 < n → repeat n m ≡ listed m (repeat (n - 1) m)
+  pub left-pace : {m : Reader (List A)} {text : ℕ → List A → List ℕ} → Left m text whole all s at to before from dest out → OnPace s at to (moved from dest)
+  left-pace l = record { inside = l.ready.inside; ahead = l.ahead }
+
+repeat-suc : {A : Type 0} (m : Reader A) (n : ℕ) → repeat (suc n) m ≡ listed m (repeat n m)
 unfolding repeat
-repeat-more m zero h = absurd (omega arith)
-repeat-more m (suc n) h = let less : n ≡ suc n - 1 = omega arith in ap (λ (k : ℕ). listed m (repeat k m)) less
+repeat-suc m n = refl
+
+-- `i` of `n` are done
+repeat-more : {A : Type 0} (m : Reader A) (n i : ℕ) → i < n → repeat (n - i) m ≡ listed m (repeat (n - (i + 1)) m)
+repeat-more m n i h = let less : n - i ≡ suc (n - (i + 1)) = omega arith in ap (λ (k : ℕ). repeat k m) less ∙ repeat-suc m (n - (i + 1))
 
 module _ (f : Located → List ℕ) (w : Widths) where
   -- ---- the elements of a group
 
-  abbrev pub GroupLeft : ℕ → List ℕ → ℕ → ℕ → List ℕ → ℕ → ℕ → List ℕ → ℕ → Type 0
-  GroupLeft kind s at to before from dest out n =
-      Left (repeat n (element w kind)) (run_text f w kind) (group w kind) (group_text f w kind) s at to before from dest out
+  -- `i` of `n` elements are written
+  abbrev pub GroupLeft : ℕ → ℕ → List ℕ → ℕ → ℕ → List ℕ → ℕ → ℕ → List ℕ → ℕ → Type 0
+  GroupLeft kind n s at to before from dest out i =
+      Left (repeat (n - i) (element w kind)) (run_text f w kind) (group w kind) (group_text f w kind) s at to before from dest out
 
   module _ (kind : ℕ) {s : List ℕ} {at to : ℕ} where
     pub group-inside : Ready (group w kind) s at to → at + w.count ≤ length s
     group-inside k = ((group-read w kind s at).if-got _ _ k.reads).inside
 
     pub group-start : {n : ℕ} {out : List ℕ} → n ≡ number_at s at w.count → Ready (group w kind) s at to
-        → GroupLeft kind s at to out (at + w.count) to out n
+        → GroupLeft kind n s at to out (at + w.count) to out 0
     unfolding group
     group-start {n} e k =
         let g = (group-read w kind s at).if-got _ _ k.reads in
-        let same = ap (λ (x : ℕ). repeat x (element w kind) s (at + w.count)) (sym e) in
+        let all : number_at s at w.count ≡ n - 0 = omega (arith, e) in
+        let same = ap (λ (x : ℕ). repeat x (element w kind) s (at + w.count)) all in
         record {
           ready = record {
             bytes = k.bytes;
@@ -88,20 +96,20 @@ module _ (f : Located → List ℕ) (w : Widths) where
             reads = sym same ∙ g.elements;
           };
           rest = λ after r c. copies-is (number-there _ s at w.count g.inside ∙ same) (λ a n i. refl) c;
-          long = refl;
+          ahead = omega arith;
         }
 
-    module _ {before : List ℕ} {from dest : ℕ} {out : List ℕ} (n : ℕ) (l : GroupLeft kind s at to before from dest out n) where
-      pub group-first : 0 < n → Ready (element w kind) s from dest
-      group-first h = left-first (element w kind) (repeat (n - 1) (element w kind)) (repeat-more (element w kind) n h) l
+    module _ {n : ℕ} {before : List ℕ} {from dest : ℕ} {out : List ℕ} (i : ℕ) (l : GroupLeft kind n s at to before from dest out i) where
+      pub group-first : i < n → Ready (element w kind) s from dest
+      group-first h = left-first (element w kind) (repeat (n - (i + 1)) (element w kind)) (repeat-more (element w kind) n i h) l
 
-      pub group-on : Paced (element w kind) (element_text f w kind) → 0 < n → {mid : List ℕ} {r : Moved}
-          → Copies (element w kind) (element_text f w kind) s from dest out mid r → length mid ≡ length out → GroupLeft kind s at to before r.from r.to mid (n - 1)
-      group-on p h c e = left-on (element w kind) (repeat (n - 1) (element w kind)) (repeat-more (element w kind) n h) l (run-joins f w kind s) p c e
+      pub group-on : i < n → {mid : List ℕ} {r : Moved} → OnPace s from dest r
+          → Copies (element w kind) (element_text f w kind) s from dest out mid r → GroupLeft kind n s at to before r.from r.to mid (i + 1)
+      group-on h p c = left-on (element w kind) (repeat (n - (i + 1)) (element w kind)) (repeat-more (element w kind) n i h) l (run-joins f w kind s) p c
 
-      pub group-done : n ≤ 0 → Copies (group w kind) (group_text f w kind) s at to before out (moved from dest)
+      pub group-done : n ≤ i → Copies (group w kind) (group_text f w kind) s at to before out (moved from dest)
       unfolding repeat pure locate_group
-      group-done h = let none : n ≡ 0 = omega arith in left-done [] l (ap (λ (k : ℕ). repeat k (element w kind) s from) none) refl
+      group-done h = let none : n - i ≡ 0 = omega arith in left-done [] l (ap (λ (k : ℕ). repeat k (element w kind) s from) none) refl
 
   -- ---- the groups of a record
 
@@ -118,12 +126,12 @@ module _ (f : Located → List ℕ) (w : Widths) where
       pub groups-first : Ready (group w kind) s from dest
       groups-first = left-first (group w kind) (groups w (drop (k + 1) (kinds w))) groups-more l
 
-      pub groups-on : ((kind : ℕ) → 1 ≤ kind → Paced (element w kind) (element_text f w kind)) → 1 ≤ kind → {mid : List ℕ} {r : Moved}
-          → Copies (group w kind) (group_text f w kind) s from dest out mid r → length mid ≡ length out → GroupsLeft s at to before r.from r.to mid (k + 1)
-      groups-on one i c m =
+      pub groups-on : {mid : List ℕ} {r : Moved} → OnPace s from dest r
+          → Copies (group w kind) (group_text f w kind) s from dest out mid r → GroupsLeft s at to before r.from r.to mid (k + 1)
+      groups-on p c =
           left-on (group w kind) (groups w (drop (k + 1) (kinds w))) groups-more l
           (λ at mid g gs i j. ap (λ (ks : List ℕ). groups_text f w ks at (g ∷ gs)) (next-kind w k h e) ∙ groups-joins f w kind (drop (k + 1) (kinds w)) s l.ready.bytes at mid g gs i j)
-          (paced-group f w one kind i) c m
+          p c
 
     pub groups-done : length (kinds w) ≤ k → Copies (groups w (kinds w)) (groups_text f w (kinds w)) s at to before out (moved from dest)
     unfolding groups pure locate_groups
@@ -138,11 +146,6 @@ module _ (text : ℕ → AvlRecord → List ℕ) (w : Widths) (count : ℕ) wher
   RecordsLeft s to before from dest out i =
       Left (repeat (count - i) (plain_record w)) (records_text text w) (repeat count (plain_record w)) (records_text text w) s 0 to before from dest out
 
-  records-more : (i : ℕ) → i < count → repeat (count - i) (plain_record w) ≡ listed (plain_record w) (repeat (count - (i + 1)) (plain_record w))
-  records-more i h =
-      let less : count - i - 1 ≡ count - (i + 1) = omega arith in
-      repeat-more (plain_record w) (count - i) (omega arith) ∙ ap (λ (k : ℕ). listed (plain_record w) (repeat k (plain_record w))) less
-
   module _ {s : List ℕ} {to : ℕ} where
     pub records-start : {out : List ℕ} → Ready (repeat count (plain_record w)) s 0 to → RecordsLeft s to out 0 to out 0
     records-start {out} k =
@@ -151,11 +154,11 @@ module _ (text : ℕ → AvlRecord → List ℕ) (w : Widths) (count : ℕ) wher
 
     module _ {before : List ℕ} {from dest : ℕ} {out : List ℕ} (i : ℕ) (l : RecordsLeft s to before from dest out i) where
       pub records-first : i < count → Ready (plain_record w) s from dest
-      records-first h = left-first (plain_record w) (repeat (count - (i + 1)) (plain_record w)) (records-more i h) l
+      records-first h = left-first (plain_record w) (repeat (count - (i + 1)) (plain_record w)) (repeat-more (plain_record w) count i h) l
 
-      pub records-on : Paced (plain_record w) text → i < count → {mid : List ℕ} {r : Moved} → Copies (plain_record w) text s from dest out mid r → length mid ≡ length out
+      pub records-on : i < count → {mid : List ℕ} {r : Moved} → OnPace s from dest r → Copies (plain_record w) text s from dest out mid r
           → RecordsLeft s to before r.from r.to mid (i + 1)
-      records-on p h c e = left-on (plain_record w) (repeat (count - (i + 1)) (plain_record w)) (records-more i h) l (records-joins text w s l.ready.bytes) p c e
+      records-on h p c = left-on (plain_record w) (repeat (count - (i + 1)) (plain_record w)) (repeat-more (plain_record w) count i h) l (records-joins text w s l.ready.bytes) p c
 
       pub records-done : count ≤ i → Copies (repeat count (plain_record w)) (records_text text w) s 0 to before out (moved from dest)
       unfolding repeat pure records_text

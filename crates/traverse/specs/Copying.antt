@@ -19,3 +19,8 @@ pub record Ready {A : Type 0} (m : Reader A) (s : List ℕ) (from to : ℕ) : Ty
 pub record Copies {A : Type 0} (m : Reader A) (text : ℕ → A → List ℕ) (s : List ℕ) (from to : ℕ) (before after : List ℕ) (r : Moved) : Type 0 where
   pub moves : (a : A) (n : ℕ) → m s from ≡ got a n → r ≡ record { from = n; to = to + length (text from a) }
   pub stores : (a : A) (n : ℕ) → m s from ≡ got a n → after ≡ sets before to (text from a)
+
+-- storing gets ahead of reading by at most eight places for each byte that is read
+pub record OnPace (s : List ℕ) (from to : ℕ) (r : Moved) : Type 0 where
+  pub inside : r.from ≤ length s
+  pub ahead : 8 * from + r.to ≤ 8 * r.from + to

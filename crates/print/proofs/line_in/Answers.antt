@@ -1,7 +1,7 @@
 use native.Mathlib.Omega.{arith}
 use mathlib.Core.Path.{refl}
 use Rattle.wire.proofs.Widths.{get_d-bytes}
-use Rattle.print.proofs.WholeLaws.{part-ready, line_made}
+use Rattle.print.proofs.WholeLaws.{part-ready}
 use Rattle.traverse.proofs.FieldLaws.{refused-whole}
 use Rattle.element.specs.Places.{part}
 use Rattle.lookup.proofs.PartLaws.{of-refused, of-record}
@@ -17,11 +17,11 @@ pub slice_bounds-write_line-end : goal.slice_bounds-write_line-end
 slice_bounds-write_line-end c = let h = c.requires.part_in.stands _ _ _ _ c.in-Of.is in omega (arith, h.inside)
 
 pub write_line-requires : goal.write_line-requires
-write_line-requires c = record { narrow = (part-ready (c.requires.part_in.stands _ _ _ _ c.in-Of.is) c.widths_of.ensures (get_d-bytes c.args.p.now (λ k. (c.type_inv.p k).fits)) (c.requires.short_part _ _ _ _ c.in-Of.is)).0; ready = (part-ready (c.requires.part_in.stands _ _ _ _ c.in-Of.is) c.widths_of.ensures (get_d-bytes c.args.p.now (λ k. (c.type_inv.p k).fits)) (c.requires.short_part _ _ _ _ c.in-Of.is)).1 }
+write_line-requires c = part-ready (c.requires.part_in.stands _ _ _ _ c.in-Of.is) (get_d-bytes c.args.p.now (λ k. (c.type_inv.p k).fits)) (c.requires.short_part _ _ _ _ c.in-Of.is)
 
 pub returns-in-Refused : goal.returns-in-Refused
 returns-in-Refused c = of-refused c.in-Refused.is (refused-whole refl)
 
 pub returns-in-Of : goal.returns-in-Of
 unfolding part
-returns-in-Of c = of-record c.in-Of.is (line_made _ c.widths_of.ensures c.write_line.ensures)
+returns-in-Of c = let line = c.write_line.ensures in of-record c.in-Of.is (λ x n e. (line.answer x n e, line.buffer x n e))
