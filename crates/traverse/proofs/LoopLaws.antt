@@ -1,5 +1,5 @@
 -- Loops over content: what is left, read and stored from here on, gives what the whole gives.
-use Prim.Native.Nat.{ℕ, suc, ◌+◌, ◌-◌, ◌*◌, ◌≤◌, ◌<◌}
+use Prim.Native.Nat.{ℕ, zero, suc, ◌+◌, ◌-◌, ◌*◌, ◌≤◌, ◌<◌}
 use native.Mathlib.Omega.{arith}
 use mathlib.Core.Path.{◌≡◌, refl, sym, ap, ◌∙◌, subst}
 use mathlib.Core.List.{List, [], ◌∷◌}
@@ -58,33 +58,28 @@ module _ {A : Type 0} {whole : Reader (List A)} {all : ℕ → List A → List �
   pub left-pace : {m : Reader (List A)} {text : ℕ → List A → List ℕ} → Left m text whole all s at to before from dest out → OnPace s at to (moved from dest)
   left-pace l = record { inside = l.ready.inside; ahead = l.ahead }
 
-repeat-suc : {A : Type 0} (m : Reader A) (n : ℕ) → repeat (suc n) m ≡ listed m (repeat n m)
+repeat-more : {A : Type 0} (m : Reader A) (n : ℕ) → 0 < n → repeat n m ≡ listed m (repeat (n - 1) m)
 unfolding repeat
-repeat-suc m n = refl
-
--- `i` of `n` are done
-repeat-more : {A : Type 0} (m : Reader A) (n i : ℕ) → i < n → repeat (n - i) m ≡ listed m (repeat (n - (i + 1)) m)
-repeat-more m n i h = let less : n - i ≡ suc (n - (i + 1)) = omega arith in ap (λ (k : ℕ). repeat k m) less ∙ repeat-suc m (n - (i + 1))
+repeat-more m zero h = absurd (omega arith)
+repeat-more m (suc n) h = let less : n ≡ suc n - 1 = omega arith in ap (λ (k : ℕ). listed m (repeat k m)) less
 
 module _ (f : Located → List ℕ) (w : Widths) where
   -- ---- the elements of a group
 
-  -- `i` of `n` elements are written
-  abbrev pub GroupLeft : ℕ → ℕ → List ℕ → ℕ → ℕ → List ℕ → ℕ → ℕ → List ℕ → ℕ → Type 0
-  GroupLeft kind n s at to before from dest out i =
-      Left (repeat (n - i) (element w kind)) (run_text f w kind) (group w kind) (group_text f w kind) s at to before from dest out
+  abbrev pub GroupLeft : ℕ → List ℕ → ℕ → ℕ → List ℕ → ℕ → ℕ → List ℕ → ℕ → Type 0
+  GroupLeft kind s at to before from dest out n =
+      Left (repeat n (element w kind)) (run_text f w kind) (group w kind) (group_text f w kind) s at to before from dest out
 
   module _ (kind : ℕ) {s : List ℕ} {at to : ℕ} where
     pub group-inside : Ready (group w kind) s at to → at + w.count ≤ length s
     group-inside k = ((group-read w kind s at).if-got _ _ k.reads).inside
 
     pub group-start : {n : ℕ} {out : List ℕ} → n ≡ number_at s at w.count → Ready (group w kind) s at to
-        → GroupLeft kind n s at to out (at + w.count) to out 0
+        → GroupLeft kind s at to out (at + w.count) to out n
     unfolding group
     group-start {n} e k =
         let g = (group-read w kind s at).if-got _ _ k.reads in
-        let all : number_at s at w.count ≡ n - 0 = omega (arith, e) in
-        let same = ap (λ (x : ℕ). repeat x (element w kind) s (at + w.count)) all in
+        let same = ap (λ (x : ℕ). repeat x (element w kind) s (at + w.count)) (sym e) in
         record {
           ready = record {
             bytes = k.bytes;
@@ -99,17 +94,17 @@ module _ (f : Located → List ℕ) (w : Widths) where
           ahead = omega arith;
         }
 
-    module _ {n : ℕ} {before : List ℕ} {from dest : ℕ} {out : List ℕ} (i : ℕ) (l : GroupLeft kind n s at to before from dest out i) where
-      pub group-first : i < n → Ready (element w kind) s from dest
-      group-first h = left-first (element w kind) (repeat (n - (i + 1)) (element w kind)) (repeat-more (element w kind) n i h) l
+    module _ {before : List ℕ} {from dest : ℕ} {out : List ℕ} (n : ℕ) (l : GroupLeft kind s at to before from dest out n) where
+      pub group-first : 0 < n → Ready (element w kind) s from dest
+      group-first h = left-first (element w kind) (repeat (n - 1) (element w kind)) (repeat-more (element w kind) n h) l
 
-      pub group-on : i < n → {mid : List ℕ} {r : Moved} → OnPace s from dest r
-          → Copies (element w kind) (element_text f w kind) s from dest out mid r → GroupLeft kind n s at to before r.from r.to mid (i + 1)
-      group-on h p c = left-on (element w kind) (repeat (n - (i + 1)) (element w kind)) (repeat-more (element w kind) n i h) l (run-joins f w kind s) p c
+      pub group-on : 0 < n → {mid : List ℕ} {r : Moved} → OnPace s from dest r
+          → Copies (element w kind) (element_text f w kind) s from dest out mid r → GroupLeft kind s at to before r.from r.to mid (n - 1)
+      group-on h p c = left-on (element w kind) (repeat (n - 1) (element w kind)) (repeat-more (element w kind) n h) l (run-joins f w kind s) p c
 
-      pub group-done : n ≤ i → Copies (group w kind) (group_text f w kind) s at to before out (moved from dest)
+      pub group-done : n ≤ 0 → Copies (group w kind) (group_text f w kind) s at to before out (moved from dest)
       unfolding repeat pure locate_group
-      group-done h = let none : n - i ≡ 0 = omega arith in left-done [] l (ap (λ (k : ℕ). repeat k (element w kind) s from) none) refl
+      group-done h = let none : n ≡ 0 = omega arith in left-done [] l (ap (λ (k : ℕ). repeat k (element w kind) s from) none) refl
 
   -- ---- the groups of a record
 
@@ -146,6 +141,11 @@ module _ (text : ℕ → AvlRecord → List ℕ) (w : Widths) (count : ℕ) wher
   RecordsLeft s to before from dest out i =
       Left (repeat (count - i) (plain_record w)) (records_text text w) (repeat count (plain_record w)) (records_text text w) s 0 to before from dest out
 
+  records-more : (i : ℕ) → i < count → repeat (count - i) (plain_record w) ≡ listed (plain_record w) (repeat (count - (i + 1)) (plain_record w))
+  records-more i h =
+      let less : count - i - 1 ≡ count - (i + 1) = omega arith in
+      repeat-more (plain_record w) (count - i) (omega arith) ∙ ap (λ (k : ℕ). listed (plain_record w) (repeat k (plain_record w))) less
+
   module _ {s : List ℕ} {to : ℕ} where
     pub records-start : {out : List ℕ} → Ready (repeat count (plain_record w)) s 0 to → RecordsLeft s to out 0 to out 0
     records-start {out} k =
@@ -154,11 +154,11 @@ module _ (text : ℕ → AvlRecord → List ℕ) (w : Widths) (count : ℕ) wher
 
     module _ {before : List ℕ} {from dest : ℕ} {out : List ℕ} (i : ℕ) (l : RecordsLeft s to before from dest out i) where
       pub records-first : i < count → Ready (plain_record w) s from dest
-      records-first h = left-first (plain_record w) (repeat (count - (i + 1)) (plain_record w)) (repeat-more (plain_record w) count i h) l
+      records-first h = left-first (plain_record w) (repeat (count - (i + 1)) (plain_record w)) (records-more i h) l
 
       pub records-on : i < count → {mid : List ℕ} {r : Moved} → OnPace s from dest r → Copies (plain_record w) text s from dest out mid r
           → RecordsLeft s to before r.from r.to mid (i + 1)
-      records-on h p c = left-on (plain_record w) (repeat (count - (i + 1)) (plain_record w)) (repeat-more (plain_record w) count i h) l (records-joins text w s l.ready.bytes) p c
+      records-on h p c = left-on (plain_record w) (repeat (count - (i + 1)) (plain_record w)) (records-more i h) l (records-joins text w s l.ready.bytes) p c
 
       pub records-done : count ≤ i → Copies (repeat count (plain_record w)) (records_text text w) s 0 to before out (moved from dest)
       unfolding repeat pure records_text
