@@ -113,8 +113,9 @@ pub fn put_groups<W: ElementWriter>(
     ensures copies { Copies (groups w (kinds w)) (groups_text (W.of_element writer) w (kinds w)) s.now at to (W.Item.numbers out.old) (W.Item.numbers out.new) result }
     ensures pace { OnPace s.now at to result }
 {
+    let n = walk::kind_count(w);
     let mut moved = Moved { from: at, to };
-    for k in 0..walk::kind_count(w) {
+    for k in 0..n {
         moved = put_group(writer, w, walk::kind_at(k), s, moved.from, out, moved.to);
     }
     moved
