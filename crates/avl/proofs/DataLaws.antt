@@ -1,4 +1,5 @@
 -- The judge of a data field accepts exactly what keeps the rules.
+use Rattle.std.specs.Prelude.{Ok}
 use Prim.Native.Nat.{ℕ, ◌≤◌, ◌<◌}
 use native.Mathlib.Omega.{arith}
 use mathlib.Core.Path.{◌≡◌, refl, sym, ap, ap₂, ◌∙◌, subst}
@@ -11,7 +12,7 @@ use borrow.Author.Tests.{le-leb, leb-true, eq-eqb, eqb-true}
 use Rattle.wire.specs.Numbers.{Bytes, pick}
 use Rattle.wire.specs.Sequences.{joined}
 use Rattle.wire.specs.Envelope.{enclosed, codec_of, first_count, inner}
-use Rattle.wire.specs.Answers.{accepted, told, on_accepted}
+use Rattle.wire.specs.Answers.{told, on_accepted}
 use Rattle.wire.proofs.Enclosed.{enclosed-parts, codec-enclosed, first-enclosed, last-enclosed, inner-enclosed, bytes-inner, first-lt}
 use Rattle.wire.proofs.Accepting.{check-accepted, check-passed, on_accepted-accepted, on_accepted-passed, told-accepted, told-got}
 use Rattle.avl.specs.Codecs.{widths_of, is_data_codec}
@@ -20,7 +21,7 @@ use Rattle.avl.specs.RecordReader.{all_records}
 use Rattle.avl.specs.DataField.{AvlData, data_bytes, DataRules, read_data}
 use Rattle.avl.proofs.RecordLaws.{all_sound, all-complete}
 
-data-sound : (longest : ℕ) (d : List ℕ) (a : AvlData) → Bytes d → 3 ≤ length d → read_data longest d ≡ accepted a → DataRules longest a × (d ≡ data_bytes a)
+data-sound : (longest : ℕ) (d : List ℕ) (a : AvlData) → Bytes d → 3 ≤ length d → read_data longest d ≡ Ok a → DataRules longest a × (d ≡ data_bytes a)
 unfolding read_data data_bytes
 data-sound longest d a h l e =
     let c₁ = check-accepted (is_data_codec (codec_of d)) 6 _ _ e in
@@ -49,7 +50,7 @@ codec-fits codec e = go (eqb codec 0x08) (eqb codec 0x8E) refl refl e
 
 -- with a known codec and equal counts, a data field is what the walk makes of its space
 pub data-walked : (longest codec count : ℕ) (b : List ℕ) → is_data_codec codec ≡ true → 1 ≤ count → count ≤ 255
-    → read_data longest (enclosed codec count b) ≡ on_accepted (told 2 (all_records longest (widths_of codec) count b 0)) (λ rs. accepted (record { codec = codec; records = rs }))
+    → read_data longest (enclosed codec count b) ≡ on_accepted (told 2 (all_records longest (widths_of codec) count b 0)) (λ rs. Ok (record { codec = codec; records = rs }))
 unfolding read_data
 data-walked longest codec count b known some few =
     let c = codec-fits codec known in
@@ -59,7 +60,7 @@ data-walked longest codec count b known some few =
     ∙ check-passed _ 7 _ _ (le-leb 1 count some)
     ∙ check-passed _ 7 _ _ (eq-eqb count count refl))
 
-pub data-complete : (longest : ℕ) (a : AvlData) → DataRules longest a → read_data longest (data_bytes a) ≡ accepted a
+pub data-complete : (longest : ℕ) (a : AvlData) → DataRules longest a → read_data longest (data_bytes a) ≡ Ok a
 unfolding data_bytes
 data-complete longest a h =
     let w = widths_of a.codec in
@@ -68,6 +69,6 @@ data-complete longest a h =
 
 -- the judge accepts exactly what keeps the rules
 pub data-exact : (longest : ℕ) (d : List ℕ) (a : AvlData) → Bytes d → 3 ≤ length d
-    → (read_data longest d ≡ accepted a) ↔ (DataRules longest a × (d ≡ data_bytes a))
+    → (read_data longest d ≡ Ok a) ↔ (DataRules longest a × (d ≡ data_bytes a))
 data-exact longest d a h l =
     (data-sound longest d a h l, λ k. ap (read_data longest) k.1 ∙ data-complete longest a k.0)

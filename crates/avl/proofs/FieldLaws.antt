@@ -1,4 +1,5 @@
 -- The records of a data field that is accepted, as they stand between its counts.
+use Rattle.std.specs.Prelude.{Ok}
 use Prim.Native.Nat.{ℕ, ◌-◌, ◌^◌, ◌≤◌, ◌<◌}
 use native.Mathlib.Omega.{arith}
 use mathlib.Core.Path.{◌≡◌, ap, ◌∙◌}
@@ -6,7 +7,6 @@ use mathlib.Core.List.{List}
 use lib.ListN.{length, take, drop, get_or}
 use Rattle.wire.specs.Envelope.{codec_of, first_count, inner}
 use Rattle.wire.specs.Reading.{got, repeat}
-use Rattle.wire.specs.Answers.{accepted}
 use Rattle.wire.proofs.Exactness.{Meets, meets-then, meets-next, meets-pure}
 use Rattle.wire.proofs.Accepting.{check-accepted, on_accepted-accepted, told-accepted}
 use Rattle.avl.specs.declared.Widths.{Widths}
@@ -20,7 +20,7 @@ use Rattle.avl.proofs.Inversion.{meets-self, plain-records}
 pub record FieldOf (longest : ℕ) (d : List ℕ) (a : AvlData) : Type 0 where
   pub long : 3 ≤ length d
   pub small : length d < 2 ^ 32
-  pub accepts : read_data longest d ≡ accepted a
+  pub accepts : read_data longest d ≡ Ok a
 
 all_read : (longest : ℕ) (w : Widths) (n : ℕ) (s : List ℕ) (at : ℕ) → Meets (all_records longest w n s at) (λ rs end. (mid : ℕ) × (avl_records longest w 0 n s at ≡ got rs mid))
 unfolding all_records
@@ -46,7 +46,7 @@ module _ (d : List ℕ) where
     pub reads : repeat count (plain_record (widths_of codec)) body 0 ≡ got records end
     pub is : a ≡ record { codec = codec; records = records }
 
-  pub field-read : (longest : ℕ) (a : AvlData) → read_data longest d ≡ accepted a → FieldRead a
+  pub field-read : (longest : ℕ) (a : AvlData) → read_data longest d ≡ Ok a → FieldRead a
   unfolding read_data codec_of first_count inner
   field-read longest a e =
       let c₁ = check-accepted _ 6 _ _ e in

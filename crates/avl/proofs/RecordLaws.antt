@@ -197,7 +197,7 @@ unfolding tagged
 meets-tagged index (got a n) h = h
 meets-tagged index (bad x) h = record { if-got = λ a n e. absurd (let z : ◌≡◌ {A = ℕ} 0 1 = cc in omega arith) }
 
-in_record-exact : {A : Type 0} {m : Reader A} {write : A → List ℕ} {Ok : A → Type 0} (index : ℕ) → Exact m write Ok → Exact (in_record index m) write Ok
+in_record-exact : {A : Type 0} {m : Reader A} {write : A → List ℕ} {Rules : A → Type 0} (index : ℕ) → Exact m write Rules → Exact (in_record index m) write Rules
 unfolding in_record tagged
 in_record-exact {m = m} index x =
     record {

@@ -1,8 +1,9 @@
 -- The data field of a data packet or a datagram: codec, count, records, count again.
-use Rattle.std.specs.Prelude.{ℕ, ◌-◌, ◌≤◌, ◌≡◌, true, List, length, eqb, leb}
+use Rattle.std.specs.Prelude.{Ok, ℕ, ◌-◌, ◌≤◌, ◌≡◌, true, List, length, eqb, leb}
 use Rattle.wire.specs.Sequences.{joined, All}
 use Rattle.wire.specs.Envelope.{enclosed, codec_of, first_count, last_count, inner}
-use Rattle.wire.specs.Answers.{Answer, accepted, check_at, told, on_accepted}
+use Rattle.wire.specs.Answers.{Answer, check_at, told, on_accepted}
+use Rattle.avl.specs.declared.DataResult.{DataResult}
 use Rattle.avl.specs.Codecs.{widths_of, is_data_codec}
 use Rattle.avl.specs.Records.{AvlRecord, record_bytes, RecordRules}
 use Rattle.avl.specs.RecordReader.{all_records}
@@ -31,13 +32,9 @@ read_data longest d =
     (check_at (leb 1 (first_count d)) 7 1
     (check_at (eqb (first_count d) (last_count d)) 7 (length d - 1)
     (on_accepted (told 2 (all_records longest (widths_of (codec_of d)) (first_count d) (inner d) 0))
-    (λ rs. accepted (record { codec = codec_of d; records = rs })))))
+    (λ rs. Ok (record { codec = codec_of d; records = rs })))))
 
 -- ---- the result: codec and number of records
-
-pub record DataResult : Type 0 where
-  pub codec : ℕ
-  pub count : ℕ
 
 unfoldable pub data_result : AvlData → DataResult
 data_result a = record { codec = a.codec; count = length a.records }

@@ -1,12 +1,12 @@
 -- How an answer is laid out flat: number 0 for an accepted input, else the refusal with all other fields 0.
-use Rattle.std.specs.Prelude.{ℕ, false, pos}
-use Rattle.wire.specs.Answers.{Answer, accepted, refused}
-use Rattle.avl.specs.DataField.{DataResult}
-use Rattle.datagram.specs.Datagrams.{DatagramResult}
+use Rattle.std.specs.Prelude.{Err, Ok, ℕ, false, pos}
+use Rattle.wire.specs.Answers.{Answer}
+use Rattle.avl.specs.declared.DataResult.{DataResult}
+use Rattle.datagram.specs.declared.DatagramResult.{DatagramResult}
 use Rattle.command.specs.declared.CommandFields.{CommandFields}
 use Rattle.element.specs.declared.RecordFields.{RecordFields}
 use Rattle.element.specs.declared.Value.{Value}
-use Rattle.lookup.specs.Answers.{KnownResult}
+use Rattle.lookup.specs.declared.Known.{Known}
 use Rattle.connection.specs.declared.Started.{Started}
 use Rattle.connection.specs.declared.Fed.{Fed}
 use Rattle.connection.specs.declared.Lent.{Lent}
@@ -31,15 +31,15 @@ use Rattle.capi.specs.declared.LineC.{LineC}
 use Rattle.capi.specs.declared.LineElementC.{LineElementC}
 
 unfoldable pub flat_written : Answer ℕ → WrittenC
-flat_written (accepted n) = record { number = 0; index = 0; place = 0; written = n }
-flat_written (refused x) = record { number = x.number; index = x.index; place = x.place; written = 0 }
+flat_written (Ok n) = record { number = 0; index = 0; place = 0; written = n }
+flat_written (Err x) = record { number = x.number; index = x.index; place = x.place; written = 0 }
 
 unfoldable pub flat_packet : Answer DataResult → PacketC
-flat_packet (accepted d) = record { number = 0; index = 0; place = 0; codec = d.codec; count = d.count }
-flat_packet (refused x) = record { number = x.number; index = x.index; place = x.place; codec = 0; count = 0 }
+flat_packet (Ok d) = record { number = 0; index = 0; place = 0; codec = d.codec; count = d.count }
+flat_packet (Err x) = record { number = x.number; index = x.index; place = x.place; codec = 0; count = 0 }
 
 unfoldable pub flat_datagram : Answer DatagramResult → DatagramC
-flat_datagram (accepted g) =
+flat_datagram (Ok g) =
     record {
       number = 0;
       index = 0;
@@ -51,15 +51,15 @@ flat_datagram (accepted g) =
       avl = g.header.avl;
       imei = g.header.imei;
     }
-flat_datagram (refused x) = record { number = x.number; index = x.index; place = x.place; codec = 0; count = 0; packet = 0; unused = 0; avl = 0; imei = 0 }
+flat_datagram (Err x) = record { number = x.number; index = x.index; place = x.place; codec = 0; count = 0; packet = 0; unused = 0; avl = 0; imei = 0 }
 
 unfoldable pub flat_login : Answer ℕ → LoginC
-flat_login (accepted imei) = record { number = 0; index = 0; place = 0; imei = imei }
-flat_login (refused x) = record { number = x.number; index = x.index; place = x.place; imei = 0 }
+flat_login (Ok imei) = record { number = 0; index = 0; place = 0; imei = imei }
+flat_login (Err x) = record { number = x.number; index = x.index; place = x.place; imei = 0 }
 
 unfoldable pub flat_command : Answer CommandFields → CommandC
-flat_command (accepted f) = record { number = 0; index = 0; place = 0; codec = f.codec; kind = f.kind; time = f.time; imei = f.imei; offset = f.offset; size = f.size }
-flat_command (refused x) = record { number = x.number; index = x.index; place = x.place; codec = 0; kind = 0; time = 0; imei = 0; offset = 0; size = 0 }
+flat_command (Ok f) = record { number = 0; index = 0; place = 0; codec = f.codec; kind = f.kind; time = f.time; imei = f.imei; offset = f.offset; size = f.size }
+flat_command (Err x) = record { number = x.number; index = x.index; place = x.place; codec = 0; kind = 0; time = 0; imei = 0; offset = 0; size = 0 }
 
 -- 1 a login, 2 a packet, else 0; what belongs to none of these is 0
 unfoldable pub item_number : Item → ℕ
@@ -114,7 +114,7 @@ flat_fed f =
     }
 
 unfoldable pub flat_record : Answer RecordFields → RecordC
-flat_record (accepted f) =
+flat_record (Ok f) =
     record {
       number = 0;
       index = 0;
@@ -131,7 +131,7 @@ flat_record (accepted f) =
       generation = f.generation;
       elements = f.elements;
     }
-flat_record (refused x) =
+flat_record (Err x) =
     record {
       number = x.number;
       index = x.index;
@@ -150,15 +150,15 @@ flat_record (refused x) =
     }
 
 unfoldable pub flat_value : Answer Value → ValueC
-flat_value (accepted v) = record { number = 0; index = 0; place = 0; id = v.id; kind = v.kind; offset = v.offset; size = v.size }
-flat_value (refused x) = record { number = x.number; index = x.index; place = x.place; id = 0; kind = 0; offset = 0; size = 0 }
+flat_value (Ok v) = record { number = 0; index = 0; place = 0; id = v.id; kind = v.kind; offset = v.offset; size = v.size }
+flat_value (Err x) = record { number = x.number; index = x.index; place = x.place; id = 0; kind = 0; offset = 0; size = 0 }
 
 -- with the number of elements passed, on a refusal too
 unfoldable pub flat_found : Answer Value → ℕ → FoundC
 flat_found found passed = record { value = flat_value found; passed = passed }
 
-unfoldable pub flat_known : Answer KnownResult → ℕ → KnownC
-flat_known (accepted k) passed =
+unfoldable pub flat_known : Answer Known → ℕ → KnownC
+flat_known (Ok k) passed =
     record {
       number = 0;
       index = 0;
@@ -170,10 +170,10 @@ flat_known (accepted k) passed =
       size = k.value.size;
       passed = passed;
     }
-flat_known (refused x) passed = record { number = x.number; index = x.index; place = x.place; older = false; id = 0; kind = 0; offset = 0; size = 0; passed = passed }
+flat_known (Err x) passed = record { number = x.number; index = x.index; place = x.place; older = false; id = 0; kind = 0; offset = 0; size = 0; passed = passed }
 
 unfoldable pub flat_line : Answer LineFields → LineC
-flat_line (accepted f) =
+flat_line (Ok f) =
     record {
       number = 0;
       index = 0;
@@ -185,9 +185,9 @@ flat_line (accepted f) =
       elements = f.elements;
       start = f.start;
     }
-flat_line (refused x) =
+flat_line (Err x) =
     record { number = x.number; index = x.index; place = x.place; timestamp = 0; longitude = pos 0; latitude = pos 0; speed = 0; elements = 0; start = 0 }
 
 unfoldable pub flat_element : Answer LineElement → LineElementC
-flat_element (accepted e) = record { number = 0; index = 0; place = 0; id = e.id; tag = e.tag; value = e.value; size = e.size; next = e.next }
-flat_element (refused x) = record { number = x.number; index = x.index; place = x.place; id = 0; tag = false; value = 0; size = 0; next = 0 }
+flat_element (Ok e) = record { number = 0; index = 0; place = 0; id = e.id; tag = e.tag; value = e.value; size = e.size; next = e.next }
+flat_element (Err x) = record { number = x.number; index = x.index; place = x.place; id = 0; tag = false; value = 0; size = 0; next = 0 }

@@ -1,9 +1,8 @@
 // The calls for C: flat answers. `number` is 0 where the input is accepted, else the refusal's number, with the record's index in `index` and the offending field's offset in `place`; all other fields are then 0.
 #![tactic(auto)]
 
-ghost use Rattle.std.specs.Prelude.{◌≡◌};
-ghost use Rattle.wire.specs.Answers.{accepted};
-ghost use Rattle.wire.specs.Buffers.{writing, leaving, written_as};
+ghost use Rattle.std.specs.Prelude.{◌≡◌, Ok};
+ghost use Rattle.wire.specs.Buffers.{writing, leaving};
 ghost use Rattle.packet.specs.DataPackets.{answer_packet, tcp_acknowledgement};
 ghost use Rattle.datagram.specs.Datagrams.{answer_datagram, udp_acknowledgement};
 ghost use Rattle.login.specs.Login.{read_login, login_answer};
@@ -16,23 +15,23 @@ ghost use Rattle.contents.specs.Contents.{contents_of_packet, contents_of_datagr
 ghost use Rattle.connection.specs.State.{started, gathered, wanted};
 ghost use Rattle.connection.specs.Feeding.{fed, fed_into, packet_in, fed_as, lent_as};
 ghost use Rattle.wire.specs.Limits.{limits_of};
-ghost use Rattle.lookup.specs.Answers.{record_as, value_as, answer_value, answer_known};
+ghost use Rattle.lookup.specs.Answers.{answer_value, answer_known};
 ghost use Rattle.line.specs.RecordLines.{line_of_packet, line_of_datagram, lines_of_packet, lines_of_datagram};
 ghost use Rattle.line.specs.LineReader.{wrong_at};
 ghost use Rattle.line.specs.LineElements.{element_of, element_at};
-ghost use Rattle.scan.specs.Answers.{answer_line, element_as, answer_element, leaving_element};
+ghost use Rattle.scan.specs.Answers.{answer_line, answer_element, leaving_element};
 
-use command::CommandAnswer;
-use connection::{Connection, Item, Lent};
-use datagram::DatagramAnswer;
-use login::LoginAnswer;
-use lookup::{CountedValue, KnownAnswer, RecordAnswer, ValueAnswer};
-use packet::PacketAnswer;
-use scan::{LineAnswer, LineElementAnswer};
-use wire::{LARGEST, Written};
+use avl::DataResult;
+use command::CommandFields;
+use connection::{Connection, Fed, Item, Lent, Started};
+use datagram::DatagramResult;
+use element::{RecordFields, Value};
+use lookup::{CountedKnown, CountedValue, Known, TcpPacket, UdpDatagram};
+use scan::{LineElement, LineFields};
+use wire::{LARGEST, Refusal};
 
 #[repr(C)]
-#[derive(Drop)]
+#[derive(Default, Drop)]
 pub struct WrittenC {
     pub number: usize,
     pub index: usize,
@@ -40,8 +39,28 @@ pub struct WrittenC {
     pub written: usize,
 }
 
+#[tactic(auto, unfolding(crate::specs::Flat::flat_written))]
+impl From<Result<usize, Refusal>> for WrittenC {
+    ghost from_gives = { λ a c. c ≡ flat_written a };
+
+    fn from(a: Result<usize, Refusal>) -> WrittenC {
+        match a {
+            Ok(written) => WrittenC {
+                written,
+                ..WrittenC::default()
+            },
+            Err(r) => WrittenC {
+                number: r.number,
+                index: r.index,
+                place: r.place,
+                ..WrittenC::default()
+            },
+        }
+    }
+}
+
 #[repr(C)]
-#[derive(Drop)]
+#[derive(Default, Drop)]
 pub struct PacketC {
     pub number: usize,
     pub index: usize,
@@ -50,8 +69,29 @@ pub struct PacketC {
     pub count: u8,
 }
 
+#[tactic(auto, unfolding(crate::specs::Flat::flat_packet))]
+impl From<Result<DataResult, Refusal>> for PacketC {
+    ghost from_gives = { λ a c. c ≡ flat_packet a };
+
+    fn from(a: Result<DataResult, Refusal>) -> PacketC {
+        match a {
+            Ok(d) => PacketC {
+                codec: d.codec,
+                count: d.count,
+                ..PacketC::default()
+            },
+            Err(r) => PacketC {
+                number: r.number,
+                index: r.index,
+                place: r.place,
+                ..PacketC::default()
+            },
+        }
+    }
+}
+
 #[repr(C)]
-#[derive(Drop)]
+#[derive(Default, Drop)]
 pub struct DatagramC {
     pub number: usize,
     pub index: usize,
@@ -64,8 +104,33 @@ pub struct DatagramC {
     pub imei: u64,
 }
 
+#[tactic(auto, unfolding(crate::specs::Flat::flat_datagram))]
+impl From<Result<DatagramResult, Refusal>> for DatagramC {
+    ghost from_gives = { λ a c. c ≡ flat_datagram a };
+
+    fn from(a: Result<DatagramResult, Refusal>) -> DatagramC {
+        match a {
+            Ok(DatagramResult { payload, header }) => DatagramC {
+                codec: payload.codec,
+                count: payload.count,
+                packet: header.packet,
+                unused: header.unused,
+                avl: header.avl,
+                imei: header.imei,
+                ..DatagramC::default()
+            },
+            Err(r) => DatagramC {
+                number: r.number,
+                index: r.index,
+                place: r.place,
+                ..DatagramC::default()
+            },
+        }
+    }
+}
+
 #[repr(C)]
-#[derive(Drop)]
+#[derive(Default, Drop)]
 pub struct LoginC {
     pub number: usize,
     pub index: usize,
@@ -73,8 +138,28 @@ pub struct LoginC {
     pub imei: u64,
 }
 
+#[tactic(auto, unfolding(crate::specs::Flat::flat_login))]
+impl From<Result<u64, Refusal>> for LoginC {
+    ghost from_gives = { λ a c. c ≡ flat_login a };
+
+    fn from(a: Result<u64, Refusal>) -> LoginC {
+        match a {
+            Ok(imei) => LoginC {
+                imei,
+                ..LoginC::default()
+            },
+            Err(r) => LoginC {
+                number: r.number,
+                index: r.index,
+                place: r.place,
+                ..LoginC::default()
+            },
+        }
+    }
+}
+
 #[repr(C)]
-#[derive(Drop)]
+#[derive(Default, Drop)]
 pub struct CommandC {
     pub number: usize,
     pub index: usize,
@@ -87,22 +172,28 @@ pub struct CommandC {
     pub size: usize,
 }
 
-fn flat_written(w: Written) -> WrittenC
-    ensures { result ≡ flat_written (written_as w) }
-{
-    match w {
-        Written::Bytes(n) => WrittenC {
-            number: 0,
-            index: 0,
-            place: 0,
-            written: n,
-        },
-        Written::Refused(r) => WrittenC {
-            number: r.number,
-            index: r.index,
-            place: r.place,
-            written: 0,
-        },
+#[tactic(auto, unfolding(crate::specs::Flat::flat_command))]
+impl From<Result<CommandFields, Refusal>> for CommandC {
+    ghost from_gives = { λ a c. c ≡ flat_command a };
+
+    fn from(a: Result<CommandFields, Refusal>) -> CommandC {
+        match a {
+            Ok(f) => CommandC {
+                codec: f.codec,
+                kind: f.kind,
+                time: f.time,
+                imei: f.imei,
+                offset: f.offset,
+                size: f.size,
+                ..CommandC::default()
+            },
+            Err(r) => CommandC {
+                number: r.number,
+                index: r.index,
+                place: r.place,
+                ..CommandC::default()
+            },
+        }
     }
 }
 
@@ -119,22 +210,7 @@ pub extern "C" fn brundilope_abi_1() -> usize
 pub extern "C" fn brundilope_read_packet(family: usize, p: &[u8]) -> PacketC
     ensures { result ≡ flat_packet (answer_packet (limits_of family) p.now) }
 {
-    match packet::read_packet(family, p) {
-        PacketAnswer::Accepted { codec, count } => PacketC {
-            number: 0,
-            index: 0,
-            place: 0,
-            codec,
-            count,
-        },
-        PacketAnswer::Refused(r) => PacketC {
-            number: r.number,
-            index: r.index,
-            place: r.place,
-            codec: 0,
-            count: 0,
-        },
-    }
+    packet::read_packet(family, p).into()
 }
 
 #[unsafe(no_mangle)]
@@ -142,41 +218,14 @@ pub extern "C" fn brundilope_acknowledge_packet(family: usize, p: &[u8], out: &m
     ensures answer { result ≡ flat_written (writing (tcp_acknowledgement (limits_of family) p.now) out.old) }
     ensures buffer { out.new ≡ leaving (tcp_acknowledgement (limits_of family) p.now) out.old }
 {
-    flat_written(packet::acknowledge_packet(family, p, out))
+    packet::acknowledge_packet(family, p, out).into()
 }
 
 #[unsafe(no_mangle)]
 pub extern "C" fn brundilope_read_datagram(family: usize, p: &[u8]) -> DatagramC
     ensures { result ≡ flat_datagram (answer_datagram (limits_of family) p.now) }
 {
-    match datagram::read_datagram(family, p) {
-        DatagramAnswer::Accepted {
-            codec,
-            count,
-            header,
-        } => DatagramC {
-            number: 0,
-            index: 0,
-            place: 0,
-            codec,
-            count,
-            packet: header.packet,
-            unused: header.unused,
-            avl: header.avl,
-            imei: header.imei,
-        },
-        DatagramAnswer::Refused(r) => DatagramC {
-            number: r.number,
-            index: r.index,
-            place: r.place,
-            codec: 0,
-            count: 0,
-            packet: 0,
-            unused: 0,
-            avl: 0,
-            imei: 0,
-        },
-    }
+    datagram::read_datagram(family, p).into()
 }
 
 #[unsafe(no_mangle)]
@@ -188,65 +237,29 @@ pub extern "C" fn brundilope_acknowledge_datagram(
     ensures answer { result ≡ flat_written (writing (udp_acknowledgement (limits_of family) p.now) out.old) }
     ensures buffer { out.new ≡ leaving (udp_acknowledgement (limits_of family) p.now) out.old }
 {
-    flat_written(datagram::acknowledge_datagram(family, p, out))
+    datagram::acknowledge_datagram(family, p, out).into()
 }
 
 #[unsafe(no_mangle)]
 pub extern "C" fn brundilope_read_login(p: &[u8]) -> LoginC
     ensures { result ≡ flat_login (read_login p.now) }
 {
-    match login::read_login(p) {
-        LoginAnswer::Imei(imei) => LoginC {
-            number: 0,
-            index: 0,
-            place: 0,
-            imei,
-        },
-        LoginAnswer::Refused(r) => LoginC {
-            number: r.number,
-            index: r.index,
-            place: r.place,
-            imei: 0,
-        },
-    }
+    login::read_login(p).into()
 }
 
 #[unsafe(no_mangle)]
 pub extern "C" fn brundilope_answer_login(p: &[u8], known: bool, out: &mut [u8]) -> WrittenC
-    ensures answer { result ≡ flat_written (writing (accepted (login_answer known p.now)) out.old) }
-    ensures buffer { out.new ≡ leaving (accepted (login_answer known p.now)) out.old }
+    ensures answer { result ≡ flat_written (writing (Ok (login_answer known p.now)) out.old) }
+    ensures buffer { out.new ≡ leaving (Ok (login_answer known p.now)) out.old }
 {
-    flat_written(login::answer_login(p, known, out))
+    login::answer_login(p, known, out).into()
 }
 
 #[unsafe(no_mangle)]
 pub extern "C" fn brundilope_read_command(family: usize, p: &[u8]) -> CommandC
     ensures { result ≡ flat_command (answer_command (limits_of family) p.now) }
 {
-    match command::read_command(family, p) {
-        CommandAnswer::Accepted(f) => CommandC {
-            number: 0,
-            index: 0,
-            place: 0,
-            codec: f.codec,
-            kind: f.kind,
-            time: f.time,
-            imei: f.imei,
-            offset: f.offset,
-            size: f.size,
-        },
-        CommandAnswer::Refused(r) => CommandC {
-            number: r.number,
-            index: r.index,
-            place: r.place,
-            codec: 0,
-            kind: 0,
-            time: 0,
-            imei: 0,
-            offset: 0,
-            size: 0,
-        },
-    }
+    command::read_command(family, p).into()
 }
 
 #[unsafe(no_mangle)]
@@ -262,13 +275,13 @@ pub extern "C" fn brundilope_write_command(
     ensures answer { result ≡ flat_written (writing (command_bytes (limits_of family) codec kind imei.now time text.now) out.old) }
     ensures buffer { out.new ≡ leaving (command_bytes (limits_of family) codec kind imei.now time text.now) out.old }
 {
-    flat_written(command::write_command(family, codec, kind, imei, time, text, out))
+    command::write_command(family, codec, kind, imei, time, text, out).into()
 }
 
 // ---- looking up
 
 #[repr(C)]
-#[derive(Drop)]
+#[derive(Default, Drop)]
 pub struct RecordC {
     pub number: usize,
     pub index: usize,
@@ -286,8 +299,38 @@ pub struct RecordC {
     pub elements: usize,
 }
 
+#[tactic(auto, unfolding(crate::specs::Flat::flat_record))]
+impl From<Result<RecordFields, Refusal>> for RecordC {
+    ghost from_gives = { λ a c. c ≡ flat_record a };
+
+    fn from(a: Result<RecordFields, Refusal>) -> RecordC {
+        match a {
+            Ok(f) => RecordC {
+                timestamp: f.timestamp,
+                priority: f.priority,
+                longitude: f.longitude,
+                latitude: f.latitude,
+                altitude: f.altitude,
+                angle: f.angle,
+                satellites: f.satellites,
+                speed: f.speed,
+                event: f.event,
+                generation: f.generation,
+                elements: f.elements,
+                ..RecordC::default()
+            },
+            Err(r) => RecordC {
+                number: r.number,
+                index: r.index,
+                place: r.place,
+                ..RecordC::default()
+            },
+        }
+    }
+}
+
 #[repr(C)]
-#[derive(Drop)]
+#[derive(Default, Drop)]
 pub struct ValueC {
     pub number: usize,
     pub index: usize,
@@ -298,6 +341,29 @@ pub struct ValueC {
     pub size: usize,
 }
 
+#[tactic(auto, unfolding(crate::specs::Flat::flat_value))]
+impl From<Result<Value, Refusal>> for ValueC {
+    ghost from_gives = { λ a c. c ≡ flat_value a };
+
+    fn from(a: Result<Value, Refusal>) -> ValueC {
+        match a {
+            Ok(v) => ValueC {
+                id: v.id,
+                kind: v.kind,
+                offset: v.offset,
+                size: v.size,
+                ..ValueC::default()
+            },
+            Err(r) => ValueC {
+                number: r.number,
+                index: r.index,
+                place: r.place,
+                ..ValueC::default()
+            },
+        }
+    }
+}
+
 #[repr(C)]
 #[derive(Drop)]
 pub struct FoundC {
@@ -305,8 +371,20 @@ pub struct FoundC {
     pub passed: usize,
 }
 
+#[tactic(auto, unfolding(crate::specs::Flat::flat_found))]
+impl From<CountedValue> for FoundC {
+    ghost from_gives = { λ f c. c ≡ flat_found f.answer f.passed };
+
+    fn from(f: CountedValue) -> FoundC {
+        FoundC {
+            value: f.answer.into(),
+            passed: f.passed,
+        }
+    }
+}
+
 #[repr(C)]
-#[derive(Drop)]
+#[derive(Default, Drop)]
 pub struct KnownC {
     pub number: usize,
     pub index: usize,
@@ -319,77 +397,29 @@ pub struct KnownC {
     pub passed: usize,
 }
 
-fn flat_record(a: RecordAnswer) -> RecordC
-    ensures { result ≡ flat_record (record_as a) }
-{
-    match a {
-        RecordAnswer::Fields(f) => RecordC {
-            number: 0,
-            index: 0,
-            place: 0,
-            timestamp: f.timestamp,
-            priority: f.priority,
-            longitude: f.longitude,
-            latitude: f.latitude,
-            altitude: f.altitude,
-            angle: f.angle,
-            satellites: f.satellites,
-            speed: f.speed,
-            event: f.event,
-            generation: f.generation,
-            elements: f.elements,
-        },
-        RecordAnswer::Refused(r) => RecordC {
-            number: r.number,
-            index: r.index,
-            place: r.place,
-            timestamp: 0,
-            priority: 0,
-            longitude: 0,
-            latitude: 0,
-            altitude: 0,
-            angle: 0,
-            satellites: 0,
-            speed: 0,
-            event: 0,
-            generation: 0,
-            elements: 0,
-        },
-    }
-}
+#[tactic(auto, unfolding(crate::specs::Flat::flat_known))]
+impl From<CountedKnown> for KnownC {
+    ghost from_gives = { λ k c. c ≡ flat_known k.answer k.passed };
 
-fn flat_value(a: ValueAnswer) -> ValueC
-    ensures { result ≡ flat_value (value_as a) }
-{
-    match a {
-        ValueAnswer::Found(v) => ValueC {
-            number: 0,
-            index: 0,
-            place: 0,
-            id: v.id,
-            kind: v.kind,
-            offset: v.offset,
-            size: v.size,
-        },
-        ValueAnswer::Refused(r) => ValueC {
-            number: r.number,
-            index: r.index,
-            place: r.place,
-            id: 0,
-            kind: 0,
-            offset: 0,
-            size: 0,
-        },
-    }
-}
-
-fn flat_found(found: CountedValue) -> FoundC
-    ensures { result ≡ flat_found (value_as found.answer) found.passed }
-{
-    let answer = found.answer;
-    FoundC {
-        value: flat_value(answer),
-        passed: found.passed,
+    fn from(k: CountedKnown) -> KnownC {
+        match k.answer {
+            Ok(Known { older, value }) => KnownC {
+                older,
+                id: value.id,
+                kind: value.kind,
+                offset: value.offset,
+                size: value.size,
+                passed: k.passed,
+                ..KnownC::default()
+            },
+            Err(r) => KnownC {
+                number: r.number,
+                index: r.index,
+                place: r.place,
+                passed: k.passed,
+                ..KnownC::default()
+            },
+        }
     }
 }
 
@@ -397,21 +427,21 @@ fn flat_found(found: CountedValue) -> FoundC
 pub extern "C" fn brundilope_record_in_packet(family: usize, p: &[u8], n: usize) -> RecordC
     ensures { result ≡ flat_record (record_by_number (tcp_source (limits_of family) p.now) n) }
 {
-    flat_record(lookup::record_in_packet(family, p, n))
+    lookup::record_in::<TcpPacket>(family, p, n).into()
 }
 
 #[unsafe(no_mangle)]
 pub extern "C" fn brundilope_record_in_datagram(family: usize, p: &[u8], n: usize) -> RecordC
     ensures { result ≡ flat_record (record_by_number (udp_source (limits_of family) p.now) n) }
 {
-    flat_record(lookup::record_in_datagram(family, p, n))
+    lookup::record_in::<UdpDatagram>(family, p, n).into()
 }
 
 #[unsafe(no_mangle)]
 pub extern "C" fn brundilope_value_in_packet(family: usize, p: &[u8], n: usize, k: usize) -> ValueC
     ensures { result ≡ flat_value (answer_value (value_by_number (tcp_source (limits_of family) p.now) n k)) }
 {
-    flat_value(lookup::value_in_packet(family, p, n, k))
+    lookup::value_in::<TcpPacket>(family, p, n, k).into()
 }
 
 #[unsafe(no_mangle)]
@@ -423,21 +453,21 @@ pub extern "C" fn brundilope_value_in_datagram(
 ) -> ValueC
     ensures { result ≡ flat_value (answer_value (value_by_number (udp_source (limits_of family) p.now) n k)) }
 {
-    flat_value(lookup::value_in_datagram(family, p, n, k))
+    lookup::value_in::<UdpDatagram>(family, p, n, k).into()
 }
 
 #[unsafe(no_mangle)]
 pub extern "C" fn brundilope_id_in_packet(family: usize, p: &[u8], n: usize, id: u16) -> FoundC
     ensures { result ≡ flat_found (answer_value (value_by_id (tcp_source (limits_of family) p.now) n id)) (passed_by_id (tcp_source (limits_of family) p.now) n id) }
 {
-    flat_found(lookup::id_in_packet(family, p, n, id))
+    lookup::id_in::<TcpPacket>(family, p, n, id).into()
 }
 
 #[unsafe(no_mangle)]
 pub extern "C" fn brundilope_id_in_datagram(family: usize, p: &[u8], n: usize, id: u16) -> FoundC
     ensures { result ≡ flat_found (answer_value (value_by_id (udp_source (limits_of family) p.now) n id)) (passed_by_id (udp_source (limits_of family) p.now) n id) }
 {
-    flat_found(lookup::id_in_datagram(family, p, n, id))
+    lookup::id_in::<UdpDatagram>(family, p, n, id).into()
 }
 
 #[unsafe(no_mangle)]
@@ -449,32 +479,7 @@ pub extern "C" fn brundilope_last_known(
 ) -> KnownC
     ensures { result ≡ flat_known (answer_known (last_known id (tcp_source (limits_of family) newer.now) (tcp_source (limits_of family) older.now))) (passed_by_last id (tcp_source (limits_of family) newer.now) (tcp_source (limits_of family) older.now)) }
 {
-    let known = lookup::last_known(family, newer, older, id);
-    let answer = known.answer;
-    match answer {
-        KnownAnswer::Found { older: past, value } => KnownC {
-            number: 0,
-            index: 0,
-            place: 0,
-            older: past,
-            id: value.id,
-            kind: value.kind,
-            offset: value.offset,
-            size: value.size,
-            passed: known.passed,
-        },
-        KnownAnswer::Refused(r) => KnownC {
-            number: r.number,
-            index: r.index,
-            place: r.place,
-            older: false,
-            id: 0,
-            kind: 0,
-            offset: 0,
-            size: 0,
-            passed: known.passed,
-        },
-    }
+    lookup::last_known(family, newer, older, id).into()
 }
 
 // ---- whole packets: the lent buffer is of words, and words are counted
@@ -488,7 +493,7 @@ pub extern "C" fn brundilope_contents_of_packet(
     ensures answer { result ≡ flat_written (writing (contents_of_packet (limits_of family) p.now) out.old) }
     ensures buffer { out.new ≡ leaving (contents_of_packet (limits_of family) p.now) out.old }
 {
-    flat_written(contents::contents_of_packet(family, p, out))
+    contents::contents_of_packet(family, p, out).into()
 }
 
 #[unsafe(no_mangle)]
@@ -500,7 +505,7 @@ pub extern "C" fn brundilope_contents_of_datagram(
     ensures answer { result ≡ flat_written (writing (contents_of_datagram (limits_of family) p.now) out.old) }
     ensures buffer { out.new ≡ leaving (contents_of_datagram (limits_of family) p.now) out.old }
 {
-    flat_written(contents::contents_of_datagram(family, p, out))
+    contents::contents_of_datagram(family, p, out).into()
 }
 
 // ---- TLV forms
@@ -510,7 +515,7 @@ pub extern "C" fn brundilope_form_of_packet(family: usize, p: &[u8], out: &mut [
     ensures answer { result ≡ flat_written (writing (form_of_packet (limits_of family) p.now) out.old) }
     ensures buffer { out.new ≡ leaving (form_of_packet (limits_of family) p.now) out.old }
 {
-    flat_written(form::form_of_packet(family, p, out))
+    form::form_of_packet(family, p, out).into()
 }
 
 #[unsafe(no_mangle)]
@@ -518,7 +523,7 @@ pub extern "C" fn brundilope_form_of_datagram(family: usize, p: &[u8], out: &mut
     ensures answer { result ≡ flat_written (writing (form_of_datagram (limits_of family) p.now) out.old) }
     ensures buffer { out.new ≡ leaving (form_of_datagram (limits_of family) p.now) out.old }
 {
-    flat_written(form::form_of_datagram(family, p, out))
+    form::form_of_datagram(family, p, out).into()
 }
 
 #[unsafe(no_mangle)]
@@ -526,7 +531,7 @@ pub extern "C" fn brundilope_packet_of_form(family: usize, f: &[u8], out: &mut [
     ensures answer { result ≡ flat_written (writing (packet_of_form (limits_of family) f.now) out.old) }
     ensures buffer { out.new ≡ leaving (packet_of_form (limits_of family) f.now) out.old }
 {
-    flat_written(rebuild::packet_of_form(family, f, out))
+    rebuild::packet_of_form(family, f, out).into()
 }
 
 // ---- a connection
@@ -546,9 +551,36 @@ pub struct FedC {
     pub state: Connection,
 }
 
+#[tactic(auto, unfolding(crate::specs::Flat::flat_lent, crate::specs::Flat::flat_fed))]
+impl From<Fed> for FedC {
+    ghost from_gives = { λ f c. c ≡ flat_fed f };
+
+    fn from(f: Fed) -> FedC {
+        let packet = f.packet;
+        let state = f.state;
+        let flat = LentC::from(Lent {
+            phase: 0,
+            fill: 0,
+            used: f.used,
+            item: f.item,
+        });
+        FedC {
+            number: flat.number,
+            index: flat.index,
+            place: flat.place,
+            used: flat.used,
+            item: flat.item,
+            imei: flat.imei,
+            size: flat.size,
+            packet,
+            state,
+        }
+    }
+}
+
 // The same of a lent state, but for the bytes.
 #[repr(C)]
-#[derive(Drop)]
+#[derive(Default, Drop)]
 pub struct LentC {
     pub number: usize,
     pub index: usize,
@@ -561,6 +593,39 @@ pub struct LentC {
     pub phase: u8,
 }
 
+#[tactic(auto, unfolding(crate::specs::Flat::flat_lent, crate::specs::Flat::item_number, crate::specs::Flat::item_imei, crate::specs::Flat::item_size, connection::specs::Feeding::item_refusal))]
+impl From<Lent> for LentC {
+    ghost from_gives = { λ l c. c ≡ flat_lent l };
+
+    fn from(l: Lent) -> LentC {
+        let flat = LentC {
+            used: l.used,
+            fill: l.fill,
+            phase: l.phase,
+            ..LentC::default()
+        };
+        match l.item {
+            Item::More => flat,
+            Item::Login(imei) => LentC {
+                item: 1,
+                imei,
+                ..flat
+            },
+            Item::Packet(size) => LentC {
+                item: 2,
+                size,
+                ..flat
+            },
+            Item::Refused(r) => LentC {
+                number: r.number,
+                index: r.index,
+                place: r.place,
+                ..flat
+            },
+        }
+    }
+}
+
 // What a start gives, with the state by value.
 #[repr(C)]
 #[derive(Drop)]
@@ -571,19 +636,26 @@ pub struct StartedC {
     pub state: Connection,
 }
 
+#[tactic(auto, unfolding(crate::specs::Flat::flat_started))]
+impl From<Started> for StartedC {
+    ghost from_gives = { λ s c. c ≡ flat_started s };
+
+    fn from(s: Started) -> StartedC {
+        let refusal = s.refusal;
+        StartedC {
+            number: refusal.number,
+            index: refusal.index,
+            place: refusal.place,
+            state: s.state,
+        }
+    }
+}
+
 #[unsafe(no_mangle)]
 pub extern "C" fn brundilope_start(family: usize) -> StartedC
     ensures { result ≡ flat_started (started 1280 family) }
 {
-    let started = Connection::start(family);
-    let refusal = started.refusal;
-    let state = started.state;
-    StartedC {
-        number: refusal.number,
-        index: refusal.index,
-        place: refusal.place,
-        state,
-    }
+    Connection::start(family).into()
 }
 
 #[unsafe(no_mangle)]
@@ -591,40 +663,6 @@ pub extern "C" fn brundilope_reset(state: Connection) -> Connection
     ensures { result ≡ (started 1280 state.family).state }
 {
     state.reset()
-}
-
-fn flat_lent(l: Lent) -> LentC
-    ensures { result ≡ flat_lent l }
-{
-    let item = l.item;
-    let mut r = LentC {
-        number: 0,
-        index: 0,
-        place: 0,
-        used: l.used,
-        item: 0,
-        imei: 0,
-        size: 0,
-        fill: l.fill,
-        phase: l.phase,
-    };
-    match item {
-        Item::More => {}
-        Item::Login(imei) => {
-            r.item = 1;
-            r.imei = imei;
-        }
-        Item::Packet(size) => {
-            r.item = 2;
-            r.size = size;
-        }
-        Item::Refused(x) => {
-            r.number = x.number;
-            r.index = x.index;
-            r.place = x.place;
-        }
-    }
-    r
 }
 
 #[unsafe(no_mangle)]
@@ -638,36 +676,16 @@ pub extern "C" fn brundilope_feed_lent(
 ) -> LentC
     ensures answer { result ≡ flat_lent (lent_as (fed_into (limits_of family) 1280 (record { held = held.old; fill = fill; phase = phase }) bytes.now packet.old)) }
     ensures state { held.new ≡ (fed_into (limits_of family) 1280 (record { held = held.old; fill = fill; phase = phase }) bytes.now packet.old).state.held }
-    ensures buffer { packet.new ≡ leaving (accepted (packet_in (fed_into (limits_of family) 1280 (record { held = held.old; fill = fill; phase = phase }) bytes.now packet.old).told)) packet.old }
+    ensures buffer { packet.new ≡ leaving (Ok (packet_in (fed_into (limits_of family) 1280 (record { held = held.old; fill = fill; phase = phase }) bytes.now packet.old).told)) packet.old }
 {
-    flat_lent(connection::feed_lent(family, phase, fill, held, bytes, packet))
+    connection::feed_lent(family, phase, fill, held, bytes, packet).into()
 }
 
 #[unsafe(no_mangle)]
 pub extern "C" fn brundilope_feed(state: Connection, bytes: &[u8]) -> FedC
     ensures { result ≡ flat_fed (fed_as 1280 state.family (fed (limits_of state.family) 1280 (gathered state) bytes.now)) }
 {
-    let fed = state.feed(bytes);
-    let item = fed.item;
-    let packet = fed.packet;
-    let state = fed.state;
-    let flat = flat_lent(Lent {
-        phase: 0,
-        fill: 0,
-        used: fed.used,
-        item,
-    });
-    FedC {
-        number: flat.number,
-        index: flat.index,
-        place: flat.place,
-        used: flat.used,
-        item: flat.item,
-        imei: flat.imei,
-        size: flat.size,
-        packet,
-        state,
-    }
+    state.feed(bytes).into()
 }
 
 #[unsafe(no_mangle)]
@@ -680,7 +698,7 @@ pub extern "C" fn brundilope_wanted(family: usize, phase: u8, fill: usize, held:
 // ---- lines for the billing desk
 
 #[repr(C)]
-#[derive(Drop)]
+#[derive(Default, Drop)]
 pub struct LineC {
     pub number: usize,
     pub index: usize,
@@ -693,8 +711,33 @@ pub struct LineC {
     pub start: usize,
 }
 
+#[tactic(auto, unfolding(crate::specs::Flat::flat_line))]
+impl From<Result<LineFields, Refusal>> for LineC {
+    ghost from_gives = { λ a c. c ≡ flat_line a };
+
+    fn from(a: Result<LineFields, Refusal>) -> LineC {
+        match a {
+            Ok(f) => LineC {
+                timestamp: f.timestamp,
+                longitude: f.longitude,
+                latitude: f.latitude,
+                speed: f.speed,
+                elements: f.elements,
+                start: f.start,
+                ..LineC::default()
+            },
+            Err(r) => LineC {
+                number: r.number,
+                index: r.index,
+                place: r.place,
+                ..LineC::default()
+            },
+        }
+    }
+}
+
 #[repr(C)]
-#[derive(Drop)]
+#[derive(Default, Drop)]
 pub struct LineElementC {
     pub number: usize,
     pub index: usize,
@@ -704,6 +747,30 @@ pub struct LineElementC {
     pub value: u64,
     pub size: usize,
     pub next: usize,
+}
+
+#[tactic(auto, unfolding(crate::specs::Flat::flat_element))]
+impl From<Result<LineElement, Refusal>> for LineElementC {
+    ghost from_gives = { λ a c. c ≡ flat_element a };
+
+    fn from(a: Result<LineElement, Refusal>) -> LineElementC {
+        match a {
+            Ok(e) => LineElementC {
+                id: e.id,
+                tag: e.tag,
+                value: e.value,
+                size: e.size,
+                next: e.next,
+                ..LineElementC::default()
+            },
+            Err(r) => LineElementC {
+                number: r.number,
+                index: r.index,
+                place: r.place,
+                ..LineElementC::default()
+            },
+        }
+    }
 }
 
 #[unsafe(no_mangle)]
@@ -716,7 +783,7 @@ pub extern "C" fn brundilope_line_of_packet(
     ensures answer { result ≡ flat_written (writing (line_of_packet (limits_of family) p.now n) out.old) }
     ensures buffer { out.new ≡ leaving (line_of_packet (limits_of family) p.now n) out.old }
 {
-    flat_written(print::line_of_packet(family, p, n, out))
+    print::line_of_packet(family, p, n, out).into()
 }
 
 #[unsafe(no_mangle)]
@@ -729,7 +796,7 @@ pub extern "C" fn brundilope_line_of_datagram(
     ensures answer { result ≡ flat_written (writing (line_of_datagram (limits_of family) p.now n) out.old) }
     ensures buffer { out.new ≡ leaving (line_of_datagram (limits_of family) p.now n) out.old }
 {
-    flat_written(print::line_of_datagram(family, p, n, out))
+    print::line_of_datagram(family, p, n, out).into()
 }
 
 #[unsafe(no_mangle)]
@@ -737,7 +804,7 @@ pub extern "C" fn brundilope_lines_of_packet(family: usize, p: &[u8], out: &mut 
     ensures answer { result ≡ flat_written (writing (lines_of_packet (limits_of family) p.now) out.old) }
     ensures buffer { out.new ≡ leaving (lines_of_packet (limits_of family) p.now) out.old }
 {
-    flat_written(print::lines_of_packet(family, p, out))
+    print::lines_of_packet(family, p, out).into()
 }
 
 #[unsafe(no_mangle)]
@@ -745,64 +812,14 @@ pub extern "C" fn brundilope_lines_of_datagram(family: usize, p: &[u8], out: &mu
     ensures answer { result ≡ flat_written (writing (lines_of_datagram (limits_of family) p.now) out.old) }
     ensures buffer { out.new ≡ leaving (lines_of_datagram (limits_of family) p.now) out.old }
 {
-    flat_written(print::lines_of_datagram(family, p, out))
+    print::lines_of_datagram(family, p, out).into()
 }
 
 #[unsafe(no_mangle)]
 pub extern "C" fn brundilope_read_line(s: &[u8]) -> LineC
     ensures { result ≡ flat_line (answer_line s.now) }
 {
-    match scan::read_line(s) {
-        LineAnswer::Fields(f) => LineC {
-            number: 0,
-            index: 0,
-            place: 0,
-            timestamp: f.timestamp,
-            longitude: f.longitude,
-            latitude: f.latitude,
-            speed: f.speed,
-            elements: f.elements,
-            start: f.start,
-        },
-        LineAnswer::Refused(r) => LineC {
-            number: r.number,
-            index: r.index,
-            place: r.place,
-            timestamp: 0,
-            longitude: 0,
-            latitude: 0,
-            speed: 0,
-            elements: 0,
-            start: 0,
-        },
-    }
-}
-
-fn flat_element(a: LineElementAnswer) -> LineElementC
-    ensures { result ≡ flat_element (element_as a) }
-{
-    match a {
-        LineElementAnswer::Found(e) => LineElementC {
-            number: 0,
-            index: 0,
-            place: 0,
-            id: e.id,
-            tag: e.tag,
-            value: e.value,
-            size: e.size,
-            next: e.next,
-        },
-        LineElementAnswer::Refused(r) => LineElementC {
-            number: r.number,
-            index: r.index,
-            place: r.place,
-            id: 0,
-            tag: false,
-            value: 0,
-            size: 0,
-            next: 0,
-        },
-    }
+    scan::read_line(s).into()
 }
 
 #[unsafe(no_mangle)]
@@ -810,7 +827,7 @@ pub extern "C" fn brundilope_element_in_line(s: &[u8], k: usize, out: &mut [u8])
     ensures answer { result ≡ flat_element (answer_element (element_of s.now k) out.old) }
     ensures buffer { out.new ≡ leaving_element (element_of s.now k) out.old }
 {
-    flat_element(scan::element_in_line(s, k, out))
+    scan::element_in_line(s, k, out).into()
 }
 
 #[unsafe(no_mangle)]
@@ -818,7 +835,7 @@ pub extern "C" fn brundilope_element_at(s: &[u8], at: usize, out: &mut [u8]) -> 
     ensures answer { result ≡ flat_element (answer_element (element_at s.now at) out.old) }
     ensures buffer { out.new ≡ leaving_element (element_at s.now at) out.old }
 {
-    flat_element(scan::element_at(s, at, out))
+    scan::element_at(s, at, out).into()
 }
 
 #[unsafe(no_mangle)]

@@ -1,4 +1,5 @@
 -- The claims on connections, for every room and limits of a family that is known, where the largest packet and a login fit.
+use Rattle.std.specs.Prelude.{Err, Ok}
 use Prim.Native.Nat.{ℕ, zero, suc, ◌-◌, ◌^◌, ◌≤◌, ◌<◌}
 use native.Mathlib.Omega.{arith}
 use mathlib.Core.Path.{◌≡◌, refl, sym, ap, ap₂, ◌∙◌, subst}
@@ -12,10 +13,9 @@ use borrow.Author.Tests.{leb-true, eq-eqb, eqb-true}
 use Rattle.wire.specs.declared.Limits.{Limits}
 use Rattle.wire.specs.Limits.{largest_of_all, limits_of, is_known}
 use Rattle.wire.proofs.LimitLaws.{limits-most}
-use Rattle.wire.specs.Numbers.{Bytes, digits, be, pick}
+use Rattle.wire.specs.Numbers.{Bytes, digits, be, pick, number_at}
 use Rattle.wire.specs.Sequences.{joined, All}
-use Rattle.wire.specs.Answers.{Answer, accepted, refused, refusal, check_at, told, is_accepted, on_accepted}
-use Rattle.wire.specs.Numbers.{number_at}
+use Rattle.wire.specs.Answers.{Answer, refusal, check_at, told, is_accepted, on_accepted}
 use Rattle.wire.specs.Reading.{◌>>=◌, ◌>>◌, here, number, span, and_then, require}
 use Rattle.wire.specs.Imei.{ascii_digit, imei_text, read_imei}
 use Rattle.wire.proofs.Widths.{bytes-append, bytes_take, bytes-be, digits-small}
@@ -205,8 +205,8 @@ module _ (limits : Limits) (room : ℕ) (known : 1 ≤ limits.largest) (small : 
   given-kept c e = go (opened limits room c) refl e
     where
       go : (r : Answer (List ℕ)) → opened limits room c ≡ r → pick (is_accepted r) true (is_closed room c) ≡ true → (st : State) × (c ≡ kept room st) × Sound limits st
-      go (accepted h) q e = let k = open_kept limits room known small large c q in (waiting (phase_of c.phase) h, k.0, k.1)
-      go (refused r) q e = (closed, closed_is c e, tt)
+      go (Ok h) q e = let k = open_kept limits room known small large c q in (waiting (phase_of c.phase) h, k.0, k.1)
+      go (Err r) q e = (closed, closed_is c e, tt)
 
   kept-given : (st : State) → Sound limits st → is_given limits room (kept room st) ≡ true
   unfolding is_given is_accepted is_closed kept padded
@@ -311,12 +311,12 @@ module _ (limits : Limits) (room : ℕ) (known : 1 ≤ limits.largest) (small : 
 
   -- ---- 19
 
-  open-given : (c : Gathered) {h : List ℕ} → opened limits room c ≡ accepted h → is_given limits room c ≡ true
+  open-given : (c : Gathered) {h : List ℕ} → opened limits room c ≡ Ok h → is_given limits room c ≡ true
   unfolding is_given is_accepted
   open-given c e = simp e
 
   -- an open connection is not left as it was with a refusal
-  open-not : (c : Gathered) (s : List ℕ) {h : List ℕ} → opened limits room c ≡ accepted h → fed limits room c s ≡ record { state = c; used = 0; told = settled (refusing (refusal 19)) } → ⊥
+  open-not : (c : Gathered) (s : List ℕ) {h : List ℕ} → opened limits room c ≡ Ok h → fed limits room c s ≡ record { state = c; used = 0; told = settled (refusing (refusal 19)) } → ⊥
   unfolding outcome next
   open-not c s {h} e k =
       let p = phase_of c.phase in
@@ -350,22 +350,22 @@ module _ (limits : Limits) (room : ℕ) (known : 1 ≤ limits.largest) (small : 
   login-meets s b = go (read_login s) refl
     where
       go : (r : Answer ℕ) → read_login s ≡ r → Meets limits (item_of login r)
-      go (accepted imei) e = ((login-exact s imei b).0 e).range
-      go (refused x) e = tt
+      go (Ok imei) e = ((login-exact s imei b).0 e).range
+      go (Err x) e = tt
 
   packet-meets : (p : List ℕ) → Bytes p → Meets limits (judged limits for_packet p)
   unfolding judged item_of judged_packet on_accepted
   packet-meets p b = go (is_accepted (layout_of (get_or p 8 0)))
     where
-      as-command : (r : Answer Command) → read_command limits p ≡ r → Meets limits (item_of packet (on_accepted r (λ c. accepted p)))
-      as-command (accepted c) e = is_command c ((command-exact limits p c b).0 e)
-      as-command (refused x) e = tt
+      as-command : (r : Answer Command) → read_command limits p ≡ r → Meets limits (item_of packet (on_accepted r (λ c. Ok p)))
+      as-command (Ok c) e = is_command c ((command-exact limits p c b).0 e)
+      as-command (Err x) e = tt
 
-      as-data : (r : Answer AvlData) → read_packet limits p ≡ r → Meets limits (item_of packet (on_accepted r (λ a. accepted p)))
-      as-data (accepted a) e = is_data a ((packet-exact limits p a b).0 e)
-      as-data (refused x) e = tt
+      as-data : (r : Answer AvlData) → read_packet limits p ≡ r → Meets limits (item_of packet (on_accepted r (λ a. Ok p)))
+      as-data (Ok a) e = is_data a ((packet-exact limits p a b).0 e)
+      as-data (Err x) e = tt
 
-      go : (row : Bool) → Meets limits (item_of packet (pick row (on_accepted (read_command limits p) (λ c. accepted p)) (on_accepted (read_packet limits p) (λ a. accepted p))))
+      go : (row : Bool) → Meets limits (item_of packet (pick row (on_accepted (read_command limits p) (λ c. Ok p)) (on_accepted (read_packet limits p) (λ a. Ok p))))
       go true = as-command (read_command limits p) refl
       go false = as-data (read_packet limits p) refl
 
@@ -382,8 +382,8 @@ module _ (limits : Limits) (room : ℕ) (known : 1 ≤ limits.largest) (small : 
       pass false e = absurd (let z : ◌≡◌ {A = ℕ} 0 1 = cc e in omega (arith, z))
 
       go : (r : Answer ℕ) → verdict_by r (length s) (judged limits p s) ≡ settled i → Meets limits i
-      go (accepted n) e = pass (leb n (length s)) e
-      go (refused x) e = let same : refusing x ≡ i = cc e in subst (Meets limits) same tt
+      go (Ok n) e = pass (leb n (length s)) e
+      go (Err x) e = let same : refusing x ≡ i = cc e in subst (Meets limits) same tt
 
   byte_meets : (p : Phase) (held : List ℕ) (c : ℕ) (s : List ℕ) → Bytes (held ++ (c ∷ []))
       → ((st : State) → HoldsBytes st → All (Meets limits) (stream limits s st).items) → All (Meets limits) (stream limits (c ∷ s) (waiting p held)).items

@@ -1,4 +1,5 @@
 -- The claim on families: the rules are monotone in the limits, and every call is made of what its judge reads.
+use Rattle.std.specs.Prelude.{Err, Ok}
 use Prim.Native.Nat.{ℕ, ◌+◌, ◌^◌, ◌≤◌, ◌<◌}
 use native.Mathlib.Omega.{arith}
 use mathlib.Core.Path.{◌≡◌, refl, sym, ap, ◌∙◌, subst}
@@ -11,7 +12,7 @@ use Rattle.wire.specs.declared.Limits.{Limits}
 use Rattle.wire.specs.Limits.{limits_of, is_known, Below}
 use Rattle.wire.specs.Numbers.{Bytes, number_at, be}
 use Rattle.wire.specs.Sequences.{All}
-use Rattle.wire.specs.Answers.{Answer, accepted, refused, refusal, check_at, on_accepted, from}
+use Rattle.wire.specs.Answers.{Answer, refusal, check_at, on_accepted, from}
 use Rattle.wire.proofs.LimitLaws.{limits-most, first-second}
 use Rattle.wire.proofs.Widths.{bytes_drop}
 use Rattle.wire.proofs.Accepting.{check-accepted, check-passed, on_accepted-accepted, on_accepted-passed, on_accepted-refused}
@@ -58,12 +59,12 @@ frame-above h k = record { bytes = k.bytes; least = k.least; most = omega (arith
 module _ (a b : Limits) (order : Below a b) where
   -- ---- the judges
 
-  packet-too : (p : List ℕ) (x : AvlData) → Bytes p → read_packet a p ≡ accepted x → read_packet b p ≡ accepted x
+  packet-too : (p : List ℕ) (x : AvlData) → Bytes p → read_packet a p ≡ Ok x → read_packet b p ≡ Ok x
   packet-too p x h e =
       let k = (packet-exact a p x h).0 e in
       (packet-exact b p x h).1 (record { rules = data-above x order.records k.rules; frame = frame-above order.packets k.frame; whole = k.whole })
 
-  datagram-too : (p : List ℕ) (g : Datagram) → Bytes p → read_datagram a p ≡ accepted g → read_datagram b p ≡ accepted g
+  datagram-too : (p : List ℕ) (g : Datagram) → Bytes p → read_datagram a p ≡ Ok g → read_datagram b p ≡ Ok g
   datagram-too p g h e =
       let k = (datagram-exact a p g h).0 e in
       (datagram-exact b p g h).1 (record {
@@ -74,14 +75,14 @@ module _ (a b : Limits) (order : Below a b) where
         whole = k.whole;
       })
 
-  command-too : (p : List ℕ) (c : Command) → Bytes p → read_command a p ≡ accepted c → read_command b p ≡ accepted c
+  command-too : (p : List ℕ) (c : Command) → Bytes p → read_command a p ≡ Ok c → read_command b p ≡ Ok c
   command-too p c h e =
       let k = (command-exact a p c h).0 e in
       (command-exact b p c h).1 (record { row = k.row; rules = k.rules; frame = frame-above order.packets k.frame; whole = k.whole })
 
   -- ---- the calls
 
-  same-packet : (p : List ℕ) (x : AvlData) → Bytes p → read_packet a p ≡ accepted x → SamePacket a b p
+  same-packet : (p : List ℕ) (x : AvlData) → Bytes p → read_packet a p ≡ Ok x → SamePacket a b p
   unfolding answer_packet tcp_acknowledgement tcp_source form_of_packet contents_of_packet line_of_packet lines_of_packet
   same-packet p x h e =
       let same : read_packet b p ≡ read_packet a p = packet-too p x h e ∙ sym e in
@@ -91,7 +92,7 @@ module _ (a b : Limits) (order : Below a b) where
         read = same;
         answer = rw same refl;
         acknowledgement = check-passed _ 21 _ _ (le-leb 1 b.largest (omega (arith, more)))
-            ∙ ap (λ r. accepted (be 4 (acknowledged r))) same
+            ∙ ap (λ r. Ok (be 4 (acknowledged r))) same
             ∙ sym (check-passed _ 21 _ _ (le-leb 1 a.largest (omega (arith, least))));
         source = rw same refl;
         form = rw same refl;
@@ -100,7 +101,7 @@ module _ (a b : Limits) (order : Below a b) where
         lines = rw same refl;
       }
 
-  same-datagram : (p : List ℕ) (g : Datagram) → Bytes p → read_datagram a p ≡ accepted g → SameDatagram a b p
+  same-datagram : (p : List ℕ) (g : Datagram) → Bytes p → read_datagram a p ≡ Ok g → SameDatagram a b p
   unfolding answer_datagram udp_acknowledgement udp_source form_of_datagram contents_of_datagram line_of_datagram lines_of_datagram
   same-datagram p g h e =
       let same : read_datagram b p ≡ read_datagram a p = datagram-too p g h e ∙ sym e in
@@ -115,32 +116,32 @@ module _ (a b : Limits) (order : Below a b) where
         lines = rw same refl;
       }
 
-  same-command : (p : List ℕ) (c : Command) → Bytes p → read_command a p ≡ accepted c → SameCommand a b p
+  same-command : (p : List ℕ) (c : Command) → Bytes p → read_command a p ≡ Ok c → SameCommand a b p
   unfolding answer_command
   same-command p c h e =
       let same : read_command b p ≡ read_command a p = command-too p c h e ∙ sym e in
       record { read = same; answer = rw same refl }
 
-  source-too : (p : List ℕ) (x : Source) → Bytes p → tcp_source a p ≡ accepted x → tcp_source b p ≡ accepted x
+  source-too : (p : List ℕ) (x : Source) → Bytes p → tcp_source a p ≡ Ok x → tcp_source b p ≡ Ok x
   unfolding tcp_source
   source-too p x h e =
       let i = on_accepted-accepted (read_packet a p) _ e in
       on_accepted-passed (read_packet b p) _ (packet-too p i.0 h i.1) ∙ i.2
 
   known-too : (id : ℕ) (newer older : List ℕ) (k : LastKnown) → Bytes newer → Bytes older
-      → last_known id (tcp_source a newer) (tcp_source a older) ≡ accepted k → last_known id (tcp_source b newer) (tcp_source b older) ≡ accepted k
+      → last_known id (tcp_source a newer) (tcp_source a older) ≡ Ok k → last_known id (tcp_source b newer) (tcp_source b older) ≡ Ok k
   unfolding last_known or_else in_older
   known-too id newer older k h g e =
       let i = on_accepted-accepted (tcp_source a newer) _ e in
-      on_accepted-passed (tcp_source b newer) _ (source-too newer i.0 h i.1) ∙ go (on_accepted (value_in_last id i.0) (λ f. accepted (record { older = false; found = f }))) i.2
+      on_accepted-passed (tcp_source b newer) _ (source-too newer i.0 h i.1) ∙ go (on_accepted (value_in_last id i.0) (λ f. Ok (record { older = false; found = f }))) i.2
     where
-      go : (r : Answer LastKnown) → or_else r (in_older id (tcp_source a older)) ≡ accepted k → or_else r (in_older id (tcp_source b older)) ≡ accepted k
-      go (accepted l) e = e
-      go (refused x) e = let j = on_accepted-accepted (tcp_source a older) _ e in on_accepted-passed (tcp_source b older) _ (source-too older j.0 g j.1) ∙ j.2
+      go : (r : Answer LastKnown) → or_else r (in_older id (tcp_source a older)) ≡ Ok k → or_else r (in_older id (tcp_source b older)) ≡ Ok k
+      go (Ok l) e = e
+      go (Err x) e = let j = on_accepted-accepted (tcp_source a older) _ e in on_accepted-passed (tcp_source b older) _ (source-too older j.0 g j.1) ∙ j.2
 
   -- ---- the writers
 
-  form-too : b.longest < 256 ^ 2 → (f p : List ℕ) → Bytes f → packet_of_form a f ≡ accepted p → packet_of_form b f ≡ accepted p
+  form-too : b.longest < 256 ^ 2 → (f p : List ℕ) → Bytes f → packet_of_form a f ≡ Ok p → packet_of_form b f ≡ Ok p
   unfolding packet_of_form packet_within
   form-too small f p h e =
       let c = check-accepted (is_known a.largest) 21 _ _ e in
@@ -153,7 +154,7 @@ module _ (a b : Limits) (order : Below a b) where
       ∙ on_accepted-passed (read_form b f) _ ((form-exact b f i.0 h small).1 (record { packet = above; form = k.form }))
       ∙ i.2
 
-  written-too : (codec type : ℕ) (imei : List ℕ) (time : ℕ) (text p : List ℕ) → command_bytes a codec type imei time text ≡ accepted p → command_bytes b codec type imei time text ≡ accepted p
+  written-too : (codec type : ℕ) (imei : List ℕ) (time : ℕ) (text p : List ℕ) → command_bytes a codec type imei time text ≡ Ok p → command_bytes b codec type imei time text ≡ Ok p
   unfolding command_bytes bytes_within packet_of
   written-too codec type imei time text p e =
       let c = check-accepted (is_known a.largest) 21 _ _ e in
@@ -235,17 +236,17 @@ few : (longest : ℕ) (w : Widths) (first rest : List AvlRecord) (r : AvlRecord)
 few longest w [] rest r h = h.0.total_fits
 few longest w (x ∷ first) rest r h = few longest w first rest r h.1
 
-or-refused : (limits : Limits) (f : List ℕ) → ((a : AvlData) → read_form limits f ≡ accepted a → ⊥) → packet_within limits f ≡ refused (refusal 17)
+or-refused : (limits : Limits) (f : List ℕ) → ((a : AvlData) → read_form limits f ≡ Ok a → ⊥) → packet_within limits f ≡ Err (refusal 17)
 unfolding packet_within
 or-refused limits f h = go (read_form limits f) refl
   where
-    go : (r : Answer AvlData) → read_form limits f ≡ r → packet_within limits f ≡ refused (refusal 17)
-    go (accepted a) e = absurd (h a e)
-    go (refused x) e = on_accepted-refused (read_form limits f) _ e ∙ ap refused (form-refusal limits f x e)
+    go : (r : Answer AvlData) → read_form limits f ≡ r → packet_within limits f ≡ Err (refusal 17)
+    go (Ok a) e = absurd (h a e)
+    go (Err x) e = on_accepted-refused (read_form limits f) _ e ∙ ap Err (form-refusal limits f x e)
 
 no-form : (family : ℕ) (f : List ℕ) (first rest : List AvlRecord) (r : AvlRecord) → is_known (limits_of family).largest ≡ true → Bytes f
     → (decoded f).records ≡ first ++ (r ∷ rest) → 256 ^ (widths_of (decoded f).codec).count ≤ element_count r.groups
-    → packet_of_form (limits_of family) f ≡ refused (refusal 17)
+    → packet_of_form (limits_of family) f ≡ Err (refusal 17)
 unfolding packet_of_form
 no-form family f first rest r known b is many =
     let limits = limits_of family in

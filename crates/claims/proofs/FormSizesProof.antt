@@ -1,4 +1,5 @@
 -- The sizes of forms, from the layouts.
+use Rattle.std.specs.Prelude.{Ok}
 use Prim.Native.Nat.{ℕ, zero, suc, ◌+◌, ◌*◌, ◌^◌, ◌≤◌, ◌<◌}
 use native.Mathlib.Omega.{arith}
 use mathlib.Core.Path.{◌≡◌, refl, sym, ap, ◌∙◌}
@@ -13,7 +14,6 @@ use Rattle.wire.specs.Limits.{limits_of}
 use Rattle.wire.specs.Numbers.{Bytes, digits, le}
 use Rattle.wire.specs.Envelope.{enclosed}
 use Rattle.wire.specs.Sequences.{All}
-use Rattle.wire.specs.Answers.{accepted}
 use Rattle.wire.proofs.Accepting.{on_accepted-accepted}
 use Rattle.frame.proofs.FrameLaws.{length-framed}
 use Rattle.avl.specs.Codecs.{codec8, widths_of, is_data_codec, kinds}
@@ -39,7 +39,7 @@ record Sizes (limits : Limits) (p f : List ℕ) : Type 0 where
   text : length f ≡ length (form content)
   most : length p ≤ limits.largest
 
-sizes : (limits : Limits) (p f : List ℕ) → Bytes p → form_of_packet limits p ≡ accepted f → Sizes limits p f
+sizes : (limits : Limits) (p f : List ℕ) → Bytes p → form_of_packet limits p ≡ Ok f → Sizes limits p f
 unfolding form_of_packet packet_bytes
 sizes limits p f b e =
     let i = on_accepted-accepted (read_packet limits p) _ e in
@@ -147,7 +147,7 @@ crowded-bytes n = (all_alike (λ (e : Element). Bytes e.value) small n (lit< tt,
 module _ (limits : Limits) (m n d : ℕ) (first : m < 256) (second : n < 256) (one : length (record_bytes codec8 (crowded m)) ≤ limits.longest)
     (other : length (record_bytes codec8 (crowded n)) ≤ limits.longest) (field : length (data_bytes (crowded_twice m n)) ≡ d) (long : 3 ≤ d) (short : d < 256 ^ 4)
     (inside : d + 12 ≤ limits.largest) where
-  crowded-taken : read_packet limits (packet_bytes (crowded_twice m n)) ≡ accepted (crowded_twice m n)
+  crowded-taken : read_packet limits (packet_bytes (crowded_twice m n)) ≡ Ok (crowded_twice m n)
   unfolding widths_of is_data_codec
   crowded-taken =
       packet-complete limits _ (crowded_twice m n)

@@ -1,4 +1,5 @@
 -- A reader that never stops with a number.
+use Rattle.std.specs.Prelude.{Err, Ok}
 use Prim.Native.Nat.{ℕ, zero, suc, ◌+◌, ◌-◌, ◌≤◌}
 use native.Mathlib.Omega.{arith}
 use mathlib.Core.Path.{◌≡◌, refl, ap, ◌∙◌}
@@ -10,7 +11,7 @@ use borrow.Author.Tests.{le-leb}
 use Rattle.wire.specs.declared.Refusal.{Refusal}
 use Rattle.wire.specs.Numbers.{Bytes, number_at, pick}
 use Rattle.wire.specs.Envelope.{codec_of, first_count, last_count, inner}
-use Rattle.wire.specs.Answers.{Answer, accepted, refused, refusal_at, moved_by, from, told, check_at, on_accepted}
+use Rattle.wire.specs.Answers.{Answer, refusal_at, moved_by, from, told, check_at, on_accepted}
 use Rattle.wire.proofs.Enclosed.{bytes-inner}
 use Rattle.wire.specs.Reading.{Read, got, bad, Reader, and_then, ◌>>=◌, ◌>>◌, pure, here, require, span, number, bytes, up_to, repeat}
 use Rattle.wire.specs.Imei.{text_digit, read_imei}
@@ -205,12 +206,12 @@ module _ (longest : ℕ) (w : Widths) (s : List ℕ) (b : Bytes s) (fits : lengt
 -- ---- the answers
 
 abbrev pub NeverSays : {A : Type 0} → ℕ → Answer A → Type 0
-NeverSays k r = (x : Refusal) → r ≡ refused x → x.number ≡ k → ⊥
+NeverSays k r = (x : Refusal) → r ≡ Err x → x.number ≡ k → ⊥
 
-pub says-given : {A : Type 0} {k : ℕ} (a : A) → NeverSays k (accepted a)
+pub says-given : {A : Type 0} {k : ℕ} (a : A) → NeverSays k (Ok a)
 says-given a x e same = let z : ◌≡◌ {A = ℕ} 0 1 = cc e in omega (arith, z)
 
-says-refused : {A : Type 0} {k : ℕ} (y : Refusal) → (y.number ≡ k → ⊥) → NeverSays {A = A} k (refused y)
+says-refused : {A : Type 0} {k : ℕ} (y : Refusal) → (y.number ≡ k → ⊥) → NeverSays {A = A} k (Err y)
 says-refused y h x e same = h (let whole : y ≡ x = cc e in ap (λ (z : Refusal). z.number) whole ∙ same)
 
 pub says-check : {A : Type 0} {k : ℕ} (test : Bool) (n place : ℕ) (rest : Answer A) → (n ≡ k → ⊥) → NeverSays k rest → NeverSays k (check_at test n place rest)
@@ -220,13 +221,13 @@ says-check false n place rest h g = says-refused (refusal_at n place) h
 
 pub says-from : {A : Type 0} {k : ℕ} (base : ℕ) (r : Answer A) → NeverSays k r → NeverSays k (from base r)
 unfolding from
-says-from base (accepted a) h = says-given a
-says-from base (refused y) h = says-refused (moved_by base y) (h y refl)
+says-from base (Ok a) h = says-given a
+says-from base (Err y) h = says-refused (moved_by base y) (h y refl)
 
-pub says_then : {A B : Type 0} {k : ℕ} (r : Answer A) (f : A → Answer B) → NeverSays k r → ((a : A) → r ≡ accepted a → NeverSays k (f a)) → NeverSays k (on_accepted r f)
+pub says_then : {A B : Type 0} {k : ℕ} (r : Answer A) (f : A → Answer B) → NeverSays k r → ((a : A) → r ≡ Ok a → NeverSays k (f a)) → NeverSays k (on_accepted r f)
 unfolding on_accepted
-says_then (accepted a) f h g = g a refl
-says_then (refused y) f h g = says-refused y (h y refl)
+says_then (Ok a) f h g = g a refl
+says_then (Err y) f h g = says-refused y (h y refl)
 
 pub says-told : {A : Type 0} {k : ℕ} (base : ℕ) (r : Read A) → Never k r → NeverSays k (told base r)
 unfolding told

@@ -1,4 +1,5 @@
 -- What holds of an input's refusal holds of every input that agrees with it up to the offending field's end: part by part.
+use Rattle.std.specs.Prelude.{Err, Ok}
 use Prim.Native.Nat.{ℕ, ◌+◌, ◌-◌, ◌≤◌, ◌<◌, min}
 use native.Mathlib.Omega.{arith}
 use mathlib.Core.Path.{◌≡◌, refl, sym, ap, ap₂, subst, ◌∙◌}
@@ -14,7 +15,7 @@ use Rattle.wire.specs.Limits.{is_known}
 use Rattle.wire.specs.Numbers.{number_at, pick}
 use Rattle.wire.specs.Reading.{Read, got, bad}
 use Rattle.wire.specs.Envelope.{codec_of, first_count, last_count, inner}
-use Rattle.wire.specs.Answers.{Answer, accepted, refused, refusal, refusal_at, moved_by, from, check, check_at, on_accepted}
+use Rattle.wire.specs.Answers.{Answer, refusal, refusal_at, moved_by, from, check, check_at, on_accepted}
 use Rattle.wire.proofs.Accepting.{by_length, check-passed, check-failed, on_accepted-passed, on_accepted-refused, from-passed, from-refused, told-got, told-bad}
 use Rattle.wire.proofs.Locality.{Agree, agree_less, agree-byte, agree-number, agree-part}
 use Rattle.checksum.specs.Crc.{crc}
@@ -25,7 +26,7 @@ use Rattle.avl.specs.RecordReader.{all_records}
 use Rattle.avl.specs.DataField.{read_data}
 use Rattle.avl.specs.Offending.{offending}
 use Rattle.avl.proofs.OffendingLaws.{all_local}
-use Rattle.walk.proofs.WalkLaws.{narrow, records_of, data-unknown, data-none, data-uneven, data-bad, data-got}
+use Rattle.walk.proofs.WalkLaws.{records_of, data-unknown, data-none, data-uneven, data-bad, data-got}
 use Rattle.command.specs.declared.Layout.{Layout}
 use Rattle.command.specs.Layouts.{layouts, find_layout, layout_of}
 use Rattle.command.specs.Commands.{Command, command_body, read_field}
@@ -65,7 +66,7 @@ agreed l f = record { long = l; front = f }
 -- ---- a refusal whose number and place are known, and so its width
 
 module _ {A : Type 0} (judge : List ℕ → Answer A) (Before : Refusal → Type 0) (p : List ℕ) (width : Refusal → ℕ) where
-  pub pointed : {x r : Refusal} {w : ℕ} → judge p ≡ refused x → judge p ≡ refused r → width x ≡ w → Points judge Before p x w → Points judge Before p r (width r)
+  pub pointed : {x r : Refusal} {w : ℕ} → judge p ≡ Err x → judge p ≡ Err r → width x ≡ w → Points judge Before p x w → Points judge Before p r (width r)
   pointed {x} {r} e f wide h =
       let same : x ≡ r = cc in
       subst (λ (y : Refusal). Points judge Before p y (width y)) same (subst (Points judge Before p x) (sym wide) h)
@@ -106,7 +107,7 @@ count-width : (d : List ℕ) (place : ℕ) → data_width d (refusal_at 7 place)
 unfolding data_width offending
 count-width d place = refl
 
-pub data-points : (longest : ℕ) (d : List ℕ) (r : Refusal) → 3 ≤ length d → read_data longest d ≡ refused r → Points (read_data longest) SecondCount d r (data_width d r)
+pub data-points : (longest : ℕ) (d : List ℕ) (r : Refusal) → 3 ≤ length d → read_data longest d ≡ Err r → Points (read_data longest) SecondCount d r (data_width d r)
 unfolding data_width
 data-points longest d r long e =
     by-test (is_data_codec (codec_of d))
@@ -116,7 +117,7 @@ data-points longest d r long e =
     (λ none. to (data-none longest d known none) (count-width d 1) (first known none)))
     (λ unknown. to (data-unknown longest d unknown) (codec-width d 0) (codec unknown))
   where
-    to : {x : Refusal} {w : ℕ} → read_data longest d ≡ refused x → data_width d x ≡ w → Points (read_data longest) SecondCount d x w → Points (read_data longest) SecondCount d r (data_width d r)
+    to : {x : Refusal} {w : ℕ} → read_data longest d ≡ Err x → data_width d x ≡ w → Points (read_data longest) SecondCount d x w → Points (read_data longest) SecondCount d r (data_width d r)
     to f wide h = pointed (read_data longest) SecondCount d (data_width d) f e wide h
 
     codec : is_data_codec (codec_of d) ≡ false → Points (read_data longest) SecondCount d (refusal_at 6 0) 1
@@ -150,7 +151,7 @@ data-points longest d r long e =
     walk known some even (got rs n) b = absurd (let good = data-got longest d known some even b in let z : ◌≡◌ {A = ℕ} 0 1 = cc (sym good ∙ e) in omega (arith, z))
     walk known some even (bad x) b =
         let w = widths_of (codec_of d) in
-        let k = (all_local w (inner d) (narrow (codec_of d)).generation longest (first_count d) 0 (omega arith)).stops x b in
+        let k = (all_local w (inner d) (widths_of (codec_of d)).generation_fits longest (first_count d) 0 (omega arith)).stops x b in
         let wide : offending w (inner d) (back 2 (moved_by 2 x)) ≡ offending w (inner d) x = ap (offending w (inner d)) (moved_back 2 x) in
         to (data-bad longest d known some even b) refl
         (record {
@@ -171,18 +172,18 @@ data-points longest d r long e =
 
 -- ---- a command's field
 
-no_row : (codec : ℕ) (ls : List Layout) {y : Refusal} → find_layout codec ls ≡ refused y → y ≡ refusal 6
+no_row : (codec : ℕ) (ls : List Layout) {y : Refusal} → find_layout codec ls ≡ Err y → y ≡ refusal 6
 unfolding find_layout
 no_row codec [] {y} e = let same : refusal 6 ≡ y = cc in sym same
 no_row codec (l ∷ ls) {y} e = go (eqb codec l.codec) e (λ f. no_row codec ls f)
   where
-    go : (b : Bool) → pick b (accepted l) (find_layout codec ls) ≡ refused y → (find_layout codec ls ≡ refused y → y ≡ refusal 6) → y ≡ refusal 6
+    go : (b : Bool) → pick b (Ok l) (find_layout codec ls) ≡ Err y → (find_layout codec ls ≡ Err y → y ≡ refusal 6) → y ≡ refusal 6
     go true f k = absurd (let z : ◌≡◌ {A = ℕ} 0 1 = cc in omega arith)
     go false f k = k f
 
-text-6 : (d : List ℕ) {y : Refusal} → layout_of (codec_of d) ≡ refused y → read_field d ≡ refused (refusal_at 6 0)
+text-6 : (d : List ℕ) {y : Refusal} → layout_of (codec_of d) ≡ Err y → read_field d ≡ Err (refusal_at 6 0)
 unfolding layout_of
-text-6 d e = codec-unknown d (e ∙ ap refused (no_row (codec_of d) layouts e))
+text-6 d e = codec-unknown d (e ∙ ap Err (no_row (codec_of d) layouts e))
 
 abbrev body : List ℕ → Layout → Read Command
 body d l = command_body l (length (inner d)) (inner d) 0
@@ -195,14 +196,14 @@ layout-width : (d : List ℕ) (place : ℕ) → text_width d (refusal_at 6 place
 unfolding text_width offending_text
 layout-width d place = refl
 
-pub text-points : (d : List ℕ) (r : Refusal) → 3 ≤ length d → read_field d ≡ refused r → Points read_field SecondCount d r (text_width d r)
+pub text-points : (d : List ℕ) (r : Refusal) → 3 ≤ length d → read_field d ≡ Err r → Points read_field SecondCount d r (text_width d r)
 unfolding text_width
 text-points d r long e = row (layout_of (codec_of d)) refl
   where
-    to : {x : Refusal} {w : ℕ} → read_field d ≡ refused x → text_width d x ≡ w → Points read_field SecondCount d x w → Points read_field SecondCount d r (text_width d r)
+    to : {x : Refusal} {w : ℕ} → read_field d ≡ Err x → text_width d x ≡ w → Points read_field SecondCount d x w → Points read_field SecondCount d r (text_width d r)
     to f wide h = pointed read_field SecondCount d (text_width d) f e wide h
 
-    walk : (l : Layout) → layout_of (codec_of d) ≡ accepted l → first_count d ≡ 1 → last_count d ≡ 1 → (x : Read Command) → body d l ≡ x
+    walk : (l : Layout) → layout_of (codec_of d) ≡ Ok l → first_count d ≡ 1 → last_count d ≡ 1 → (x : Read Command) → body d l ≡ x
         → Points read_field SecondCount d r (text_width d r)
     walk l known one last (got c n) b = absurd (let good = field-walk d known one last ∙ told-got 2 _ b in let z : ◌≡◌ {A = ℕ} 0 1 = cc (sym good ∙ e) in omega (arith, z))
     walk l known one last (bad x) b =
@@ -226,14 +227,14 @@ text-points d r long e = row (layout_of (codec_of d)) refl
         })
 
     row : (x : Answer Layout) → layout_of (codec_of d) ≡ x → Points read_field SecondCount d r (text_width d r)
-    row (refused y) none =
+    row (Err y) none =
         to (text-6 d none) (layout-width d 0)
         (record {
           byte = λ h. omega (arith, long);
           inside = omega (arith, long);
           alike = λ q l f. let k : Agree 1 d q = agreed l f in inl (text-6 q (ap layout_of (same-codec k (omega arith)) ∙ none));
         })
-    row (accepted l) known =
+    row (Ok l) known =
         by-test (eqb (first_count d) 1)
         (λ one. by-test (eqb (last_count d) 1) (λ last. walk l known (eqb-true _ _ one) (eqb-true _ _ last) (body d l) refl)
         (λ other. let wrong = last-wrong d known (eqb-true _ _ one) (eqb-false _ _ other) in to wrong (quantity-width d (length d - 1))
@@ -253,67 +254,67 @@ text-points d r long e = row (layout_of (codec_of d)) refl
 -- ---- the frame, test by test
 
 module _ (largest : ℕ) (p : List ℕ) where
-  frame-21 : is_known largest ≡ false → unframe largest p ≡ refused (refusal_at 21 0)
+  frame-21 : is_known largest ≡ false → unframe largest p ≡ Err (refusal_at 21 0)
   unfolding unframe
   frame-21 e = check-failed _ 21 _ _ e
 
   module _ (known : is_known largest ≡ true) where
-    frame-1 : leb 8 (length p) ≡ false → unframe largest p ≡ refused (refusal_at 1 0)
+    frame-1 : leb 8 (length p) ≡ false → unframe largest p ≡ Err (refusal_at 1 0)
     unfolding unframe
     frame-1 e = check-passed _ 21 _ _ known ∙ check-failed _ 1 _ _ e
 
     module _ (long : leb 8 (length p) ≡ true) where
-      frame-2 : eqb (number_at p 0 4) 0 ≡ false → unframe largest p ≡ refused (refusal_at 2 0)
+      frame-2 : eqb (number_at p 0 4) 0 ≡ false → unframe largest p ≡ Err (refusal_at 2 0)
       unfolding unframe
       frame-2 e = check-passed _ 21 _ _ known ∙ check-passed _ 1 _ _ long ∙ check-failed _ 2 _ _ e
 
       module _ (zeros : eqb (number_at p 0 4) 0 ≡ true) where
-        frame-3 : leb 3 (field_length p) ≡ false → unframe largest p ≡ refused (refusal_at 3 4)
+        frame-3 : leb 3 (field_length p) ≡ false → unframe largest p ≡ Err (refusal_at 3 4)
         unfolding unframe
         frame-3 e = check-passed _ 21 _ _ known ∙ check-passed _ 1 _ _ long ∙ check-passed _ 2 _ _ zeros ∙ check-failed _ 3 _ _ e
 
         module _ (least : leb 3 (field_length p) ≡ true) where
-          frame-3-over : leb (field_length p + 12) largest ≡ false → unframe largest p ≡ refused (refusal_at 3 4)
+          frame-3-over : leb (field_length p + 12) largest ≡ false → unframe largest p ≡ Err (refusal_at 3 4)
           unfolding unframe
           frame-3-over e = check-passed _ 21 _ _ known ∙ check-passed _ 1 _ _ long ∙ check-passed _ 2 _ _ zeros ∙ check-passed _ 3 _ _ least ∙ check-failed _ 3 _ _ e
 
           module _ (most : leb (field_length p + 12) largest ≡ true) where
             headed-on : unframe largest p
-                ≡ check (eqb (length p) (field_length p + 12)) 4 (check_at (eqb (number_at p (8 + field_length p) 4) (crc (field_of p))) 5 (8 + field_length p) (accepted (field_of p)))
+                ≡ check (eqb (length p) (field_length p + 12)) 4 (check_at (eqb (number_at p (8 + field_length p) 4) (crc (field_of p))) 5 (8 + field_length p) (Ok (field_of p)))
             unfolding unframe
             headed-on = check-passed _ 21 _ _ known ∙ check-passed _ 1 _ _ long ∙ check-passed _ 2 _ _ zeros ∙ check-passed _ 3 _ _ least ∙ check-passed _ 3 _ _ most
 
-            frame-4 : eqb (length p) (field_length p + 12) ≡ false → unframe largest p ≡ refused (refusal_at 4 0)
+            frame-4 : eqb (length p) (field_length p + 12) ≡ false → unframe largest p ≡ Err (refusal_at 4 0)
             frame-4 e = headed-on ∙ check-failed _ 4 _ _ e
 
             module _ (whole : eqb (length p) (field_length p + 12) ≡ true) where
-              frame-5 : eqb (number_at p (8 + field_length p) 4) (crc (field_of p)) ≡ false → unframe largest p ≡ refused (refusal_at 5 (8 + field_length p))
+              frame-5 : eqb (number_at p (8 + field_length p) 4) (crc (field_of p)) ≡ false → unframe largest p ≡ Err (refusal_at 5 (8 + field_length p))
               frame-5 e = headed-on ∙ check-passed _ 4 _ _ whole ∙ check-failed _ 5 _ _ e
 
-              frame-given : eqb (number_at p (8 + field_length p) 4) (crc (field_of p)) ≡ true → unframe largest p ≡ accepted (field_of p)
+              frame-given : eqb (number_at p (8 + field_length p) 4) (crc (field_of p)) ≡ true → unframe largest p ≡ Ok (field_of p)
               frame-given e = headed-on ∙ check-passed _ 4 _ _ whole ∙ check-passed _ 5 _ _ e
 
 -- ---- a TCP packet: whatever is in it, if its field's refusals point
 
 module _ {A : Type 0} (f : List ℕ → Answer A) (width : List ℕ → Refusal → ℕ)
-    (points : (d : List ℕ) (r : Refusal) → 3 ≤ length d → f d ≡ refused r → Points f SecondCount d r (width d r)) (largest : ℕ) where
+    (points : (d : List ℕ) (r : Refusal) → 3 ≤ length d → f d ≡ Err r → Points f SecondCount d r (width d r)) (largest : ℕ) where
   abbrev pub judged : List ℕ → Answer A
   judged p = on_accepted (unframe largest p) (λ d. from 8 (f d))
 
-  module _ (p : List ℕ) (r : Refusal) (e : judged p ≡ refused r) where
+  module _ (p : List ℕ) (r : Refusal) (e : judged p ≡ Err r) where
     abbrev Goal : Type 0
     Goal = Points judged CrcOrCount p r (framed_width width (unframe largest p) r)
 
     -- the frame is refused with this number at this place
-    by-frame : {x : Refusal} {w : ℕ} → unframe largest p ≡ refused x → frame_width x.number ≡ w → Points judged CrcOrCount p x w → Goal
+    by-frame : {x : Refusal} {w : ℕ} → unframe largest p ≡ Err x → frame_width x.number ≡ w → Points judged CrcOrCount p x w → Goal
     unfolding framed_width
     by-frame {x} u wide h = pointed judged CrcOrCount p (framed_width width (unframe largest p)) (on_accepted-refused _ _ u) e (ap (λ y. framed_width width y x) u ∙ wide) h
 
-    refused-too : (q : List ℕ) {x : Refusal} → unframe largest q ≡ refused x → judged q ≡ refused x
+    refused-too : (q : List ℕ) {x : Refusal} → unframe largest q ≡ Err x → judged q ≡ Err x
     refused-too q u = on_accepted-refused (unframe largest q) _ u
 
     -- the data field is refused
-    by_field : {d : List ℕ} → unframe largest p ≡ accepted d → 3 ≤ length d → (x : Refusal) → f d ≡ refused x → Points judged CrcOrCount p (moved_by 8 x) (width d x) → Goal
+    by_field : {d : List ℕ} → unframe largest p ≡ Ok d → 3 ≤ length d → (x : Refusal) → f d ≡ Err x → Points judged CrcOrCount p (moved_by 8 x) (width d x) → Goal
     unfolding framed_width
     by_field {d} u long x g h =
         pointed judged CrcOrCount p (framed_width width (unframe largest p)) (on_accepted-passed _ _ u ∙ from-refused 8 _ g) e
@@ -396,10 +397,10 @@ module _ {A : Type 0} (f : List ℕ → Answer A) (width : List ℕ → Refusal 
                   subst (λ (m : ℕ). Agree (n - 8) (take (field_length p) (drop 8 p)) (take m (drop 8 q))) (sym (same_size q k h)) (agree-take (agree-drop k 8 h) (field_length p))
 
               in_field : eqb (number_at p (8 + field_length p) 4) (crc (field_of p)) ≡ true → (x : Answer A) → f (field_of p) ≡ x → Goal
-              in_field t (accepted a) g =
-                  let is : judged p ≡ accepted a = on_accepted-passed _ _ (frame-given largest p known long zeros least most whole t) ∙ from-passed 8 _ g in
+              in_field t (Ok a) g =
+                  let is : judged p ≡ Ok a = on_accepted-passed _ _ (frame-given largest p known long zeros least most whole t) ∙ from-passed 8 _ g in
                   absurd (let z : ◌≡◌ {A = ℕ} 0 1 = cc in omega (arith, z))
-              in_field t (refused x) g =
+              in_field t (Err x) g =
                   let d = field_of p in
                   let small : 3 ≤ length d = omega (arith, field-size, leb-true 3 (field_length p) least) in
                   let h = points d x small g in

@@ -1,4 +1,5 @@
 -- Every refusal points at its field: of packets, commands, datagrams and logins.
+use Rattle.std.specs.Prelude.{Err, Ok}
 use Prim.Native.Nat.{ℕ, zero, suc, ◌+◌, ◌-◌, ◌%◌, ◌≤◌, ◌<◌}
 use native.Mathlib.Omega.{arith}
 use mathlib.Core.Path.{◌≡◌, refl, sym, ap, subst, ◌∙◌}
@@ -12,13 +13,13 @@ use Rattle.wire.specs.declared.Limits.{Limits}
 use Rattle.wire.specs.declared.Refusal.{Refusal}
 use Rattle.wire.specs.Numbers.{Bytes, number_at}
 use Rattle.wire.specs.Reading.{Read, got, bad, Reader, ◌>>=◌, pure, repeat}
-use Rattle.wire.specs.Answers.{Answer, accepted, refused, refusal_at, moved_by, told}
+use Rattle.wire.specs.Answers.{Answer, refusal_at, moved_by, told}
 use Rattle.wire.specs.Imei.{text_digit, read_imei}
 use Rattle.wire.proofs.Accepting.{by_length, check-passed, check-failed, on_accepted-passed, on_accepted-refused, from-passed, from-refused, told-got, told-whole, pick_true, pick-false}
 use Rattle.wire.proofs.Exactness.{then-got, here-got, require-got}
 use Rattle.wire.proofs.Walking.{short, number-there, then-bad, require-bad}
 use Rattle.wire.proofs.Widths.{bytes-get_d}
-use Rattle.wire.proofs.ImeiWord.{digit-byte, other_byte}
+use Rattle.wire.proofs.TextNumber.{digit-byte, other_byte}
 use Rattle.wire.proofs.Locality.{Agree, agree_less, agree-number, Local}
 use Rattle.wire.proofs.ImeiLocality.{imei-local}
 use Rattle.wire.proofs.ImeiText.{imei-exact, length-imei_text}
@@ -89,12 +90,12 @@ imei-early s at b h x e =
 -- ---- a login
 
 module _ (p : List ℕ) where
-  login-1 : leb 17 (length p) ≡ false → read_login p ≡ refused (refusal_at 1 0)
+  login-1 : leb 17 (length p) ≡ false → read_login p ≡ Err (refusal_at 1 0)
   unfolding read_login
   login-1 e = check-failed _ 1 _ _ e
 
   module _ (long : leb 17 (length p) ≡ true) where
-    login-4 : leb (length p) 17 ≡ false → read_login p ≡ refused (refusal_at 4 0)
+    login-4 : leb (length p) 17 ≡ false → read_login p ≡ Err (refusal_at 4 0)
     unfolding read_login
     login-4 e = check-passed _ 1 _ _ long ∙ check-failed _ 4 _ _ e
 
@@ -102,7 +103,7 @@ module _ (p : List ℕ) where
     unfolding read_login
     login-told e = check-passed _ 1 _ _ long ∙ check-passed _ 4 _ _ e
 
-login-points : (p : List ℕ) (r : Refusal) → Bytes p → read_login p ≡ refused r → Points read_login (λ x. ⊥) p r (imei_width 0 r)
+login-points : (p : List ℕ) (r : Refusal) → Bytes p → read_login p ≡ Err r → Points read_login (λ x. ⊥) p r (imei_width 0 r)
 unfolding imei_width
 login-points p r b e =
     by-test (leb 17 (length p))
@@ -112,7 +113,7 @@ login-points p r b e =
     (record { byte = λ h. omega (arith, h); inside = omega arith; alike = λ q l f. inl (login-4 q (ap (leb 17) l ∙ long) (ap (λ (n : ℕ). leb n 17) l ∙ over)) })))
     (λ few. to (login-1 p few) refl (record { byte = λ h. omega (arith, h); inside = omega arith; alike = λ q l f. inl (login-1 q (ap (leb 17) l ∙ few)) }))
   where
-    to : {x : Refusal} {w : ℕ} → read_login p ≡ refused x → imei_width 0 x ≡ w → Points read_login (λ y. ⊥) p x w → Points read_login (λ y. ⊥) p r (imei_width 0 r)
+    to : {x : Refusal} {w : ℕ} → read_login p ≡ Err x → imei_width 0 x ≡ w → Points read_login (λ y. ⊥) p x w → Points read_login (λ y. ⊥) p r (imei_width 0 r)
     to f wide h = pointed read_login (λ y. ⊥) p (imei_width 0) f e wide h
 
     read : leb 17 (length p) ≡ true → leb (length p) 17 ≡ true → (x : Read ℕ) → read_imei p 0 ≡ x → Points read_login (λ y. ⊥) p r (imei_width 0 r)
@@ -146,29 +147,29 @@ header-local p h = imei-local p header-missing 8 header-digit 6 (omega (arith, h
 -- ---- a datagram
 
 -- where its header is accepted, it is about the data field
-by-accepted : {answer : Answer Header} {h : Header} (p : List ℕ) → answer ≡ accepted h → (x : Refusal) → datagram_width p answer (moved_by 23 x) ≡ data_width (drop 23 p) x
+by-accepted : {answer : Answer Header} {h : Header} (p : List ℕ) → answer ≡ Ok h → (x : Refusal) → datagram_width p answer (moved_by 23 x) ≡ data_width (drop 23 p) x
 unfolding datagram_width
 by-accepted p u x = ap (λ y. datagram_width p y (moved_by 23 x)) u ∙ ap (data_width (drop 23 p)) (moved_back 23 x)
 
-module _ (limits : Limits) (p : List ℕ) (r : Refusal) (b : Bytes p) (e : read_datagram limits p ≡ refused r) where
+module _ (limits : Limits) (p : List ℕ) (r : Refusal) (b : Bytes p) (e : read_datagram limits p ≡ Err r) where
   abbrev largest : ℕ
   largest = limits.datagram
 
   abbrev Goal : Type 0
   Goal = Points (read_datagram limits) SecondCount p r (datagram_width p (judge_header largest p) r)
 
-  refused-too : (q : List ℕ) {x : Refusal} → judge_header largest q ≡ refused x → read_datagram limits q ≡ refused x
+  refused-too : (q : List ℕ) {x : Refusal} → judge_header largest q ≡ Err x → read_datagram limits q ≡ Err x
   unfolding read_datagram
   refused-too q u = on_accepted-refused (judge_header largest q) _ u
 
   -- its header is refused
-  by-header : {x : Refusal} {w : ℕ} → judge_header largest p ≡ refused x → header_width x ≡ w → Points (read_datagram limits) SecondCount p x w → Goal
+  by-header : {x : Refusal} {w : ℕ} → judge_header largest p ≡ Err x → header_width x ≡ w → Points (read_datagram limits) SecondCount p x w → Goal
   unfolding datagram_width
   by-header {x} u wide h =
       pointed (read_datagram limits) SecondCount p (datagram_width p (judge_header largest p)) (refused-too p u) e (ap (λ y. datagram_width p y x) u ∙ wide) h
 
   -- its data field is refused
-  in-data : (q : List ℕ) {h : Header} {x : Refusal} → judge_header largest q ≡ accepted h → read_data limits.longest (drop 23 q) ≡ refused x → read_datagram limits q ≡ refused (moved_by 23 x)
+  in-data : (q : List ℕ) {h : Header} {x : Refusal} → judge_header largest q ≡ Ok h → read_data limits.longest (drop 23 q) ≡ Err x → read_datagram limits q ≡ Err (moved_by 23 x)
   unfolding read_datagram
   in-data q u g = on_accepted-passed _ _ u ∙ on_accepted-refused _ _ (from-refused 23 _ g)
 
@@ -211,10 +212,10 @@ module _ (limits : Limits) (p : List ℕ) (r : Refusal) (b : Bytes p) (e : read_
 
       in_field : {imei n : ℕ} → read_imei p 6 ≡ got imei n → (x : Answer AvlData) → read_data limits.longest (drop 23 p) ≡ x → Goal
       unfolding read_datagram
-      in_field {imei} {n} f (accepted a) g =
+      in_field {imei} {n} f (Ok a) g =
           let good = on_accepted-passed (judge_header largest p) _ (header_is largest p known long most whole f) ∙ on_accepted-passed _ _ (from-passed 23 _ g) in
           absurd (let z : ◌≡◌ {A = ℕ} 0 1 = cc (sym e ∙ good) in omega (arith, z))
-      in_field {imei} {n} f (refused x) g =
+      in_field {imei} {n} f (Err x) g =
           let d = drop 23 p in
           let read = header_is largest p known long most whole f in
           let k = data-points limits.longest d x (omega (arith, length-drop 23 p, long)) g in

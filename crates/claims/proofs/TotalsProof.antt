@@ -1,4 +1,5 @@
 -- A record gets 9 with any total but the number of its elements.
+use Rattle.std.specs.Prelude.{Err}
 use Prim.Native.Nat.{ℕ, zero, suc, ◌+◌, ◌<◌}
 use native.Mathlib.Nat.{add-zero, zero-add}
 use native.Mathlib.Omega.{arith}
@@ -10,7 +11,6 @@ use Rattle.wire.specs.declared.Refusal.{Refusal}
 use Rattle.wire.specs.declared.Limits.{Limits}
 use Rattle.wire.specs.Sequences.{fields, joined, All}
 use Rattle.wire.specs.Reading.{bad}
-use Rattle.wire.specs.Answers.{refused}
 use Rattle.wire.proofs.Placed.{Between, between_split, between-whole}
 use Rattle.wire.proofs.Accepting.{on_accepted-refused, on_accepted-passed, from-refused, told-bad}
 use Rattle.wire.proofs.Exactness.{then-got}
@@ -43,7 +43,7 @@ records-broken longest w (r ∷ rs) index (suc m) broken s from mid h i k f e =
     ∙ then-bad (avl_records longest w (suc index) m) _ s _ (records-broken longest w rs (suc index) m broken s _ mid (omega arith) (omega arith) k.1 a.1 e)
 
 field-nine : (longest codec count : ℕ) (first : List AvlRecord) (n : ℕ) (r : AvlRecord) (rest : List ℕ) → ReadUpTo longest codec count first n r
-    → (n ≡ element_count r.groups → ⊥) → read_data longest (field_with codec count first n r rest) ≡ refused (9 at length first byte (2 + length (joined (record_bytes (widths_of codec)) first)))
+    → (n ≡ element_count r.groups → ⊥) → read_data longest (field_with codec count first n r rest) ≡ Err (9 at length first byte (2 + length (joined (record_bytes (widths_of codec)) first)))
 unfolding field_with bytes_with all_records
 field-nine longest codec count first n r rest h ne =
     let w = widths_of codec in
@@ -54,7 +54,7 @@ field-nine longest codec count first n r rest h ne =
     let broken = records-broken longest w first 0 count (length first) body 0 _ h.counted (zero-add (length first)) h.each a.0 e in
     data-walked longest codec count body h.codec_known (omega (arith, h.counted)) h.count_fits
     ∙ on_accepted-refused _ _ (told-bad 2 _ (then-bad (avl_records longest w 0 count) _ body 0 broken))
-    ∙ ap (λ (start : ℕ). refused (9 at length first byte (2 + start))) (zero-add (length (joined (record_bytes w) first)))
+    ∙ ap (λ (start : ℕ). Err (9 at length first byte (2 + start))) (zero-add (length (joined (record_bytes w) first)))
 
 nine : (limits : Limits) (codec count : ℕ) (first : List AvlRecord) (n : ℕ) (r : AvlRecord) (rest : List ℕ) → ReadUpTo limits.longest codec count first n r
     → (n ≡ element_count r.groups → ⊥) → Nine limits (field_with codec count first n r rest) (length first) (2 + length (joined (record_bytes (widths_of codec)) first))

@@ -1,19 +1,9 @@
 -- Answers: what each call gives of an input that it accepts, the paper's layouts read by hand.
-use Rattle.std.specs.Prelude.{ℕ, zero, suc, true, false, List, [], ◌∷◌, ◌++◌, set, replicate, drop, ℤ, pos, negsuc}
-use Rattle.wire.specs.declared.Written.{Written}
-use Rattle.packet.specs.declared.PacketAnswer.{PacketAnswer}
+use Rattle.std.specs.Prelude.{Ok, ℕ, zero, suc, true, false, List, [], ◌∷◌, ◌++◌, set, replicate, drop, ℤ, pos, negsuc}
 use Rattle.datagram.specs.declared.Header.{Header}
-use Rattle.datagram.specs.declared.DatagramAnswer.{DatagramAnswer}
-use Rattle.login.specs.declared.LoginAnswer.{LoginAnswer}
-use Rattle.command.specs.declared.CommandAnswer.{CommandAnswer}
 use Rattle.element.specs.declared.RecordFields.{RecordFields}
-use Rattle.lookup.specs.declared.RecordAnswer.{RecordAnswer}
-use Rattle.lookup.specs.declared.ValueAnswer.{ValueAnswer}
-use Rattle.lookup.specs.declared.KnownAnswer.{KnownAnswer}
 use Rattle.claims.specs.Rows.{Row, EachAsSaid}
-use Rattle.claims.specs.Calls.{read-packet, read-datagram, read-login, read-command}
-use Rattle.claims.specs.Calls.{record-in-packet, record-in-datagram, value-in-packet, value-in-datagram, id-in-packet, id-in-datagram, last-known}
-use Rattle.claims.specs.Calls.{acknowledge-packet, acknowledge-datagram, answer-login, write-command, form-of-packet, form-of-datagram, packet-of-form, contents-of-packet, contents-of-datagram}
+use Rattle.claims.specs.Calls.{read-packet, read-datagram, read-login, read-command, record-in-packet, record-in-datagram, value-in-packet, value-in-datagram, id-in-packet, id-in-datagram, last-known, acknowledge-packet, acknowledge-datagram, answer-login, write-command, form-of-packet, form-of-datagram, packet-of-form, contents-of-packet, contents-of-datagram}
 use Rattle.claims.specs.Packets.{field, tcp, imei, login, udp, long, two_tcp, two_udp, broken_tcp, newer, newer_udp, older, getver, nack, hello, hello_field, hello_text, getio_field}
 use Rattle.claims.specs.BenchSheet.{sample, sample_form, getio}
 
@@ -144,77 +134,77 @@ sample_fields =
 -- what was read
 unfoldable pub readings : List Row
 readings =
-    read-packet "codec 8" 2 two_tcp (PacketAnswer.Accepted 0x08 2)
-    ∷ read-packet "codec 16" 2 newer (PacketAnswer.Accepted 0x10 2)
-    ∷ read-packet "codec 8E" 2 older (PacketAnswer.Accepted 0x8E 1)
-    ∷ read-datagram "codec 8" 2 two_udp (DatagramAnswer.Accepted 0x08 2 header)
-    ∷ read-datagram "family 1, a record of 255 bytes" 1 (udp 0x01 0x17 (field 0x8E 1 (long 213 1))) (DatagramAnswer.Accepted 0x8E 1 header)
-    ∷ read-login "login" login (LoginAnswer.Imei 123456789012345)
-    ∷ read-command "codec 12" 2 getio (CommandAnswer.Accepted (record { codec = 0x0C; kind = 0x05; imei = 0; time = 0; offset = 15; size = 5 })) (0x67 ∷ 0x65 ∷ 0x74 ∷ 0x69 ∷ 0x6F ∷ [])
-    ∷ read-command "codec 12, type 06, no text" 2 (tcp 0x00 0x08 (0x0C ∷ 0x01 ∷ 0x06 ∷ 0x00 ∷ 0x00 ∷ 0x00 ∷ 0x00 ∷ 0x01 ∷ []) 0x33 0xD1) (CommandAnswer.Accepted (record { codec = 0x0C; kind = 0x06; imei = 0; time = 0; offset = 15; size = 0 })) []
-    ∷ read-command "codec 13" 2 hello (CommandAnswer.Accepted (record { codec = 0x0D; kind = 0x06; imei = 0; time = 0x64E83281; offset = 19; size = 17 })) hello_text
-    ∷ read-command "codec 13, one more in the time" 2 (tcp 0x00 0x1D (set hello_field 10 0x82) 0x71 0x0C) (CommandAnswer.Accepted (record { codec = 0x0D; kind = 0x06; imei = 0; time = 0x64E83282; offset = 19; size = 17 })) hello_text
-    ∷ read-command "codec 13, type 05, no text" 2 (tcp 0x00 0x0C (0x0D ∷ 0x01 ∷ 0x05 ∷ 0x00 ∷ 0x00 ∷ 0x00 ∷ 0x04 ∷ 0xFF ∷ 0xFF ∷ 0xFF ∷ 0xFF ∷ 0x01 ∷ []) 0xBB 0x6C) (CommandAnswer.Accepted (record { codec = 0x0D; kind = 0x05; imei = 0; time = 0xFFFFFFFF; offset = 19; size = 0 })) []
-    ∷ read-command "codec 13 in a command of codec 12" 2 (tcp 0x00 0x0D (set getio_field 0 0x0D) 0x81 0xC9) (CommandAnswer.Accepted (record { codec = 0x0D; kind = 0x05; imei = 0; time = 0x67657469; offset = 19; size = 1 })) (0x6F ∷ [])
-    ∷ read-command "codec 14" 2 getver (CommandAnswer.Accepted (record { codec = 0x0E; kind = 0x05; imei = 352093081452251; time = 0; offset = 23; size = 6 })) (0x67 ∷ 0x65 ∷ 0x74 ∷ 0x76 ∷ 0x65 ∷ 0x72 ∷ [])
-    ∷ read-command "codec 14, type 11" 2 nack (CommandAnswer.Accepted (record { codec = 0x0E; kind = 0x11; imei = 352093081452251; time = 0; offset = 23; size = 0 })) []
+    read-packet "codec 8" 2 two_tcp (Ok (record { codec = 0x08; count = 2 }))
+    ∷ read-packet "codec 16" 2 newer (Ok (record { codec = 0x10; count = 2 }))
+    ∷ read-packet "codec 8E" 2 older (Ok (record { codec = 0x8E; count = 1 }))
+    ∷ read-datagram "codec 8" 2 two_udp (Ok (record { payload = record { codec = 0x08; count = 2 }; header = header }))
+    ∷ read-datagram "family 1, a record of 255 bytes" 1 (udp 0x01 0x17 (field 0x8E 1 (long 213 1))) (Ok (record { payload = record { codec = 0x8E; count = 1 }; header = header }))
+    ∷ read-login "login" login (Ok 123456789012345)
+    ∷ read-command "codec 12" 2 getio (Ok (record { codec = 0x0C; kind = 0x05; imei = 0; time = 0; offset = 15; size = 5 })) (0x67 ∷ 0x65 ∷ 0x74 ∷ 0x69 ∷ 0x6F ∷ [])
+    ∷ read-command "codec 12, type 06, no text" 2 (tcp 0x00 0x08 (0x0C ∷ 0x01 ∷ 0x06 ∷ 0x00 ∷ 0x00 ∷ 0x00 ∷ 0x00 ∷ 0x01 ∷ []) 0x33 0xD1) (Ok (record { codec = 0x0C; kind = 0x06; imei = 0; time = 0; offset = 15; size = 0 })) []
+    ∷ read-command "codec 13" 2 hello (Ok (record { codec = 0x0D; kind = 0x06; imei = 0; time = 0x64E83281; offset = 19; size = 17 })) hello_text
+    ∷ read-command "codec 13, one more in the time" 2 (tcp 0x00 0x1D (set hello_field 10 0x82) 0x71 0x0C) (Ok (record { codec = 0x0D; kind = 0x06; imei = 0; time = 0x64E83282; offset = 19; size = 17 })) hello_text
+    ∷ read-command "codec 13, type 05, no text" 2 (tcp 0x00 0x0C (0x0D ∷ 0x01 ∷ 0x05 ∷ 0x00 ∷ 0x00 ∷ 0x00 ∷ 0x04 ∷ 0xFF ∷ 0xFF ∷ 0xFF ∷ 0xFF ∷ 0x01 ∷ []) 0xBB 0x6C) (Ok (record { codec = 0x0D; kind = 0x05; imei = 0; time = 0xFFFFFFFF; offset = 19; size = 0 })) []
+    ∷ read-command "codec 13 in a command of codec 12" 2 (tcp 0x00 0x0D (set getio_field 0 0x0D) 0x81 0xC9) (Ok (record { codec = 0x0D; kind = 0x05; imei = 0; time = 0x67657469; offset = 19; size = 1 })) (0x6F ∷ [])
+    ∷ read-command "codec 14" 2 getver (Ok (record { codec = 0x0E; kind = 0x05; imei = 352093081452251; time = 0; offset = 23; size = 6 })) (0x67 ∷ 0x65 ∷ 0x74 ∷ 0x76 ∷ 0x65 ∷ 0x72 ∷ [])
+    ∷ read-command "codec 14, type 11" 2 nack (Ok (record { codec = 0x0E; kind = 0x11; imei = 352093081452251; time = 0; offset = 23; size = 0 })) []
     ∷ []
 
 -- what was looked up
 unfoldable pub lookups : List Row
 lookups =
-    record-in-packet "codec 16" 2 newer 1 (RecordAnswer.Fields full_fields)
-    ∷ record-in-packet "codec 16, the record before" 2 newer 0 (RecordAnswer.Fields one_fields)
-    ∷ record-in-packet "codec 8E" 2 older 0 (RecordAnswer.Fields varied_fields)
-    ∷ record-in-datagram "codec 16" 2 newer_udp 1 (RecordAnswer.Fields full_fields)
-    ∷ record-in-datagram "codec 8" 2 sample 0 (RecordAnswer.Fields sample_fields)
-    ∷ value-in-packet "4 bytes" 2 newer 1 3 (ValueAnswer.Found (record { id = 0x0115; kind = 4; offset = 88; size = 4 })) (0xC1 ∷ 0xC2 ∷ 0xC3 ∷ 0xC4 ∷ [])
-    ∷ value-in-packet "variable, empty" 2 older 0 1 (ValueAnswer.Found (record { id = 0x0101; kind = 9; offset = 55; size = 0 })) []
-    ∷ value-in-packet "variable" 2 older 0 2 (ValueAnswer.Found (record { id = 0x0142; kind = 9; offset = 59; size = 3 })) (0x61 ∷ 0x62 ∷ 0x63 ∷ [])
-    ∷ id-in-packet "an ID that occurs twice" 2 newer 1 0x0115 (ValueAnswer.Found (record { id = 0x0115; kind = 1; offset = 76; size = 1 })) 1 (0xA1 ∷ [])
-    ∷ id-in-packet "the second of its group" 2 newer 1 0x0181 (ValueAnswer.Found (record { id = 0x0181; kind = 1; offset = 79; size = 1 })) 2 (0xA2 ∷ [])
-    ∷ id-in-packet "the first of the second group" 2 newer 1 0x0142 (ValueAnswer.Found (record { id = 0x0142; kind = 2; offset = 83; size = 2 })) 3 (0xB1 ∷ 0xB2 ∷ [])
-    ∷ id-in-packet "variable, the last of the record" 2 older 0 0x0142 (ValueAnswer.Found (record { id = 0x0142; kind = 9; offset = 59; size = 3 })) 3 (0x61 ∷ 0x62 ∷ 0x63 ∷ [])
-    ∷ value-in-datagram "codec 8" 2 sample 0 0 (ValueAnswer.Found (record { id = 0x0015; kind = 1; offset = 53; size = 1 })) (0x03 ∷ [])
-    ∷ value-in-datagram "1 byte" 2 newer_udp 1 0 (ValueAnswer.Found (record { id = 0x0115; kind = 1; offset = 91; size = 1 })) (0xA1 ∷ [])
-    ∷ value-in-datagram "1 byte, the second" 2 newer_udp 1 1 (ValueAnswer.Found (record { id = 0x0181; kind = 1; offset = 94; size = 1 })) (0xA2 ∷ [])
-    ∷ value-in-datagram "2 bytes" 2 newer_udp 1 2 (ValueAnswer.Found (record { id = 0x0142; kind = 2; offset = 98; size = 2 })) (0xB1 ∷ 0xB2 ∷ [])
-    ∷ value-in-datagram "4 bytes" 2 newer_udp 1 3 (ValueAnswer.Found (record { id = 0x0115; kind = 4; offset = 103; size = 4 })) (0xC1 ∷ 0xC2 ∷ 0xC3 ∷ 0xC4 ∷ [])
-    ∷ value-in-datagram "8 bytes" 2 newer_udp 1 4 (ValueAnswer.Found (record { id = 0x014E; kind = 8; offset = 110; size = 8 })) (0xD1 ∷ 0xD2 ∷ 0xD3 ∷ 0xD4 ∷ 0xD5 ∷ 0xD6 ∷ 0xD7 ∷ 0xD8 ∷ [])
-    ∷ value-in-datagram "the record before" 2 newer_udp 0 0 (ValueAnswer.Found (record { id = 0x0143; kind = 1; offset = 56; size = 1 })) (0x5A ∷ [])
-    ∷ id-in-datagram "an ID that occurs twice" 2 newer_udp 1 0x0115 (ValueAnswer.Found (record { id = 0x0115; kind = 1; offset = 91; size = 1 })) 1 (0xA1 ∷ [])
-    ∷ id-in-datagram "8 bytes" 2 newer_udp 1 0x014E (ValueAnswer.Found (record { id = 0x014E; kind = 8; offset = 110; size = 8 })) 5 (0xD1 ∷ 0xD2 ∷ 0xD3 ∷ 0xD4 ∷ 0xD5 ∷ 0xD6 ∷ 0xD7 ∷ 0xD8 ∷ [])
-    ∷ last-known "in both" 2 newer older 0x0142 (KnownAnswer.Found false (record { id = 0x0142; kind = 2; offset = 83; size = 2 })) 3 (0xB1 ∷ 0xB2 ∷ [])
-    ∷ last-known "in the newer, older refused" 2 newer broken_tcp 0x0142 (KnownAnswer.Found false (record { id = 0x0142; kind = 2; offset = 83; size = 2 })) 3 (0xB1 ∷ 0xB2 ∷ [])
-    ∷ last-known "in the older" 2 newer older 0x0015 (KnownAnswer.Found true (record { id = 0x0015; kind = 1; offset = 42; size = 1 })) 6 (0x03 ∷ [])
-    ∷ last-known "variable and empty, in the older" 2 newer older 0x0101 (KnownAnswer.Found true (record { id = 0x0101; kind = 9; offset = 55; size = 0 })) 7 []
+    record-in-packet "codec 16" 2 newer 1 (Ok full_fields)
+    ∷ record-in-packet "codec 16, the record before" 2 newer 0 (Ok one_fields)
+    ∷ record-in-packet "codec 8E" 2 older 0 (Ok varied_fields)
+    ∷ record-in-datagram "codec 16" 2 newer_udp 1 (Ok full_fields)
+    ∷ record-in-datagram "codec 8" 2 sample 0 (Ok sample_fields)
+    ∷ value-in-packet "4 bytes" 2 newer 1 3 (Ok (record { id = 0x0115; kind = 4; offset = 88; size = 4 })) (0xC1 ∷ 0xC2 ∷ 0xC3 ∷ 0xC4 ∷ [])
+    ∷ value-in-packet "variable, empty" 2 older 0 1 (Ok (record { id = 0x0101; kind = 9; offset = 55; size = 0 })) []
+    ∷ value-in-packet "variable" 2 older 0 2 (Ok (record { id = 0x0142; kind = 9; offset = 59; size = 3 })) (0x61 ∷ 0x62 ∷ 0x63 ∷ [])
+    ∷ id-in-packet "an ID that occurs twice" 2 newer 1 0x0115 (Ok (record { id = 0x0115; kind = 1; offset = 76; size = 1 })) 1 (0xA1 ∷ [])
+    ∷ id-in-packet "the second of its group" 2 newer 1 0x0181 (Ok (record { id = 0x0181; kind = 1; offset = 79; size = 1 })) 2 (0xA2 ∷ [])
+    ∷ id-in-packet "the first of the second group" 2 newer 1 0x0142 (Ok (record { id = 0x0142; kind = 2; offset = 83; size = 2 })) 3 (0xB1 ∷ 0xB2 ∷ [])
+    ∷ id-in-packet "variable, the last of the record" 2 older 0 0x0142 (Ok (record { id = 0x0142; kind = 9; offset = 59; size = 3 })) 3 (0x61 ∷ 0x62 ∷ 0x63 ∷ [])
+    ∷ value-in-datagram "codec 8" 2 sample 0 0 (Ok (record { id = 0x0015; kind = 1; offset = 53; size = 1 })) (0x03 ∷ [])
+    ∷ value-in-datagram "1 byte" 2 newer_udp 1 0 (Ok (record { id = 0x0115; kind = 1; offset = 91; size = 1 })) (0xA1 ∷ [])
+    ∷ value-in-datagram "1 byte, the second" 2 newer_udp 1 1 (Ok (record { id = 0x0181; kind = 1; offset = 94; size = 1 })) (0xA2 ∷ [])
+    ∷ value-in-datagram "2 bytes" 2 newer_udp 1 2 (Ok (record { id = 0x0142; kind = 2; offset = 98; size = 2 })) (0xB1 ∷ 0xB2 ∷ [])
+    ∷ value-in-datagram "4 bytes" 2 newer_udp 1 3 (Ok (record { id = 0x0115; kind = 4; offset = 103; size = 4 })) (0xC1 ∷ 0xC2 ∷ 0xC3 ∷ 0xC4 ∷ [])
+    ∷ value-in-datagram "8 bytes" 2 newer_udp 1 4 (Ok (record { id = 0x014E; kind = 8; offset = 110; size = 8 })) (0xD1 ∷ 0xD2 ∷ 0xD3 ∷ 0xD4 ∷ 0xD5 ∷ 0xD6 ∷ 0xD7 ∷ 0xD8 ∷ [])
+    ∷ value-in-datagram "the record before" 2 newer_udp 0 0 (Ok (record { id = 0x0143; kind = 1; offset = 56; size = 1 })) (0x5A ∷ [])
+    ∷ id-in-datagram "an ID that occurs twice" 2 newer_udp 1 0x0115 (Ok (record { id = 0x0115; kind = 1; offset = 91; size = 1 })) 1 (0xA1 ∷ [])
+    ∷ id-in-datagram "8 bytes" 2 newer_udp 1 0x014E (Ok (record { id = 0x014E; kind = 8; offset = 110; size = 8 })) 5 (0xD1 ∷ 0xD2 ∷ 0xD3 ∷ 0xD4 ∷ 0xD5 ∷ 0xD6 ∷ 0xD7 ∷ 0xD8 ∷ [])
+    ∷ last-known "in both" 2 newer older 0x0142 (Ok (record { older = false; value = (record { id = 0x0142; kind = 2; offset = 83; size = 2 }) })) 3 (0xB1 ∷ 0xB2 ∷ [])
+    ∷ last-known "in the newer, older refused" 2 newer broken_tcp 0x0142 (Ok (record { older = false; value = (record { id = 0x0142; kind = 2; offset = 83; size = 2 }) })) 3 (0xB1 ∷ 0xB2 ∷ [])
+    ∷ last-known "in the older" 2 newer older 0x0015 (Ok (record { older = true; value = (record { id = 0x0015; kind = 1; offset = 42; size = 1 }) })) 6 (0x03 ∷ [])
+    ∷ last-known "variable and empty, in the older" 2 newer older 0x0101 (Ok (record { older = true; value = (record { id = 0x0101; kind = 9; offset = 55; size = 0 }) })) 7 []
     ∷ []
 
 -- what was written
 unfoldable pub writings : List Row
 writings =
-    acknowledge-packet "accepted" 2 newer (replicate 5 7) (Written.Bytes 4) (0x00 ∷ 0x00 ∷ 0x00 ∷ 0x02 ∷ 0x07 ∷ [])
-    ∷ acknowledge-packet "refused" 2 broken_tcp (replicate 5 7) (Written.Bytes 4) (0x00 ∷ 0x00 ∷ 0x00 ∷ 0x00 ∷ 0x07 ∷ [])
-    ∷ acknowledge-packet "a message of codec 13" 2 hello (replicate 5 7) (Written.Bytes 4) (0x00 ∷ 0x00 ∷ 0x00 ∷ 0x00 ∷ 0x07 ∷ [])
-    ∷ acknowledge-datagram "accepted" 2 two_udp (replicate 8 7) (Written.Bytes 7) (0x00 ∷ 0x05 ∷ 0xCA ∷ 0xFE ∷ 0x01 ∷ 0x05 ∷ 0x02 ∷ 0x07 ∷ [])
-    ∷ answer-login "known" login true (replicate 2 7) (Written.Bytes 1) (0x01 ∷ 0x07 ∷ [])
-    ∷ answer-login "not known" login false (replicate 2 7) (Written.Bytes 1) (0x00 ∷ 0x07 ∷ [])
-    ∷ answer-login "known, digit 3A" (set login 16 0x3A) true (replicate 2 7) (Written.Bytes 1) (0x00 ∷ 0x07 ∷ [])
-    ∷ write-command "codec 12" 2 0x0C 0x05 [] 0x64E83281 (0x67 ∷ 0x65 ∷ 0x74 ∷ 0x69 ∷ 0x6F ∷ []) (replicate 26 7) (Written.Bytes 25) (getio ++ (7 ∷ []))
-    ∷ write-command "codec 13" 2 0x0D 0x06 [] 0x64E83281 hello_text (replicate 42 7) (Written.Bytes 41) (hello ++ (7 ∷ []))
-    ∷ write-command "codec 13, type 05, no text" 2 0x0D 0x05 [] 0xFFFFFFFF [] (replicate 24 7) (Written.Bytes 24) (tcp 0x00 0x0C (0x0D ∷ 0x01 ∷ 0x05 ∷ 0x00 ∷ 0x00 ∷ 0x00 ∷ 0x04 ∷ 0xFF ∷ 0xFF ∷ 0xFF ∷ 0xFF ∷ 0x01 ∷ []) 0xBB 0x6C)
-    ∷ write-command "codec 14" 2 0x0E 0x05 imei 0x64E83281 (0x67 ∷ 0x65 ∷ 0x74 ∷ 0x76 ∷ 0x65 ∷ 0x72 ∷ []) (replicate 34 7) (Written.Bytes 34) getver
-    ∷ write-command "codec 14, type 11" 2 0x0E 0x11 imei 0x64E83281 [] (replicate 28 7) (Written.Bytes 28) nack
-    ∷ form-of-packet "codec 16" 2 newer (replicate 121 7) (Written.Bytes 120) (newer_form ++ (7 ∷ []))
-    ∷ form-of-packet "codec 8E" 2 older (replicate 58 7) (Written.Bytes 58) older_form
-    ∷ form-of-datagram "codec 16" 2 newer_udp (replicate 120 7) (Written.Bytes 120) newer_form
-    ∷ packet-of-form "codec 16" 2 newer_form (replicate 109 7) (Written.Bytes 108) (newer ++ (7 ∷ []))
-    ∷ packet-of-form "codec 8E" 2 older_form (replicate 67 7) (Written.Bytes 67) older
-    ∷ packet-of-form "codec 8" 2 sample_form (replicate 47 7) (Written.Bytes 47) (tcp 0x00 0x23 (drop 23 sample) 0xB0 0xD2)
-    ∷ contents-of-datagram "codec 8" 2 sample (replicate 8 7) (Written.Bytes 7) (sample_contents ++ (7 ∷ []))
-    ∷ contents-of-datagram "codec 8, records without values" 2 two_udp (replicate 10 7) (Written.Bytes 10) two_contents
-    ∷ contents-of-packet "codec 16" 2 newer (replicate 18 7) (Written.Bytes 16) (newer_contents ++ (7 ∷ 7 ∷ []))
-    ∷ contents-of-packet "codec 8E" 2 older (replicate 9 7) (Written.Bytes 9) older_contents
+    acknowledge-packet "accepted" 2 newer (replicate 5 7) (Ok 4) (0x00 ∷ 0x00 ∷ 0x00 ∷ 0x02 ∷ 0x07 ∷ [])
+    ∷ acknowledge-packet "refused" 2 broken_tcp (replicate 5 7) (Ok 4) (0x00 ∷ 0x00 ∷ 0x00 ∷ 0x00 ∷ 0x07 ∷ [])
+    ∷ acknowledge-packet "a message of codec 13" 2 hello (replicate 5 7) (Ok 4) (0x00 ∷ 0x00 ∷ 0x00 ∷ 0x00 ∷ 0x07 ∷ [])
+    ∷ acknowledge-datagram "accepted" 2 two_udp (replicate 8 7) (Ok 7) (0x00 ∷ 0x05 ∷ 0xCA ∷ 0xFE ∷ 0x01 ∷ 0x05 ∷ 0x02 ∷ 0x07 ∷ [])
+    ∷ answer-login "known" login true (replicate 2 7) (Ok 1) (0x01 ∷ 0x07 ∷ [])
+    ∷ answer-login "not known" login false (replicate 2 7) (Ok 1) (0x00 ∷ 0x07 ∷ [])
+    ∷ answer-login "known, digit 3A" (set login 16 0x3A) true (replicate 2 7) (Ok 1) (0x00 ∷ 0x07 ∷ [])
+    ∷ write-command "codec 12" 2 0x0C 0x05 [] 0x64E83281 (0x67 ∷ 0x65 ∷ 0x74 ∷ 0x69 ∷ 0x6F ∷ []) (replicate 26 7) (Ok 25) (getio ++ (7 ∷ []))
+    ∷ write-command "codec 13" 2 0x0D 0x06 [] 0x64E83281 hello_text (replicate 42 7) (Ok 41) (hello ++ (7 ∷ []))
+    ∷ write-command "codec 13, type 05, no text" 2 0x0D 0x05 [] 0xFFFFFFFF [] (replicate 24 7) (Ok 24) (tcp 0x00 0x0C (0x0D ∷ 0x01 ∷ 0x05 ∷ 0x00 ∷ 0x00 ∷ 0x00 ∷ 0x04 ∷ 0xFF ∷ 0xFF ∷ 0xFF ∷ 0xFF ∷ 0x01 ∷ []) 0xBB 0x6C)
+    ∷ write-command "codec 14" 2 0x0E 0x05 imei 0x64E83281 (0x67 ∷ 0x65 ∷ 0x74 ∷ 0x76 ∷ 0x65 ∷ 0x72 ∷ []) (replicate 34 7) (Ok 34) getver
+    ∷ write-command "codec 14, type 11" 2 0x0E 0x11 imei 0x64E83281 [] (replicate 28 7) (Ok 28) nack
+    ∷ form-of-packet "codec 16" 2 newer (replicate 121 7) (Ok 120) (newer_form ++ (7 ∷ []))
+    ∷ form-of-packet "codec 8E" 2 older (replicate 58 7) (Ok 58) older_form
+    ∷ form-of-datagram "codec 16" 2 newer_udp (replicate 120 7) (Ok 120) newer_form
+    ∷ packet-of-form "codec 16" 2 newer_form (replicate 109 7) (Ok 108) (newer ++ (7 ∷ []))
+    ∷ packet-of-form "codec 8E" 2 older_form (replicate 67 7) (Ok 67) older
+    ∷ packet-of-form "codec 8" 2 sample_form (replicate 47 7) (Ok 47) (tcp 0x00 0x23 (drop 23 sample) 0xB0 0xD2)
+    ∷ contents-of-datagram "codec 8" 2 sample (replicate 8 7) (Ok 7) (sample_contents ++ (7 ∷ []))
+    ∷ contents-of-datagram "codec 8, records without values" 2 two_udp (replicate 10 7) (Ok 10) two_contents
+    ∷ contents-of-packet "codec 16" 2 newer (replicate 18 7) (Ok 16) (newer_contents ++ (7 ∷ 7 ∷ []))
+    ∷ contents-of-packet "codec 8E" 2 older (replicate 9 7) (Ok 9) older_contents
     ∷ []
 
 abbrev pub answers : List (List Row)

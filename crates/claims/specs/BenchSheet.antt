@@ -1,7 +1,7 @@
 -- The bench sheet, P1 to P13: what the sheet gives the judges in family 2, and what it says they answer.
-use Rattle.std.specs.Prelude.{ℕ, List, [], ◌∷◌, set}
+use Rattle.std.specs.Prelude.{Err, Ok, ℕ, List, [], ◌∷◌, set}
 use Rattle.wire.specs.Limits.{limits_of}
-use Rattle.wire.specs.Answers.{Answer, accepted, refused, on_accepted}
+use Rattle.wire.specs.Answers.{Answer, on_accepted}
 use Rattle.command.specs.Commands.{read_command}
 use Rattle.datagram.specs.Datagrams.{udp_acknowledgement}
 use Rattle.tlv.specs.PacketOf.{form_of_packet, form_of_datagram}
@@ -28,24 +28,24 @@ getio =
 
 -- a command's codec, type, IMEI, time and text
 unfoldable pub command_fields : List ℕ → Answer (List ℕ)
-command_fields p = on_accepted (read_command (limits_of 2) p) (λ c. accepted (c.codec ∷ c.type ∷ c.imei ∷ c.time ∷ c.text))
+command_fields p = on_accepted (read_command (limits_of 2) p) (λ c. Ok (c.codec ∷ c.type ∷ c.imei ∷ c.time ∷ c.text))
 
 unfoldable pub sheet : List Row
 sheet =
-    row "P1" (form_of_datagram (limits_of 2) sample) (accepted sample_form)
-    ∷ row "P2" (udp_acknowledgement (limits_of 2) sample) (accepted sample_acknowledgement)
-    ∷ row "P3" (form_of_datagram (limits_of 2) (set sample 1 0x37)) (refused (4 at 0))
-    ∷ row "P4" (form_of_datagram (limits_of 2) (set sample 57 2)) (refused (7 at 0 byte 57))
-    ∷ row "P5" (form_of_datagram (limits_of 2) (set sample 33 3)) (refused (10 at 0 byte 33))
-    ∷ row "P6" (form_of_datagram (limits_of 2) (set sample 50 2)) (refused (9 at 0 byte 25))
-    ∷ row "P7" (form_of_datagram (limits_of 2) (set sample 51 2)) (refused (8 at 0 byte 57))
-    ∷ row "P8" (form_of_datagram (limits_of 2) (set (set sample 24 2) 57 2)) (refused (8 at 1 byte 57))
-    ∷ row "P9" (command_fields getio) (accepted (0x0C ∷ 0x05 ∷ 0 ∷ 0 ∷ 0x67 ∷ 0x65 ∷ 0x74 ∷ 0x69 ∷ 0x6F ∷ []))
-    ∷ row "P10" (command_fields (set getio 24 0xCA)) (refused (5 at 0 byte 21))
-    ∷ row "P11" (form_of_packet (limits_of 2) []) (refused (1 at 0))
-    ∷ row "P12" (form_of_packet (limits_of 2) (0 ∷ 0 ∷ 0 ∷ 0 ∷ 0 ∷ 0 ∷ 0 ∷ 0 ∷ [])) (refused (3 at 0 byte 4))
-    ∷ row "P13" (form_of_packet (limits_of 2) (0 ∷ 0 ∷ 0 ∷ 0 ∷ 0 ∷ 0 ∷ 0x04 ∷ 0xF5 ∷ [])) (refused (3 at 0 byte 4))
-    ∷ row "P13" (form_of_packet (limits_of 2) (0 ∷ 0 ∷ 0 ∷ 0 ∷ 0 ∷ 0 ∷ 0x04 ∷ 0xF4 ∷ [])) (refused (4 at 0))
+    row "P1" (form_of_datagram (limits_of 2) sample) (Ok sample_form)
+    ∷ row "P2" (udp_acknowledgement (limits_of 2) sample) (Ok sample_acknowledgement)
+    ∷ row "P3" (form_of_datagram (limits_of 2) (set sample 1 0x37)) (Err (4 at 0))
+    ∷ row "P4" (form_of_datagram (limits_of 2) (set sample 57 2)) (Err (7 at 0 byte 57))
+    ∷ row "P5" (form_of_datagram (limits_of 2) (set sample 33 3)) (Err (10 at 0 byte 33))
+    ∷ row "P6" (form_of_datagram (limits_of 2) (set sample 50 2)) (Err (9 at 0 byte 25))
+    ∷ row "P7" (form_of_datagram (limits_of 2) (set sample 51 2)) (Err (8 at 0 byte 57))
+    ∷ row "P8" (form_of_datagram (limits_of 2) (set (set sample 24 2) 57 2)) (Err (8 at 1 byte 57))
+    ∷ row "P9" (command_fields getio) (Ok (0x0C ∷ 0x05 ∷ 0 ∷ 0 ∷ 0x67 ∷ 0x65 ∷ 0x74 ∷ 0x69 ∷ 0x6F ∷ []))
+    ∷ row "P10" (command_fields (set getio 24 0xCA)) (Err (5 at 0 byte 21))
+    ∷ row "P11" (form_of_packet (limits_of 2) []) (Err (1 at 0))
+    ∷ row "P12" (form_of_packet (limits_of 2) (0 ∷ 0 ∷ 0 ∷ 0 ∷ 0 ∷ 0 ∷ 0 ∷ 0 ∷ [])) (Err (3 at 0 byte 4))
+    ∷ row "P13" (form_of_packet (limits_of 2) (0 ∷ 0 ∷ 0 ∷ 0 ∷ 0 ∷ 0 ∷ 0x04 ∷ 0xF5 ∷ [])) (Err (3 at 0 byte 4))
+    ∷ row "P13" (form_of_packet (limits_of 2) (0 ∷ 0 ∷ 0 ∷ 0 ∷ 0 ∷ 0 ∷ 0x04 ∷ 0xF4 ∷ [])) (Err (4 at 0))
     ∷ []
 
 -- every row is answered as the sheet says

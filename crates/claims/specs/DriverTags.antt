@@ -1,9 +1,5 @@
 -- Driver tags: worked packets of codec 8E with variable values, which the total counts (request 2).
-use Rattle.std.specs.Prelude.{ℕ, List, [], ◌∷◌, ◌++◌, replicate}
-use Rattle.wire.specs.declared.Written.{Written}
-use Rattle.packet.specs.declared.PacketAnswer.{PacketAnswer}
-use Rattle.datagram.specs.declared.DatagramAnswer.{DatagramAnswer}
-use Rattle.lookup.specs.declared.ValueAnswer.{ValueAnswer}
+use Rattle.std.specs.Prelude.{Err, Ok, ℕ, List, [], ◌∷◌, ◌++◌, replicate}
 use Rattle.claims.specs.Rows.{Row, AsSaid, ◌at◌, ◌at◌byte◌}
 use Rattle.claims.specs.Calls.{read-packet, read-datagram, value-in-packet, id-in-packet, form-of-packet, packet-of-form}
 use Rattle.claims.specs.Packets.{field, tcp, udp}
@@ -60,19 +56,19 @@ tags_form =
 
 unfoldable pub tag_rows : List Row
 tag_rows =
-    read-packet "all counted" 2 tags (PacketAnswer.Accepted 0x8E 2)
-    ∷ read-packet "first record, four counts" 2 (tcp 0x00 0x83 (tag_field 3 3) 0x42 0xDC) (PacketAnswer.Refused (9 at 0 byte 10))
-    ∷ read-packet "second record, four counts" 2 (tcp 0x00 0x83 (tag_field 5 1) 0xA6 0x90) (PacketAnswer.Refused (9 at 1 byte 81))
-    ∷ read-packet "first record, variable values twice" 2 (tcp 0x00 0x83 (tag_field 7 3) 0x7B 0x6A) (PacketAnswer.Refused (9 at 0 byte 10))
-    ∷ read-datagram "all counted" 2 (udp 0x00 0x98 (tag_field 5 3)) (DatagramAnswer.Accepted 0x8E 2 header)
-    ∷ read-datagram "second record, four counts" 2 (udp 0x00 0x98 (tag_field 5 1)) (DatagramAnswer.Refused (9 at 1 byte 96))
-    ∷ value-in-packet "the name" 2 tags 0 3 (ValueAnswer.Found (record { id = 0x0193; kind = 9; offset = 62; size = 15 })) name
-    ∷ value-in-packet "the empty value" 2 tags 0 4 (ValueAnswer.Found (record { id = 0x0196; kind = 9; offset = 81; size = 0 })) []
-    ∷ value-in-packet "an ID that occurs twice" 2 tags 1 1 (ValueAnswer.Found (record { id = 0x0193; kind = 9; offset = 126; size = 3 })) (0x4F ∷ 0x6E ∷ 0x61 ∷ [])
-    ∷ value-in-packet "the second time" 2 tags 1 2 (ValueAnswer.Found (record { id = 0x0193; kind = 9; offset = 133; size = 5 })) (0x4A ∷ 0x6F ∷ 0x6E ∷ 0x61 ∷ 0x73 ∷ [])
-    ∷ id-in-packet "by its ID, the first" 2 tags 1 0x0193 (ValueAnswer.Found (record { id = 0x0193; kind = 9; offset = 126; size = 3 })) 2 (0x4F ∷ 0x6E ∷ 0x61 ∷ [])
-    ∷ form-of-packet "its form" 2 tags (replicate 144 7) (Written.Bytes 143) (tags_form ++ (7 ∷ []))
-    ∷ packet-of-form "and back" 2 tags_form (replicate 144 7) (Written.Bytes 143) (tags ++ (7 ∷ []))
+    read-packet "all counted" 2 tags (Ok (record { codec = 0x8E; count = 2 }))
+    ∷ read-packet "first record, four counts" 2 (tcp 0x00 0x83 (tag_field 3 3) 0x42 0xDC) (Err (9 at 0 byte 10))
+    ∷ read-packet "second record, four counts" 2 (tcp 0x00 0x83 (tag_field 5 1) 0xA6 0x90) (Err (9 at 1 byte 81))
+    ∷ read-packet "first record, variable values twice" 2 (tcp 0x00 0x83 (tag_field 7 3) 0x7B 0x6A) (Err (9 at 0 byte 10))
+    ∷ read-datagram "all counted" 2 (udp 0x00 0x98 (tag_field 5 3)) (Ok (record { payload = record { codec = 0x8E; count = 2 }; header = header }))
+    ∷ read-datagram "second record, four counts" 2 (udp 0x00 0x98 (tag_field 5 1)) (Err (9 at 1 byte 96))
+    ∷ value-in-packet "the name" 2 tags 0 3 (Ok (record { id = 0x0193; kind = 9; offset = 62; size = 15 })) name
+    ∷ value-in-packet "the empty value" 2 tags 0 4 (Ok (record { id = 0x0196; kind = 9; offset = 81; size = 0 })) []
+    ∷ value-in-packet "an ID that occurs twice" 2 tags 1 1 (Ok (record { id = 0x0193; kind = 9; offset = 126; size = 3 })) (0x4F ∷ 0x6E ∷ 0x61 ∷ [])
+    ∷ value-in-packet "the second time" 2 tags 1 2 (Ok (record { id = 0x0193; kind = 9; offset = 133; size = 5 })) (0x4A ∷ 0x6F ∷ 0x6E ∷ 0x61 ∷ 0x73 ∷ [])
+    ∷ id-in-packet "by its ID, the first" 2 tags 1 0x0193 (Ok (record { id = 0x0193; kind = 9; offset = 126; size = 3 })) 2 (0x4F ∷ 0x6E ∷ 0x61 ∷ [])
+    ∷ form-of-packet "its form" 2 tags (replicate 144 7) (Ok 143) (tags_form ++ (7 ∷ []))
+    ∷ packet-of-form "and back" 2 tags_form (replicate 144 7) (Ok 143) (tags ++ (7 ∷ []))
     ∷ []
 
 abbrev pub AsTagsAreCounted : Type 0

@@ -1,7 +1,7 @@
 -- Worked examples of document 006, and of document 010 for codec 13: the sound streams are accepted with these fields, the damaged ones refused.
-use Rattle.std.specs.Prelude.{ℕ, List, [], ◌∷◌, length}
+use Rattle.std.specs.Prelude.{Err, Ok, ℕ, List, [], ◌∷◌, length}
 use Rattle.wire.specs.Limits.{limits_of}
-use Rattle.wire.specs.Answers.{Answer, accepted, refused, on_accepted}
+use Rattle.wire.specs.Answers.{Answer, on_accepted}
 use Rattle.packet.specs.DataPackets.{read_packet}
 use Rattle.login.specs.Login.{read_login}
 use Rattle.datagram.specs.Datagrams.{read_datagram}
@@ -127,47 +127,47 @@ codec15 =
 -- ---- what is read of them
 
 unfoldable pub packet_fields : List ℕ → Answer (List ℕ)
-packet_fields p = on_accepted (read_packet (limits_of 2) p) (λ a. accepted (a.codec ∷ length a.records ∷ []))
+packet_fields p = on_accepted (read_packet (limits_of 2) p) (λ a. Ok (a.codec ∷ length a.records ∷ []))
 
 unfoldable pub login_fields : List ℕ → Answer (List ℕ)
-login_fields p = on_accepted (read_login p) (λ imei. accepted (imei ∷ []))
+login_fields p = on_accepted (read_login p) (λ imei. Ok (imei ∷ []))
 
 -- codec, count, packet ID, unused byte, AVL packet ID, IMEI
 unfoldable pub datagram_fields : List ℕ → Answer (List ℕ)
 datagram_fields p =
     on_accepted (read_datagram (limits_of 2) p)
-    (λ g. accepted
+    (λ g. Ok
     (g.payload.codec ∷ length g.payload.records ∷ g.header.packet ∷ g.header.unused ∷ g.header.avl ∷ g.header.imei ∷ []))
 
 unfoldable pub examples : List Row
 examples =
-    row "login" (login_fields login) (accepted (356307042441013 ∷ []))
-    ∷ row "codec 8, TCP 1" (packet_fields codec8_tcp1) (accepted (0x08 ∷ 1 ∷ []))
-    ∷ row "codec 8, TCP 2" (packet_fields codec8_tcp2) (accepted (0x08 ∷ 1 ∷ []))
-    ∷ row "codec 8, TCP 3" (packet_fields codec8_tcp3) (accepted (0x08 ∷ 2 ∷ []))
-    ∷ row "codec 8, UDP" (datagram_fields codec8_udp) (accepted (0x08 ∷ 1 ∷ 0xCAFE ∷ 1 ∷ 5 ∷ 352093086403655 ∷ []))
-    ∷ row "codec 8E, TCP" (packet_fields codec8e_tcp) (accepted (0x8E ∷ 1 ∷ []))
-    ∷ row "codec 8E, UDP" (datagram_fields codec8e_udp) (accepted (0x8E ∷ 1 ∷ 0xCAFE ∷ 1 ∷ 7 ∷ 352093086403655 ∷ []))
-    ∷ row "codec 16, TCP" (packet_fields codec16_tcp) (accepted (0x10 ∷ 2 ∷ []))
-    ∷ row "codec 16, UDP, as printed" (datagram_fields codec16_udp_printed) (refused (4 at 0))
-    ∷ row "codec 16, UDP, its length repaired" (datagram_fields codec16_udp_length_repaired) (refused (7 at 0 byte 73))
-    ∷ row "codec 12, getinfo" (command_fields codec12_getinfo) (accepted (0x0C ∷ 0x05 ∷ 0 ∷ 0 ∷ 0x67 ∷ 0x65 ∷ 0x74 ∷ 0x69 ∷ 0x6E ∷ 0x66 ∷ 0x6F ∷ []))
+    row "login" (login_fields login) (Ok (356307042441013 ∷ []))
+    ∷ row "codec 8, TCP 1" (packet_fields codec8_tcp1) (Ok (0x08 ∷ 1 ∷ []))
+    ∷ row "codec 8, TCP 2" (packet_fields codec8_tcp2) (Ok (0x08 ∷ 1 ∷ []))
+    ∷ row "codec 8, TCP 3" (packet_fields codec8_tcp3) (Ok (0x08 ∷ 2 ∷ []))
+    ∷ row "codec 8, UDP" (datagram_fields codec8_udp) (Ok (0x08 ∷ 1 ∷ 0xCAFE ∷ 1 ∷ 5 ∷ 352093086403655 ∷ []))
+    ∷ row "codec 8E, TCP" (packet_fields codec8e_tcp) (Ok (0x8E ∷ 1 ∷ []))
+    ∷ row "codec 8E, UDP" (datagram_fields codec8e_udp) (Ok (0x8E ∷ 1 ∷ 0xCAFE ∷ 1 ∷ 7 ∷ 352093086403655 ∷ []))
+    ∷ row "codec 16, TCP" (packet_fields codec16_tcp) (Ok (0x10 ∷ 2 ∷ []))
+    ∷ row "codec 16, UDP, as printed" (datagram_fields codec16_udp_printed) (Err (4 at 0))
+    ∷ row "codec 16, UDP, its length repaired" (datagram_fields codec16_udp_length_repaired) (Err (7 at 0 byte 73))
+    ∷ row "codec 12, getinfo" (command_fields codec12_getinfo) (Ok (0x0C ∷ 0x05 ∷ 0 ∷ 0 ∷ 0x67 ∷ 0x65 ∷ 0x74 ∷ 0x69 ∷ 0x6E ∷ 0x66 ∷ 0x6F ∷ []))
     ∷ row "codec 12, response to getio" (command_fields codec12_getio_response)
-    (accepted (0x0C ∷ 0x06 ∷ 0 ∷ 0 ∷ 0x44 ∷ 0x49 ∷ 0x31 ∷ 0x3A ∷ 0x31 ∷ 0x20 ∷ 0x44 ∷ 0x49 ∷ 0x32 ∷ 0x3A ∷ 0x30 ∷ 0x20 ∷ 0x44 ∷ 0x49 ∷ 0x33 ∷ 0x3A ∷ 0x30 ∷ 0x20 ∷ 0x41 ∷ 0x49 ∷ 0x4E ∷ 0x31 ∷ 0x3A ∷ 0x30
+    (Ok (0x0C ∷ 0x06 ∷ 0 ∷ 0 ∷ 0x44 ∷ 0x49 ∷ 0x31 ∷ 0x3A ∷ 0x31 ∷ 0x20 ∷ 0x44 ∷ 0x49 ∷ 0x32 ∷ 0x3A ∷ 0x30 ∷ 0x20 ∷ 0x44 ∷ 0x49 ∷ 0x33 ∷ 0x3A ∷ 0x30 ∷ 0x20 ∷ 0x41 ∷ 0x49 ∷ 0x4E ∷ 0x31 ∷ 0x3A ∷ 0x30
     ∷ 0x20 ∷ 0x41 ∷ 0x49 ∷ 0x4E ∷ 0x32 ∷ 0x3A ∷ 0x31 ∷ 0x36 ∷ 0x39 ∷ 0x32 ∷ 0x34 ∷ 0x20 ∷ 0x44 ∷ 0x4F ∷ 0x31 ∷ 0x3A ∷ 0x30 ∷ 0x20 ∷ 0x44 ∷ 0x4F ∷ 0x32 ∷ 0x3A ∷ 0x31 ∷ []))
-    ∷ row "codec 13, hello" (command_fields codec13_hello) (accepted (0x0D ∷ 0x06 ∷ 0 ∷ 0x64E83281 ∷ 0x68 ∷ 0x65 ∷ 0x6C ∷ 0x6C ∷ 0x6F ∷ 0x20 ∷ 0x6C ∷ 0x65 ∷ 0x74 ∷ 0x73 ∷ 0x20 ∷ 0x74 ∷ 0x65 ∷ 0x73 ∷ 0x74 ∷ 0x0D ∷ 0x0A ∷ []))
-    ∷ row "codec 14, getver" (command_fields codec14_getver) (accepted (0x0E ∷ 0x05 ∷ 352093081452251 ∷ 0 ∷ 0x67 ∷ 0x65 ∷ 0x74 ∷ 0x76 ∷ 0x65 ∷ 0x72 ∷ []))
+    ∷ row "codec 13, hello" (command_fields codec13_hello) (Ok (0x0D ∷ 0x06 ∷ 0 ∷ 0x64E83281 ∷ 0x68 ∷ 0x65 ∷ 0x6C ∷ 0x6C ∷ 0x6F ∷ 0x20 ∷ 0x6C ∷ 0x65 ∷ 0x74 ∷ 0x73 ∷ 0x20 ∷ 0x74 ∷ 0x65 ∷ 0x73 ∷ 0x74 ∷ 0x0D ∷ 0x0A ∷ []))
+    ∷ row "codec 14, getver" (command_fields codec14_getver) (Ok (0x0E ∷ 0x05 ∷ 352093081452251 ∷ 0 ∷ 0x67 ∷ 0x65 ∷ 0x74 ∷ 0x76 ∷ 0x65 ∷ 0x72 ∷ []))
     ∷ row "codec 14, ACK" (command_fields codec14_ack)
-    (accepted (0x0E ∷ 0x06 ∷ 352093081452251 ∷ 0 ∷ 0x56 ∷ 0x65 ∷ 0x72 ∷ 0x3A ∷ 0x30 ∷ 0x33 ∷ 0x2E ∷ 0x31 ∷ 0x38 ∷ 0x2E ∷ 0x31 ∷ 0x34 ∷ 0x5F ∷ 0x30 ∷ 0x34 ∷ 0x20 ∷ 0x47 ∷ 0x50 ∷ 0x53 ∷ 0x3A ∷ 0x41 ∷ 0x58 ∷ 0x4E ∷ 0x5F
+    (Ok (0x0E ∷ 0x06 ∷ 352093081452251 ∷ 0 ∷ 0x56 ∷ 0x65 ∷ 0x72 ∷ 0x3A ∷ 0x30 ∷ 0x33 ∷ 0x2E ∷ 0x31 ∷ 0x38 ∷ 0x2E ∷ 0x31 ∷ 0x34 ∷ 0x5F ∷ 0x30 ∷ 0x34 ∷ 0x20 ∷ 0x47 ∷ 0x50 ∷ 0x53 ∷ 0x3A ∷ 0x41 ∷ 0x58 ∷ 0x4E ∷ 0x5F
     ∷ 0x35 ∷ 0x2E ∷ 0x31 ∷ 0x30 ∷ 0x5F ∷ 0x33 ∷ 0x33 ∷ 0x33 ∷ 0x33 ∷ 0x20 ∷ 0x48 ∷ 0x77 ∷ 0x3A ∷ 0x46 ∷ 0x4D ∷ 0x42 ∷ 0x31 ∷ 0x32 ∷ 0x30 ∷ 0x20 ∷ 0x4D ∷ 0x6F ∷ 0x64 ∷ 0x3A
     ∷ 0x31 ∷ 0x35 ∷ 0x20 ∷ 0x49 ∷ 0x4D ∷ 0x45 ∷ 0x49 ∷ 0x3A ∷ 0x33 ∷ 0x35 ∷ 0x32 ∷ 0x30 ∷ 0x39 ∷ 0x33 ∷ 0x30 ∷ 0x38 ∷ 0x31 ∷ 0x34 ∷ 0x35 ∷ 0x32 ∷ 0x32 ∷ 0x35 ∷ 0x31 ∷ 0x20
     ∷ 0x49 ∷ 0x6E ∷ 0x69 ∷ 0x74 ∷ 0x3A ∷ 0x32 ∷ 0x30 ∷ 0x31 ∷ 0x38 ∷ 0x2D ∷ 0x31 ∷ 0x31 ∷ 0x2D ∷ 0x32 ∷ 0x32 ∷ 0x20 ∷ 0x37 ∷ 0x3A ∷ 0x31 ∷ 0x33 ∷ 0x20 ∷ 0x55 ∷ 0x70 ∷ 0x74
     ∷ 0x69 ∷ 0x6D ∷ 0x65 ∷ 0x3A ∷ 0x31 ∷ 0x37 ∷ 0x32 ∷ 0x33 ∷ 0x34 ∷ 0x20 ∷ 0x4D ∷ 0x41 ∷ 0x43 ∷ 0x3A ∷ 0x36 ∷ 0x30 ∷ 0x42 ∷ 0x44 ∷ 0x44 ∷ 0x30 ∷ 0x30 ∷ 0x31 ∷ 0x36 ∷ 0x32
     ∷ 0x36 ∷ 0x31 ∷ 0x20 ∷ 0x53 ∷ 0x50 ∷ 0x43 ∷ 0x3A ∷ 0x31 ∷ 0x28 ∷ 0x30 ∷ 0x29 ∷ 0x20 ∷ 0x41 ∷ 0x58 ∷ 0x4C ∷ 0x3A ∷ 0x30 ∷ 0x20 ∷ 0x4F ∷ 0x42 ∷ 0x44 ∷ 0x3A ∷ 0x30 ∷ 0x20
     ∷ 0x42 ∷ 0x4C ∷ 0x3A ∷ 0x31 ∷ 0x2E ∷ 0x36 ∷ 0x20 ∷ 0x42 ∷ 0x54 ∷ 0x3A ∷ 0x34 ∷ []))
-    ∷ row "codec 14, nACK, as printed" (command_fields codec14_nack_printed) (refused (5 at 0 byte 24))
-    ∷ row "codec 14, nACK, its IMEI repaired" (command_fields codec14_nack_imei_repaired) (accepted (0x0E ∷ 0x11 ∷ 352093081452251 ∷ 0 ∷ []))
-    ∷ row "codec 15" (command_fields codec15) (refused (6 at 0 byte 8))
+    ∷ row "codec 14, nACK, as printed" (command_fields codec14_nack_printed) (Err (5 at 0 byte 24))
+    ∷ row "codec 14, nACK, its IMEI repaired" (command_fields codec14_nack_imei_repaired) (Ok (0x0E ∷ 0x11 ∷ 352093081452251 ∷ 0 ∷ []))
+    ∷ row "codec 15" (command_fields codec15) (Err (6 at 0 byte 8))
     ∷ []
 
 abbrev pub AsTheDocumentsHave : Type 0

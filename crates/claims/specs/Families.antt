@@ -1,10 +1,10 @@
 -- What holds of the families of unit (request 5), as one claim.
-use Rattle.std.specs.Prelude.{ℕ, ◌^◌, ◌≤◌, ◌<◌, ◌≡◌, true, List, ◌∷◌, ◌++◌}
+use Rattle.std.specs.Prelude.{Err, Ok, ℕ, ◌^◌, ◌≤◌, ◌<◌, ◌≡◌, true, List, ◌∷◌, ◌++◌}
 use Rattle.wire.specs.declared.Limits.{Limits}
 use Rattle.wire.specs.declared.Refusal.{Refusal}
 use Rattle.wire.specs.Limits.{limits_of, is_known, Below}
 use Rattle.wire.specs.Numbers.{Bytes}
-use Rattle.wire.specs.Answers.{accepted, refused, refusal}
+use Rattle.wire.specs.Answers.{refusal}
 use Rattle.avl.specs.Codecs.{widths_of}
 use Rattle.avl.specs.Records.{AvlRecord, element_count}
 use Rattle.avl.specs.DataField.{AvlData}
@@ -46,33 +46,33 @@ pub record SameCommand (a b : Limits) (p : List ℕ) : Type 0 where
   pub answer : answer_command b p ≡ answer_command a p
 
 pub record AcceptedToo (a b : Limits) : Type 0 where
-  pub packets : (p : List ℕ) (x : AvlData) → Bytes p → read_packet a p ≡ accepted x → SamePacket a b p
-  pub datagrams : (p : List ℕ) (g : Datagram) → Bytes p → read_datagram a p ≡ accepted g → SameDatagram a b p
-  pub commands : (p : List ℕ) (c : Command) → Bytes p → read_command a p ≡ accepted c → SameCommand a b p
+  pub packets : (p : List ℕ) (x : AvlData) → Bytes p → read_packet a p ≡ Ok x → SamePacket a b p
+  pub datagrams : (p : List ℕ) (g : Datagram) → Bytes p → read_datagram a p ≡ Ok g → SameDatagram a b p
+  pub commands : (p : List ℕ) (c : Command) → Bytes p → read_command a p ≡ Ok c → SameCommand a b p
   -- the last known value, found by the lesser limits
   pub known : (id : ℕ) (newer older : List ℕ) (k : LastKnown) → Bytes newer → Bytes older
-      → last_known id (tcp_source a newer) (tcp_source a older) ≡ accepted k → last_known id (tcp_source b newer) (tcp_source b older) ≡ accepted k
+      → last_known id (tcp_source a newer) (tcp_source a older) ≡ Ok k → last_known id (tcp_source b newer) (tcp_source b older) ≡ Ok k
   -- a packet of a form, a command that is written
-  pub forms : (f p : List ℕ) → Bytes f → packet_of_form a f ≡ accepted p → packet_of_form b f ≡ accepted p
-  pub written : (codec type : ℕ) (imei : List ℕ) (time : ℕ) (text p : List ℕ) → command_bytes a codec type imei time text ≡ accepted p → command_bytes b codec type imei time text ≡ accepted p
+  pub forms : (f p : List ℕ) → Bytes f → packet_of_form a f ≡ Ok p → packet_of_form b f ≡ Ok p
+  pub written : (codec type : ℕ) (imei : List ℕ) (time : ℕ) (text p : List ℕ) → command_bytes a codec type imei time text ≡ Ok p → command_bytes b codec type imei time text ≡ Ok p
 
 -- ---- number 12
 
 -- no record is over its packet's limit, so where the record limit is no less, 12 never occurs
 pub record Never12 (limits : Limits) : Type 0 where
-  pub packets : (p : List ℕ) (r : Refusal) → Bytes p → read_packet limits p ≡ refused r → r.number ≡ 12 → ⊥
-  pub datagrams : (p : List ℕ) (r : Refusal) → Bytes p → read_datagram limits p ≡ refused r → r.number ≡ 12 → ⊥
+  pub packets : (p : List ℕ) (r : Refusal) → Bytes p → read_packet limits p ≡ Err r → r.number ≡ 12 → ⊥
+  pub datagrams : (p : List ℕ) (r : Refusal) → Bytes p → read_datagram limits p ≡ Err r → r.number ≡ 12 → ⊥
 
 -- ---- number 21
 
 -- whatever is given: no byte of it matters. Look-ups, forms, tables and lines are made of what these read
 pub record Says21 (limits : Limits) : Type 0 where
-  pub packets : (p : List ℕ) → read_packet limits p ≡ refused (refusal 21)
-  pub datagrams : (p : List ℕ) → read_datagram limits p ≡ refused (refusal 21)
-  pub commands : (p : List ℕ) → read_command limits p ≡ refused (refusal 21)
-  pub acknowledgements : (p : List ℕ) → tcp_acknowledgement limits p ≡ refused (refusal 21)
-  pub forms : (f : List ℕ) → packet_of_form limits f ≡ refused (refusal 21)
-  pub written : (codec type : ℕ) (imei : List ℕ) (time : ℕ) (text : List ℕ) → command_bytes limits codec type imei time text ≡ refused (refusal 21)
+  pub packets : (p : List ℕ) → read_packet limits p ≡ Err (refusal 21)
+  pub datagrams : (p : List ℕ) → read_datagram limits p ≡ Err (refusal 21)
+  pub commands : (p : List ℕ) → read_command limits p ≡ Err (refusal 21)
+  pub acknowledgements : (p : List ℕ) → tcp_acknowledgement limits p ≡ Err (refusal 21)
+  pub forms : (f : List ℕ) → packet_of_form limits f ≡ Err (refusal 21)
+  pub written : (codec type : ℕ) (imei : List ℕ) (time : ℕ) (text : List ℕ) → command_bytes limits codec type imei time text ≡ Err (refusal 21)
 
 pub record FamiliesKept : Type 0 where
   -- any number but 1 and 2 is no family
@@ -85,4 +85,4 @@ pub record FamiliesKept : Type 0 where
   -- no form has a record with more elements than its total can say: of 08 and 10 more than 255. `Totals` has 9 for such a record in a packet
   pub no_form : (family : ℕ) (f : List ℕ) (first rest : List AvlRecord) (r : AvlRecord) → is_known (limits_of family).largest ≡ true → Bytes f
       → (decoded f).records ≡ first ++ (r ∷ rest) → 256 ^ (widths_of (decoded f).codec).count ≤ element_count r.groups
-      → packet_of_form (limits_of family) f ≡ refused (refusal 17)
+      → packet_of_form (limits_of family) f ≡ Err (refusal 17)

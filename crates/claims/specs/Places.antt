@@ -1,10 +1,10 @@
 -- What a refusal points at (request 6): its field lies in the input, and what stands behind that field makes no difference.
-use Rattle.std.specs.Prelude.{ℕ, ◌+◌, ◌-◌, ◌≤◌, ◌<◌, ◌≡◌, ◌⊎◌, List, length, take, drop, eqb}
+use Rattle.std.specs.Prelude.{Err, Ok, ℕ, ◌+◌, ◌-◌, ◌≤◌, ◌<◌, ◌≡◌, ◌⊎◌, List, length, take, drop, eqb}
 use Rattle.wire.specs.declared.Limits.{Limits}
 use Rattle.wire.specs.declared.Refusal.{Refusal}
 use Rattle.wire.specs.Numbers.{Bytes, pick}
 use Rattle.wire.specs.Envelope.{codec_of, inner}
-use Rattle.wire.specs.Answers.{Answer, accepted, refused}
+use Rattle.wire.specs.Answers.{Answer}
 use Rattle.frame.specs.Frame.{unframe}
 use Rattle.avl.specs.Codecs.{widths_of}
 use Rattle.avl.specs.Offending.{offending}
@@ -34,8 +34,8 @@ frame_width number = pick (eqb number 2) 4 (pick (eqb number 3) 4 (pick (eqb num
 
 -- in a TCP packet, by what its frame gives
 unfoldable pub framed_width : (List ℕ → Refusal → ℕ) → Answer (List ℕ) → Refusal → ℕ
-framed_width width (accepted d) r = width d (back 8 r)
-framed_width width (refused x) r = frame_width r.number
+framed_width width (Ok d) r = width d (back 8 r)
+framed_width width (Err x) r = frame_width r.number
 
 -- of an IMEI that starts at `at`: its length, or the byte of a digit
 unfoldable pub imei_width : ℕ → Refusal → ℕ
@@ -47,8 +47,8 @@ header_width r = pick (eqb r.number 4) 2 (imei_width 6 r)
 
 -- in a datagram, by what its header gives
 unfoldable pub datagram_width : List ℕ → Answer Header → Refusal → ℕ
-datagram_width p (accepted h) r = data_width (drop 23 p) (back 23 r)
-datagram_width p (refused x) r = header_width r
+datagram_width p (Ok h) r = data_width (drop 23 p) (back 23 r)
+datagram_width p (Err x) r = header_width r
 
 -- ---- the claim
 
@@ -59,7 +59,7 @@ pub record Points {A : Type 0} (judge : List ℕ → Answer A) (Before : Refusal
   pub inside : r.place + width ≤ length p
   -- an input that is as long, and equal up to the field's end, is refused alike; or for what is looked at before, further behind
   pub alike : (q : List ℕ) → length q ≡ length p → take (r.place + width) q ≡ take (r.place + width) p
-      → (judge q ≡ refused r) ⊎ ((x : Refusal) × (judge q ≡ refused x) × Before x)
+      → (judge q ≡ Err r) ⊎ ((x : Refusal) × (judge q ≡ Err x) × Before x)
 
 -- the second count stands behind the records and is looked at before them; the CRC is over all bytes, and is looked at before both
 abbrev pub SecondCount : Refusal → Type 0
@@ -69,10 +69,10 @@ abbrev pub CrcOrCount : Refusal → Type 0
 CrcOrCount x = (x.number ≡ 5) ⊎ (x.number ≡ 7)
 
 pub record PlacesKept : Type 0 where
-  pub packets : (limits : Limits) (p : List ℕ) (r : Refusal) → read_packet limits p ≡ refused r
+  pub packets : (limits : Limits) (p : List ℕ) (r : Refusal) → read_packet limits p ≡ Err r
       → Points (read_packet limits) CrcOrCount p r (framed_width data_width (unframe limits.largest p) r)
-  pub commands : (limits : Limits) (p : List ℕ) (r : Refusal) → read_command limits p ≡ refused r
+  pub commands : (limits : Limits) (p : List ℕ) (r : Refusal) → read_command limits p ≡ Err r
       → Points (read_command limits) CrcOrCount p r (framed_width text_width (unframe limits.largest p) r)
-  pub datagrams : (limits : Limits) (p : List ℕ) (r : Refusal) → Bytes p → read_datagram limits p ≡ refused r
+  pub datagrams : (limits : Limits) (p : List ℕ) (r : Refusal) → Bytes p → read_datagram limits p ≡ Err r
       → Points (read_datagram limits) SecondCount p r (datagram_width p (judge_header limits.datagram p) r)
-  pub logins : (p : List ℕ) (r : Refusal) → Bytes p → read_login p ≡ refused r → Points read_login (λ x. ⊥) p r (imei_width 0 r)
+  pub logins : (p : List ℕ) (r : Refusal) → Bytes p → read_login p ≡ Err r → Points read_login (λ x. ⊥) p r (imei_width 0 r)

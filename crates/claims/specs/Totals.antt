@@ -1,10 +1,9 @@
 -- The total of a record (N of Total IO) is the number of its elements (request 2): with any other total the record gets 9.
-use Rattle.std.specs.Prelude.{ℕ, ◌+◌, ◌^◌, ◌≤◌, ◌<◌, ◌≡◌, true, List, [], ◌∷◌, length, drop}
+use Rattle.std.specs.Prelude.{Err, Ok, ℕ, ◌+◌, ◌^◌, ◌≤◌, ◌<◌, ◌≡◌, true, List, [], ◌∷◌, length, drop}
 use Rattle.wire.specs.declared.Limits.{Limits}
 use Rattle.wire.specs.Numbers.{be}
 use Rattle.wire.specs.Sequences.{fields, joined, All}
 use Rattle.wire.specs.Envelope.{enclosed}
-use Rattle.wire.specs.Answers.{accepted, refused}
 use Rattle.frame.specs.Frame.{unframe}
 use Rattle.avl.specs.declared.Widths.{Widths}
 use Rattle.avl.specs.Codecs.{widths_of, is_data_codec, kinds}
@@ -35,8 +34,8 @@ pub record ReadUpTo (longest codec count : ℕ) (first : List AvlRecord) (n : �
 
 -- a TCP data packet and a datagram with this data field get 9 at the record `index`, which starts at `start` in the field
 pub record Nine (limits : Limits) (d : List ℕ) (index start : ℕ) : Type 0 where
-  pub in_packet : (p : List ℕ) → unframe limits.largest p ≡ accepted d → read_packet limits p ≡ refused (9 at index byte (8 + start))
-  pub in_datagram : (p : List ℕ) (h : Header) → judge_header limits.datagram p ≡ accepted h → drop 23 p ≡ d → read_datagram limits p ≡ refused (9 at index byte (23 + start))
+  pub in_packet : (p : List ℕ) → unframe limits.largest p ≡ Ok d → read_packet limits p ≡ Err (9 at index byte (8 + start))
+  pub in_datagram : (p : List ℕ) (h : Header) → judge_header limits.datagram p ≡ Ok h → drop 23 p ≡ d → read_datagram limits p ≡ Err (9 at index byte (23 + start))
 
 module _ (limits : Limits) (codec count : ℕ) (first : List AvlRecord) (n : ℕ) (r : AvlRecord) (rest : List ℕ) where
   abbrev Refused9 : Type 0

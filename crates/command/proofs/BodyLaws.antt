@@ -1,4 +1,5 @@
 -- Which way the walk over a command's body goes: the type, the size, then the IMEI, the time and the text.
+use Rattle.std.specs.Prelude.{Ok}
 use Prim.Native.Nat.{ℕ, ◌+◌, ◌-◌, ◌≤◌, ◌<◌}
 use native.Mathlib.Omega.{arith}
 use mathlib.Core.Path.{◌≡◌, sym, ap, ap₂, ◌∙◌}
@@ -17,7 +18,6 @@ use Rattle.wire.proofs.Walking.{short, then-bad, number-there, number-missing, b
 use Rattle.wire.proofs.Shifts.{number-one}
 use Rattle.wire.proofs.ImeiPacked.{packed-exact, length-packed}
 use Rattle.command.specs.declared.Layout.{Layout}
-use Rattle.command.specs.declared.BodyWalk.TheVariants.{Of}
 use Rattle.command.specs.Layouts.{types, heading, member}
 use Rattle.command.specs.Commands.{Command, mismatch, command_body}
 use Rattle.command.specs.Walks.{body_as}
@@ -107,13 +107,13 @@ module _ (l : Layout) (s : List ℕ) where
             text-wrong e = time-there ∙ here-got _ s start ∙ then-got (bytes _) _ s start text-got ∙ require-bad _ 14 start _ s _ e
 
             pub text-there : mismatch (get_or s 0 0) text ≡ true
-                → body_as (command_body l (length s) s 0) ≡ Of (get_or s 0 0) imei (number_at s next l.time) (5 + size - start)
+                → body_as (command_body l (length s) s 0) ≡ Ok (record { kind = (get_or s 0 0); imei = imei; time = (number_at s next l.time); size = (5 + size - start) })
             unfolding pure body_as
             text-there e =
                 let room : 5 + size - start ≤ length (drop start s) = omega (arith, length-drop start s) in
                 let long : length text ≡ 5 + size - start = length-take-le _ (drop start s) room in
                 ap body_as (time-there ∙ here-got _ s start ∙ then-got (bytes _) _ s start text-got ∙ require-got _ 14 start _ s _ e)
-                ∙ ap (Of (get_or s 0 0) imei (number_at s next l.time)) long
+                ∙ ap (λ (n : ℕ). Ok (record { kind = get_or s 0 0; imei = imei; time = number_at s next l.time; size = n })) long
 
 -- where the IMEI ends
 pub imei-end : (w : ℕ) (s : List ℕ) {imei next : ℕ} → Bytes s → 5 ≤ length s → read_packed w s 5 ≡ got imei next → next ≡ 5 + w

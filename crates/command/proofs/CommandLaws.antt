@@ -1,4 +1,5 @@
 -- The judge of a command accepts exactly what keeps the rules, for every row of the table.
+use Rattle.std.specs.Prelude.{Err, Ok}
 use Prim.Native.Nat.{ℕ, ◌+◌, ◌-◌, ◌^◌, ◌≤◌, ◌<◌}
 use native.Mathlib.Omega.{arith}
 use mathlib.Core.Path.{◌≡◌, refl, sym, ap, ◌∙◌, subst}
@@ -11,7 +12,7 @@ use Rattle.wire.specs.Numbers.{Bytes, be, pick}
 use Rattle.wire.specs.Sequences.{All}
 use Rattle.wire.specs.Envelope.{codec_of, first_count, last_count, inner}
 use Rattle.wire.specs.Reading.{got, pure, here, require, number, bytes}
-use Rattle.wire.specs.Answers.{accepted, refused, refusal}
+use Rattle.wire.specs.Answers.{refusal}
 use Rattle.wire.specs.Imei.{packed, read_packed}
 use Rattle.wire.proofs.Placed.{between_join, between_split, between-moved, between-bytes, between-whole, whole-between}
 use Rattle.wire.proofs.Exactness.{Meets, meets-then, meets-next, meets-pure, meets-here, meets-require, then-got, here-got, require-got, number-exact, bytes-exact}
@@ -32,7 +33,7 @@ chosen true f g e = f refl e
 chosen false f g e = g e
 
 -- what holds of every row holds of the row that is found, and its codec is the one looked for
-found-row : (P : Layout → Type 0) (codec : ℕ) (ls : List Layout) {l : Layout} → All P ls → find_layout codec ls ≡ accepted l → (l.codec ≡ codec) × P l
+found-row : (P : Layout → Type 0) (codec : ℕ) (ls : List Layout) {l : Layout} → All P ls → find_layout codec ls ≡ Ok l → (l.codec ≡ codec) × P l
 unfolding find_layout
 found-row P codec [] h e = absurd (let z : ◌≡◌ {A = ℕ} 0 1 = cc in omega arith)
 found-row P codec (m ∷ ls) {l} h e =
@@ -64,7 +65,7 @@ type-fits l type e =
 
 -- the rows by tests of the codec
 abbrev RowOf : ℕ → Type 0
-RowOf n = layout_of n ≡ accepted (record { codec = n; mismatch = eqb n 0x0E; imei = pick (eqb n 0x0E) 8 0; time = pick (eqb n 0x0D) 4 0 })
+RowOf n = layout_of n ≡ Ok (record { codec = n; mismatch = eqb n 0x0E; imei = pick (eqb n 0x0E) 8 0; time = pick (eqb n 0x0D) 4 0 })
 
 pub row_within : (codec : ℕ) → 0x0C ≤ codec → codec ≤ 0x0E → RowOf codec
 unfolding layouts find_layout layout_of
@@ -78,13 +79,13 @@ row_within codec low high = first (eqb codec 0x0C) refl
     first true e = subst RowOf (sym (eqb-true codec 0x0C e)) refl
     first false e = second (eqb codec 0x0D) refl (eqb-false codec 0x0C e)
 
-pub row-outside : (codec : ℕ) → (0x0C ≤ codec → codec ≤ 0x0E → ⊥) → layout_of codec ≡ refused (refusal 6)
+pub row-outside : (codec : ℕ) → (0x0C ≤ codec → codec ≤ 0x0E → ⊥) → layout_of codec ≡ Err (refusal 6)
 unfolding layouts find_layout layout_of
 row-outside codec h =
     let other : (n : ℕ) → 0x0C ≤ n → n ≤ 0x0E → codec ≡ n → ⊥ = λ n low high e. h (omega (arith, low, e)) (omega (arith, high, e)) in
     simp (ne_eqb codec 0x0C (other 0x0C (lit≤ tt) (lit≤ tt)), ne_eqb codec 0x0D (other 0x0D (lit≤ tt) (lit≤ tt)), ne_eqb codec 0x0E (other 0x0E (lit≤ tt) (lit≤ tt)))
 
-module _ (codec : ℕ) {l : Layout} (row : layout_of codec ≡ accepted l) where
+module _ (codec : ℕ) {l : Layout} (row : layout_of codec ≡ Ok l) where
   pub layout-codec : l.codec ≡ codec
   unfolding layout_of
   layout-codec = (found-row (λ l. l.codec < 256) codec layouts rows_fit row).0
@@ -102,7 +103,7 @@ module _ (codec : ℕ) {l : Layout} (row : layout_of codec ≡ accepted l) where
   time-fits {time} h = (found-row (λ l. given_time l time < 256 ^ l.time) codec layouts (rows-timed h) row).1
 
   -- a codec has one row
-  pub layout-unique : {m : Layout} → layout_of codec ≡ accepted m → l ≡ m
+  pub layout-unique : {m : Layout} → layout_of codec ≡ Ok m → l ≡ m
   layout-unique other = cc
 
 -- ---- the body
@@ -125,7 +126,7 @@ mismatch-complete type text h = go (eqb type 0x11) refl
     go true e = ap (λ (t : List ℕ). eqb (length t) 0) (h (eqb-true type 0x11 e))
     go false e = refl
 
-pub body-sound : (l : Layout) (s : List ℕ) → layout_of l.codec ≡ accepted l → Bytes s
+pub body-sound : (l : Layout) (s : List ℕ) → layout_of l.codec ≡ Ok l → Bytes s
     → Meets (command_body l (length s) s 0) (λ c next. (c.codec ≡ l.codec) × CommandRules l c × (s ≡ body_bytes l c))
 unfolding command_body
 body-sound l s row h =
@@ -193,7 +194,7 @@ body-complete l c h fits =
 
 -- ---- the data field
 
-pub field-sound : (d : List ℕ) (c : Command) → Bytes d → 3 ≤ length d → read_field d ≡ accepted c → (l : Layout) × (CommandRules l c × (d ≡ command_field l c))
+pub field-sound : (d : List ℕ) (c : Command) → Bytes d → 3 ≤ length d → read_field d ≡ Ok c → (l : Layout) × (CommandRules l c × (d ≡ command_field l c))
 unfolding read_field command_field
 field-sound d c h long e =
     let found = on_accepted-accepted (layout_of (codec_of d)) _ e in
@@ -207,7 +208,7 @@ field-sound d c h long e =
     let again : last_count d ≡ 1 = eqb-true _ _ last.0 in
     (l, (body.1, enclosed-parts d h long (one ∙ sym again) ∙ (cc)))
 
-pub field-complete : (l : Layout) (c : Command) → CommandRules l c → length (command_field l c) < 256 ^ 4 → read_field (command_field l c) ≡ accepted c
+pub field-complete : (l : Layout) (c : Command) → CommandRules l c → length (command_field l c) < 256 ^ 4 → read_field (command_field l c) ≡ Ok c
 unfolding read_field command_field
 field-complete l c h fits =
     let b = body_bytes l c in

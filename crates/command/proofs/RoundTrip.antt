@@ -1,4 +1,5 @@
 -- What the writer gives is read back, and every acceptable command is what the writer writes of its own fields.
+use Rattle.std.specs.Prelude.{Ok}
 use Prim.Native.Nat.{ℕ, zero, suc, ◌+◌, ◌-◌, ◌*◌, ◌^◌, ◌≤◌, ◌<◌}
 use native.Mathlib.Omega.{arith}
 use mathlib.Core.Path.{◌≡◌, refl, sym, ap, ◌∙◌, subst}
@@ -12,7 +13,7 @@ use Rattle.wire.specs.declared.Limits.{Limits}
 use Rattle.wire.specs.Numbers.{Bytes, digits, be, pick, value_from}
 use Rattle.wire.specs.Sequences.{joined, All}
 use Rattle.wire.specs.Reading.{Read, here, require, number, repeat}
-use Rattle.wire.specs.Answers.{accepted, told, unplaced, on_accepted}
+use Rattle.wire.specs.Answers.{told, unplaced, on_accepted}
 use Rattle.wire.specs.Imei.{ascii_digit, text_digit, packed_pair, packed}
 use Rattle.wire.proofs.Widths.{bytes-append, bytes-be, length_digits, digits-small, value-digits, value-lt}
 use Rattle.wire.proofs.Enclosed.{bytes-enclosed}
@@ -51,7 +52,7 @@ digits-given (suc n) s at =
     meets-then (repeat n text_digit) _ s mid (digits-given n s mid) (λ ds next r.
     meets-pure (d ∷ ds) s next (ap suc r.0, (k, r.1))))
 
-given-range : (l : Layout) (s : List ℕ) (n : ℕ) → given_imei l s ≡ accepted n → n < 10 ^ (2 * l.imei - 1)
+given-range : (l : Layout) (s : List ℕ) (n : ℕ) → given_imei l s ≡ Ok n → n < 10 ^ (2 * l.imei - 1)
 unfolding given_imei
 given-range l s n e =
     let count = check-accepted (eqb (length s) (2 * l.imei - 1)) 15 _ _ e in
@@ -63,7 +64,7 @@ given-range l s n e =
     let size : length ds ≡ 2 * l.imei - 1 = k.0 ∙ eqb-true (length s) (2 * l.imei - 1) count.0 in
     subst (λ (x : ℕ). x < 10 ^ (2 * l.imei - 1)) value (subst (λ (w : ℕ). value_from 10 0 ds < 10 ^ w) size (value-lt 10 ds k.1))
 
-given-digits : (l : Layout) (imei : ℕ) → imei < 10 ^ (2 * l.imei - 1) → given_imei l (joined ascii_digit (digits 10 (2 * l.imei - 1) imei)) ≡ accepted imei
+given-digits : (l : Layout) (imei : ℕ) → imei < 10 ^ (2 * l.imei - 1) → given_imei l (joined ascii_digit (digits 10 (2 * l.imei - 1) imei)) ≡ Ok imei
 unfolding given_imei
 given-digits l imei h =
     let w = 2 * l.imei - 1 in
@@ -73,7 +74,7 @@ given-digits l imei h =
     check-passed (eqb (length s) w) 15 _ _ (eq-eqb (length s) w size)
     ∙ on_accepted-passed (unplaced (told 0 (repeat (length s) text_digit s 0))) _
     (unplaced-passed _ (told-got _ _ (ap (λ (n : ℕ). repeat n text_digit s 0) (length-digit_bytes ds) ∙ repeat-complete digit-exact ds s 0 (length s) (digits-small 10 w imei (lit< tt)) (between-whole s))))
-    ∙ ap accepted (value-digits 10 w imei (lit< tt) h)
+    ∙ ap Ok (value-digits 10 w imei (lit< tt) h)
 
 -- ---- bytes
 
@@ -105,7 +106,7 @@ own-time l time h = go l.time h
     go (suc w) k = let some : suc w ≡ 0 → ⊥ = λ e. omega arith in pick-false (eqb (suc w) 0) 0 time (ne_eqb (suc w) 0 some)
 
 -- where the codec has no time, the given one makes no difference
-pub time-ignored : (limits : Limits) (codec type : ℕ) (imei : List ℕ) (t u : ℕ) (text : List ℕ) {l : Layout} → layout_of codec ≡ accepted l → l.time ≡ 0
+pub time-ignored : (limits : Limits) (codec type : ℕ) (imei : List ℕ) (t u : ℕ) (text : List ℕ) {l : Layout} → layout_of codec ≡ Ok l → l.time ≡ 0
     → command_bytes limits codec type imei t text ≡ command_bytes limits codec type imei u text
 unfolding command_bytes bytes_within on_accepted
 time-ignored limits codec type imei t u text {l} row none = simp (row, eq-eqb l.time 0 none)
@@ -121,9 +122,9 @@ absent-zero l c h = (
 
 -- what is written is read, with the same codec, type, IMEI and text, and the same time where the codec has one
 pub written_read : (limits : Limits) (codec type : ℕ) (imei : List ℕ) (time : ℕ) (text p : List ℕ) → limits.largest ≤ 256 ^ 4 → time < 256 ^ 4 → Bytes text
-    → command_bytes limits codec type imei time text ≡ accepted p
-    → (l : Layout) × (n : ℕ) × (layout_of codec ≡ accepted l) × (given_imei l imei ≡ accepted n)
-    × (read_command limits p ≡ accepted (record { codec = codec; type = type; imei = n; time = given_time l time; text = text }))
+    → command_bytes limits codec type imei time text ≡ Ok p
+    → (l : Layout) × (n : ℕ) × (layout_of codec ≡ Ok l) × (given_imei l imei ≡ Ok n)
+    × (read_command limits p ≡ Ok (record { codec = codec; type = type; imei = n; time = given_time l time; text = text }))
 unfolding command_bytes bytes_within packet_of
 written_read limits codec type imei time text p limit fits h e =
     let row = on_accepted-accepted (layout_of codec) _ (check-accepted (leb 1 limits.largest) 21 _ _ e).1 in
@@ -156,7 +157,7 @@ written_read limits codec type imei time text p limit fits h e =
     )
 
 pub read-written : (limits : Limits) (c : Command) (p : List ℕ) (k : CommandPacket limits c p)
-    → command_bytes limits c.codec c.type (joined ascii_digit (digits 10 (2 * k.row.imei - 1) c.imei)) c.time c.text ≡ accepted p
+    → command_bytes limits c.codec c.type (joined ascii_digit (digits 10 (2 * k.row.imei - 1) c.imei)) c.time c.text ≡ Ok p
 unfolding command_bytes bytes_within packet_of
 read-written limits c p k =
     let l = k.row in
@@ -167,4 +168,4 @@ read-written limits c p k =
     ∙ ap (λ (t : ℕ). packet_of limits l (record { codec = c.codec; type = c.type; imei = c.imei; time = t; text = c.text })) (own-time l c.time k.rules.time_range)
     ∙ check-passed (mismatch c.type c.text) 14 _ _ (mismatch-complete c.type c.text k.rules.mismatch_empty)
     ∙ check-passed (leb (length (command_field l c) + 12) limits.largest) 14 _ _ (le-leb _ _ k.frame.most)
-    ∙ ap accepted (sym k.whole)
+    ∙ ap Ok (sym k.whole)

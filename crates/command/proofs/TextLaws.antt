@@ -1,4 +1,5 @@
 -- The text of an accepted command stands in the packet at the offset that is answered.
+use Rattle.std.specs.Prelude.{Err, Ok}
 use Prim.Native.Nat.{ℕ, ◌+◌, ◌≤◌}
 use native.Mathlib.Omega.{arith}
 use mathlib.Core.Path.{◌≡◌, refl, sym, ap, ap₂, ◌∙◌}
@@ -8,7 +9,7 @@ use Rattle.wire.specs.declared.Limits.{Limits}
 use Rattle.wire.specs.declared.Refusal.{Refusal}
 use Rattle.wire.specs.Numbers.{Bytes, digits, be}
 use Rattle.wire.specs.Envelope.{enclosed}
-use Rattle.wire.specs.Answers.{Answer, accepted, refused, on_accepted}
+use Rattle.wire.specs.Answers.{Answer, on_accepted}
 use Rattle.wire.specs.Imei.{packed}
 use Rattle.wire.proofs.Placed.{Between, between_split, between-moved, between-bytes, between_is, between-whole}
 use Rattle.wire.proofs.Accepting.{on_accepted-accepted, on_accepted-passed}
@@ -39,8 +40,8 @@ text-between l c p e =
     omega (arith, length-heading l c.imei c.time) in
     between-moved start (h₄.1.size ∙ ap (λ (n : ℕ). n + length c.text) start) h₄.1
 
-pub text-stands : (limits : Limits) (p : List ℕ) (f : CommandFields) → Bytes p → answer_command limits p ≡ accepted f
-    → (c : Command) × (read_command limits p ≡ accepted c) × (take f.size (drop f.offset p) ≡ c.text) × (f.offset + f.size ≤ length p)
+pub text-stands : (limits : Limits) (p : List ℕ) (f : CommandFields) → Bytes p → answer_command limits p ≡ Ok f
+    → (c : Command) × (read_command limits p ≡ Ok c) × (take f.size (drop f.offset p) ≡ c.text) × (f.offset + f.size ≤ length p)
 unfolding answer_command answered
 text-stands limits p f h e =
     let read = on_accepted-accepted (read_command limits p) _ e in
@@ -56,13 +57,13 @@ text-stands limits p f h e =
     (c, read.1, ap₂ (λ (n at : ℕ). take n (drop at p)) (sym size) (sym offset) ∙ between_is text, omega (arith, text.inside))
 
 -- a refusal of two steps of which the second never refuses is one of the first
-first-refused : {A B : Type 0} (r : Answer A) (f : A → Answer B) {x : Refusal} → ((a : A) → r ≡ accepted a → (b : B) × (f a ≡ accepted b)) → on_accepted r f ≡ refused x → r ≡ refused x
+first-refused : {A B : Type 0} (r : Answer A) (f : A → Answer B) {x : Refusal} → ((a : A) → r ≡ Ok a → (b : B) × (f a ≡ Ok b)) → on_accepted r f ≡ Err x → r ≡ Err x
 unfolding on_accepted
-first-refused (accepted a) f h e = absurd (let k = h a refl in let z : ◌≡◌ {A = ℕ} 0 1 = cc in omega arith)
-first-refused (refused y) f h e = ap refused (cc)
+first-refused (Ok a) f h e = absurd (let k = h a refl in let z : ◌≡◌ {A = ℕ} 0 1 = cc in omega arith)
+first-refused (Err y) f h e = ap Err (cc)
 
 -- a refusal is the reader's own
-pub command-refused : (limits : Limits) (p : List ℕ) {x : Refusal} → Bytes p → answer_command limits p ≡ refused x → read_command limits p ≡ refused x
+pub command-refused : (limits : Limits) (p : List ℕ) {x : Refusal} → Bytes p → answer_command limits p ≡ Err x → read_command limits p ≡ Err x
 unfolding answer_command answered
 command-refused limits p h e =
     first-refused (read_command limits p) _ (λ c r.
@@ -70,6 +71,6 @@ command-refused limits p h e =
     (_, on_accepted-passed (layout_of c.codec) _ k.rules.layout)) e
 
 -- a refused packet has no text
-pub text-refused : (limits : Limits) (p : List ℕ) {x : Refusal} → Bytes p → answer_command limits p ≡ refused x → text_view (read_command limits p) ≡ []
+pub text-refused : (limits : Limits) (p : List ℕ) {x : Refusal} → Bytes p → answer_command limits p ≡ Err x → text_view (read_command limits p) ≡ []
 unfolding text_view
 text-refused limits p h e = ap text_view (command-refused limits p h e)

@@ -1,4 +1,5 @@
 -- A command packet written block by block: the body, the data field, the frame around it.
+use Rattle.std.specs.Prelude.{Ok}
 use Prim.Native.Nat.{ℕ, zero, suc, ◌+◌, ◌-◌, ◌*◌, ◌/◌, ◌%◌, ◌≤◌, ◌<◌}
 use native.Mathlib.Nat.{not-suc-le-zero}
 use native.Mathlib.Omega.{arith}
@@ -9,7 +10,7 @@ use lib.Seq.{sets, length-sets, take_at}
 use Rattle.wire.specs.Numbers.{digits, be, value_from}
 use Rattle.wire.specs.Sequences.{joined}
 use Rattle.wire.specs.Reading.{Read, got, bad, Reader, and_then, ◌>>=◌, pure, repeat}
-use Rattle.wire.specs.Answers.{accepted, told, unplaced, on_accepted}
+use Rattle.wire.specs.Answers.{told, unplaced, on_accepted}
 use Rattle.wire.specs.Envelope.{enclosed}
 use Rattle.wire.specs.Imei.{packed_pair, packed}
 use Rattle.wire.proofs.BufferLaws.{sets-front}
@@ -43,11 +44,11 @@ packed-left l at (suc w) n h =
 
 -- the number of the digits, read in one walk
 pub told-value : (base n : ℕ) (m : Reader ℕ) (s : List ℕ) (at : ℕ)
-    → unplaced (told 0 ((repeat n m >>= λ ds. pure (value_from base 0 ds)) s at)) ≡ on_accepted (unplaced (told 0 (repeat n m s at))) (λ ds. accepted (value_from base 0 ds))
+    → unplaced (told 0 ((repeat n m >>= λ ds. pure (value_from base 0 ds)) s at)) ≡ on_accepted (unplaced (told 0 (repeat n m s at))) (λ ds. Ok (value_from base 0 ds))
 unfolding ◌>>=◌ and_then pure told unplaced on_accepted
 told-value base n m s at = go (repeat n m s at)
   where
-    go : (r : Read (List ℕ)) → unplaced (told 0 (and_then r (λ ds next. pure (value_from base 0 ds) s next))) ≡ on_accepted (unplaced (told 0 r)) (λ ds. accepted (value_from base 0 ds))
+    go : (r : Read (List ℕ)) → unplaced (told 0 (and_then r (λ ds next. pure (value_from base 0 ds) s next))) ≡ on_accepted (unplaced (told 0 r)) (λ ds. Ok (value_from base 0 ds))
     go (got ds next) = refl
     go (bad x) = refl
 

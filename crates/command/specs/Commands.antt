@@ -1,18 +1,16 @@
 -- Command packets: codec, quantity 1, type, size, IMEI (codec 14), time (codec 13, the papers' timestamp), text, quantity 1.
-use Rattle.std.specs.Prelude.{ℕ, ◌+◌, ◌-◌, ◌*◌, ◌^◌, ◌<◌, ◌≡◌, Bool, true, List, [], ◌∷◌, length, eqb, leb}
+use Rattle.std.specs.Prelude.{Err, Ok, ℕ, ◌+◌, ◌-◌, ◌*◌, ◌^◌, ◌<◌, ◌≡◌, Bool, true, List, [], ◌∷◌, length, eqb, leb}
 use Rattle.wire.specs.declared.Limits.{Limits}
 use Rattle.wire.specs.Numbers.{Bytes, be, pick}
 use Rattle.wire.specs.Sequences.{fields}
 use Rattle.wire.specs.Envelope.{enclosed, codec_of, first_count, last_count, inner}
 use Rattle.wire.specs.Reading.{Reader, ◌>>=◌, ◌>>◌, pure, here, require, number, bytes}
-use Rattle.wire.specs.Answers.{Answer, accepted, refused, check_at, from, told, on_accepted}
+use Rattle.wire.specs.Answers.{Answer, check_at, from, told, on_accepted}
 use Rattle.wire.specs.Imei.{packed, read_packed}
 use Rattle.frame.specs.Frame.{framed, FrameRules, unframe}
 use Rattle.command.specs.Layouts.{types, layout_of, heading, member}
 use Rattle.command.specs.declared.Layout.{Layout}
 use Rattle.command.specs.declared.CommandFields.{CommandFields}
-use Rattle.command.specs.declared.CommandAnswer.{CommandAnswer}
-use Rattle.command.specs.declared.CommandAnswer.TheVariants.{Accepted, Refused}
 
 pub record Command : Type 0 where
   pub codec : ℕ
@@ -31,7 +29,7 @@ unfoldable pub command_field : Layout → Command → List ℕ
 command_field l c = enclosed c.codec 1 (body_bytes l c)
 
 pub record CommandRules (l : Layout) (c : Command) : Type 0 where
-  pub layout : layout_of c.codec ≡ accepted l
+  pub layout : layout_of c.codec ≡ Ok l
   pub type_allowed : member c.type (types l) ≡ true
   pub imei_range : c.imei < 10 ^ (2 * l.imei - 1)
   pub time_range : c.time < 256 ^ l.time
@@ -87,23 +85,19 @@ unfoldable pub answered : Answer Command → Answer CommandFields
 answered r =
     on_accepted r
     (λ c. on_accepted (layout_of c.codec)
-    (λ l. accepted (record { codec = c.codec; kind = c.type; imei = c.imei; time = c.time; offset = 15 + heading l; size = length c.text })))
+    (λ l. Ok (record { codec = c.codec; kind = c.type; imei = c.imei; time = c.time; offset = 15 + heading l; size = length c.text })))
 
 unfoldable pub answer_command : Limits → List ℕ → Answer CommandFields
 answer_command limits p = answered (read_command limits p)
 
 -- the view of the text, empty on every refusal
 unfoldable pub text_view : Answer Command → List ℕ
-text_view (accepted c) = c.text
-text_view (refused r) = []
+text_view (Ok c) = c.text
+text_view (Err r) = []
 
 -- where it begins, counted from the input's start: with its text; an empty one with the input
 unfoldable pub text_offset : Answer CommandFields → ℕ
-text_offset (accepted f) = f.offset
-text_offset (refused r) = 0
+text_offset (Ok f) = f.offset
+text_offset (Err r) = 0
 
 -- ---- what the code's answer says
-
-unfoldable pub command_as : CommandAnswer → Answer CommandFields
-command_as (Accepted f) = accepted f
-command_as (Refused r) = refused r

@@ -1,10 +1,8 @@
 -- The command codecs: one row for each.
-use Rattle.std.specs.Prelude.{ℕ, ◌+◌, ◌≤◌, Bool, true, false, List, [], ◌∷◌, get_or, eqb}
+use Rattle.std.specs.Prelude.{Err, None, Ok, Option, Some, ℕ, ◌+◌, ◌≤◌, Bool, true, false, List, [], ◌∷◌, get_or, eqb}
 use Rattle.command.specs.declared.Layout.{Layout}
-use Rattle.command.specs.declared.Row.{Row}
-use Rattle.command.specs.declared.Row.TheVariants.{Of, Unknown}
 use Rattle.wire.specs.Numbers.{pick}
-use Rattle.wire.specs.Answers.{Answer, accepted, refused, refusal, is_accepted}
+use Rattle.wire.specs.Answers.{Answer, refusal, is_accepted}
 
 -- the message types of a row: 05 command, 06 response and, where it has it, 11 (the IMEI does not match)
 unfoldable pub types : Layout → List ℕ
@@ -27,8 +25,8 @@ Narrow l = (l.imei ≤ 8) × (l.time ≤ 4)
 
 -- the first row with this codec, else 6
 unfoldable pub find_layout : ℕ → List Layout → Answer Layout
-find_layout codec [] = refused (refusal 6)
-find_layout codec (l ∷ ls) = pick (eqb codec l.codec) (accepted l) (find_layout codec ls)
+find_layout codec [] = Err (refusal 6)
+find_layout codec (l ∷ ls) = pick (eqb codec l.codec) (Ok l) (find_layout codec ls)
 
 unfoldable pub layout_of : ℕ → Answer Layout
 layout_of codec = find_layout codec layouts
@@ -42,6 +40,6 @@ member x [] = false
 member x (y ∷ l) = pick (eqb x y) true (member x l)
 
 -- what the code's answer says: no row is 6
-unfoldable pub row_as : Row → Answer Layout
-row_as (Of l) = accepted l
-row_as Unknown = refused (refusal 6)
+unfoldable pub row_as : Option Layout → Answer Layout
+row_as (Some l) = Ok l
+row_as None = Err (refusal 6)

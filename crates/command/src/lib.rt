@@ -1,22 +1,21 @@
 // Command packets of codecs 12, 13 and 14: read and written.
 #![tactic(auto)]
 
-ghost use Rattle.std.specs.Prelude.{◌≡◌, ℕ, ◌+◌, ◌-◌, ◌*◌, ◌≤◌, eqb, length};
+ghost use Rattle.std.specs.Prelude.{◌≡◌, ℕ, ◌+◌, ◌-◌, ◌*◌, ◌≤◌, eqb, length, Ok};
 ghost use Rattle.std.proofs.lemmas.List.Edits.{sets};
-ghost use Rattle.wire.specs.Answers.{accepted, from};
+ghost use Rattle.wire.specs.Answers.{from, told};
 ghost use Rattle.wire.specs.Numbers.{number_at, pick, value_from};
 ghost use Rattle.wire.specs.Reading.{◌>>=◌ as bind, pure, repeat};
-ghost use Rattle.wire.specs.Buffers.{writing, leaving, written_as};
-ghost use Rattle.wire.specs.Imei.{packed, text_digit, imei_of};
+ghost use Rattle.wire.specs.Buffers.{writing, leaving};
+ghost use Rattle.wire.specs.Imei.{packed, text_digit};
 ghost use Rattle.command.specs.Layouts.{layout_of, row_as, is_command, heading, Narrow, types, member};
-ghost use Rattle.command.specs.Commands.{body_bytes, command_field, mismatch, command_body, read_field, read_command, answer_command, text_view, text_offset, command_as, answered};
+ghost use Rattle.command.specs.Commands.{body_bytes, command_field, mismatch, command_body, read_field, read_command, answer_command, text_view, text_offset, answered};
 ghost use Rattle.command.specs.Writing.{given_imei, given_time, bytes_within, command_bytes};
 ghost use Rattle.wire.specs.Limits.{limits_of};
 ghost use Rattle.wire.specs.Places.{behind};
-ghost use Rattle.command.specs.Walks.{body_as, given_as, planned};
+ghost use Rattle.command.specs.Walks.{body_as, planned};
 
-use frame::Framed;
-use wire::{Decimal, Limits, Refusal, Written};
+use wire::{Limits, Refusal};
 
 // A row of the table of command layouts: the codec, whether it has type 11 besides 05 and 06, and how many bytes of IMEI and of time stand before the text.
 #[derive(Clone, Copy)]
@@ -25,12 +24,6 @@ pub struct Layout {
     pub mismatch: bool,
     pub imei: usize,
     pub time: usize,
-}
-
-#[derive(Clone, Copy)]
-pub enum Row {
-    Of(Layout),
-    Unknown,
 }
 
 // A command's codec, type, IMEI (0 but in codec 14), time (0 but in codec 13), and its text's offset from the input's start and length. Words first: they stand where a refusal's words do, and bytes there would be read as a word just after they were written, which stalls.
@@ -44,12 +37,6 @@ pub struct CommandFields {
     pub kind: u8,
 }
 
-#[derive(Clone, Copy)]
-pub enum CommandAnswer {
-    Accepted(CommandFields),
-    Refused(Refusal),
-}
-
 // So many bytes in one codec, none in the others.
 fn width_in(codec: u8, one: u8, width: usize) -> usize
     ensures { result ≡ pick (eqb codec one) width 0 }
@@ -58,21 +45,18 @@ fn width_in(codec: u8, one: u8, width: usize) -> usize
 }
 
 // The table: codecs 12 to 14. By tests of the codec: behind one of them the compiler knows the widths.
-pub fn layout_of(codec: u8) -> Row
+pub fn layout_of(codec: u8) -> Option<Layout>
     ensures { row_as result ≡ layout_of codec }
 {
-    if codec < 0x0C {
-        return Row::Unknown;
+    match codec {
+        0x0C..=0x0E => Some(Layout {
+            codec,
+            mismatch: codec == 0x0E,
+            imei: width_in(codec, 0x0E, 8),
+            time: width_in(codec, 0x0D, 4),
+        }),
+        _ => None,
     }
-    if 0x0E < codec {
-        return Row::Unknown;
-    }
-    Row::Of(Layout {
-        codec,
-        mismatch: codec == 0x0E,
-        imei: width_in(codec, 0x0E, 8),
-        time: width_in(codec, 0x0D, 4),
-    })
 }
 
 // A packet of one of these codecs.
@@ -82,36 +66,25 @@ pub fn is_command(p: &[u8]) -> bool
     if p.len() <= 8 {
         return false;
     }
-    match layout_of(p[8]) {
-        Row::Of(_) => true,
-        Row::Unknown => false,
-    }
+    layout_of(p[8]).is_some()
 }
 
 // The message types of a row: 05, 06 and, where it has it, 11.
 fn allows(l: Layout, kind: u8) -> bool
     ensures { result ≡ member kind (types l) }
 {
-    if kind == 0x05 {
-        return true;
+    match kind {
+        0x05 | 0x06 => true,
+        0x11 => l.mismatch,
+        _ => false,
     }
-    if kind == 0x06 {
-        return true;
-    }
-    if kind == 0x11 {
-        return l.mismatch;
-    }
-    false
 }
 
 // Type 11 has no text.
 fn allows_text(kind: u8, text: &[u8]) -> bool
     ensures { result ≡ mismatch kind text.now }
 {
-    if kind == 0x11 {
-        return text.len() == 0;
-    }
-    true
+    kind != 0x11 || text.is_empty()
 }
 
 // The time: a number of `w` bytes, 0 where there are none.
@@ -122,117 +95,101 @@ fn read_time(s: &[u8], at: usize, w: usize) -> u32
     wire::number(s, at, w) as u32
 }
 
-// What stands between the quantities: the type, the IMEI, the time and how long the text is, or why the walk stopped.
+// What stands between the quantities: the type, the IMEI, the time and how long the text is.
 #[derive(Clone, Copy)]
-pub enum BodyWalk {
-    Of(u8, u64, u32, usize),
-    Stopped(Refusal),
+pub struct Body {
+    pub kind: u8,
+    pub imei: u64,
+    pub time: u32,
+    pub size: usize,
 }
 
-fn stopped(number: usize, place: usize) -> BodyWalk
-    ensures { result ≡ BodyWalk.Stopped (record { number = number; index = 0; place = place }) }
-{
-    BodyWalk::Stopped(Refusal {
-        number,
-        index: 0,
-        place,
-    })
-}
-
-fn read_body(l: Layout, s: &[u8]) -> BodyWalk
+fn read_body(l: Layout, s: &[u8]) -> Result<Body, Refusal>
     requires { Narrow l }
     ensures { result ≡ body_as (command_body l (length s.now) s.now 0) }
 {
     if s.len() < 1 {
-        return stopped(8, 0);
+        return Err(Refusal::at(8, 0));
     }
     let kind = s[0];
     if !allows(l, kind) {
-        return stopped(13, 0);
+        return Err(Refusal::at(13, 0));
     }
     if s.len() < 5 {
-        return stopped(8, 1);
+        return Err(Refusal::at(8, 1));
     }
     let size = wire::be32(s, 1) as usize;
     let end = 5 + size;
     if end != s.len() {
-        return stopped(14, 1);
+        return Err(Refusal::at(14, 1));
     }
     if size < l.imei + l.time {
-        return stopped(14, 1);
+        return Err(Refusal::at(14, 1));
     }
-    match wire::read_packed(s, 5, l.imei) {
-        Decimal::Of(imei, at) => {
-            let time = read_time(s, at, l.time);
-            let start = at + l.time;
-            if !allows_text(kind, &s[start..end]) {
-                return stopped(14, start);
-            }
-            BodyWalk::Of(kind, imei, time, end - start)
-        }
-        Decimal::Unread(x) => BodyWalk::Stopped(x),
+    let (imei, at) = wire::read_packed(s, 5, l.imei)?;
+    let time = read_time(s, at, l.time);
+    let start = at + l.time;
+    if !allows_text(kind, &s[start..end]) {
+        return Err(Refusal::at(14, start));
     }
-}
-
-fn refused(number: usize, place: usize) -> CommandAnswer
-    ensures { result ≡ CommandAnswer.Refused (record { number = number; index = 0; place = place }) }
-{
-    CommandAnswer::Refused(Refusal {
-        number,
-        index: 0,
-        place,
+    Ok(Body {
+        kind,
+        imei,
+        time,
+        size: end - start,
     })
 }
 
 // The data field, which starts at 8 in the packet. The text ends where the second quantity stands.
-fn read_field(d: &[u8]) -> CommandAnswer
+fn read_field(d: &[u8]) -> Result<CommandFields, Refusal>
     requires { 3 ≤ length d.now }
-    ensures { command_as result ≡ answered (from 8 (read_field d.now)) }
+    ensures { result ≡ answered (from 8 (read_field d.now)) }
 {
     let codec = d[0];
-    match layout_of(codec) {
-        Row::Unknown => refused(6, 8),
-        Row::Of(l) => {
-            if d[1] != 1 {
-                return refused(7, 9);
-            }
-            let last = d.len() - 1;
-            if d[last] != 1 {
-                return refused(7, 8 + last);
-            }
-            match read_body(l, &d[2..last]) {
-                BodyWalk::Of(kind, imei, time, size) => CommandAnswer::Accepted(CommandFields {
-                    codec,
-                    kind,
-                    imei,
-                    time,
-                    offset: 8 + (last - size),
-                    size,
-                }),
-                BodyWalk::Stopped(x) => CommandAnswer::Refused(Refusal {
-                    number: x.number,
-                    index: x.index,
-                    place: 8 + (2 + x.place),
-                }),
-            }
-        }
+    let Some(l) = layout_of(codec) else {
+        return Err(Refusal::at(6, 8));
+    };
+    if d[1] != 1 {
+        return Err(Refusal::at(7, 9));
+    }
+    let last = d.len() - 1;
+    if d[last] != 1 {
+        return Err(Refusal::at(7, 8 + last));
+    }
+    match read_body(l, &d[2..last]) {
+        Ok(
+            Body {
+                kind,
+                imei,
+                time,
+                size,
+            },
+        ) => Ok(CommandFields {
+            codec,
+            kind,
+            imei,
+            time,
+            offset: 8 + (last - size),
+            size,
+        }),
+        Err(x) => Err(Refusal {
+            number: x.number,
+            index: x.index,
+            place: 8 + (2 + x.place),
+        }),
     }
 }
 
-pub fn judge_command(limits: Limits, p: &[u8]) -> CommandAnswer
-    ensures { command_as result ≡ answer_command limits p.now }
+pub fn judge_command(limits: Limits, p: &[u8]) -> Result<CommandFields, Refusal>
+    ensures { result ≡ answer_command limits p.now }
 {
-    match frame::unframed(limits.largest, p) {
-        Framed::Unframed(number) => CommandAnswer::Refused(frame::refusal_of(p.len(), number)),
-        Framed::Field(n) => {
-            let end = 8 + n;
-            read_field(&p[8..end])
-        }
-    }
+    let size = frame::unframed(limits.largest, p)?;
+    let end = 8 + size;
+    read_field(&p[8..end])
 }
 
-pub fn read_command(family: usize, p: &[u8]) -> CommandAnswer
-    ensures { command_as result ≡ answer_command (limits_of family) p.now }
+pub fn read_command(family: usize, p: &[u8]) -> Result<CommandFields, Refusal>
+    ensures { result ≡ answer_command (limits_of family) p.now }
 {
     judge_command(wire::limits_of(family), p)
 }
@@ -243,30 +200,13 @@ pub fn command_text(family: usize, p: &[u8]) -> &[u8]
     ensures place { result.ref_ptr ≡ behind p.entry.ref_ptr (text_offset (answer_command (limits_of family) p.now)) }
 {
     match read_command(family, p) {
-        CommandAnswer::Accepted(f) => {
+        Ok(f) => {
             let start = f.offset;
             let end = start + f.size;
             &p[start..end]
         }
-        CommandAnswer::Refused(_) => &p[0..0],
+        Err(_) => &p[0..0],
     }
-}
-
-// The IMEI of a packet to be written, or why it is not.
-#[derive(Clone, Copy)]
-pub enum Given {
-    Imei(u64),
-    Refused(Refusal),
-}
-
-fn not_given(number: usize) -> Given
-    ensures { result ≡ Given.Refused (record { number = number; index = 0; place = 0 }) }
-{
-    Given::Refused(Refusal {
-        number,
-        index: 0,
-        place: 0,
-    })
 }
 
 // How many digits stand in `w` bytes; the first of all is 0 and is not given.
@@ -274,37 +214,31 @@ fn digit_count(w: usize) -> usize
     requires { w ≤ 8 }
     ensures { result ≡ 2 * w - 1 }
 {
-    if w == 0 {
-        return 0;
-    }
-    2 * w - 1
+    (2 * w).saturating_sub(1)
 }
 
 // The number that at most 15 digits give. Fifteen by themselves: a count that is known compiles to no loop.
-fn digits_of(s: &[u8]) -> u64
+fn digits_of(s: &[u8]) -> Result<u64, Refusal>
     requires { length s.now ≤ 15 }
-    ensures { imei_of 0 (length s.now) result ≡ bind (repeat (length s.now) text_digit) (λ ds. pure (value_from 10 0 ds)) s.now 0 }
+    ensures { result ≡ told 0 (bind (repeat (length s.now) text_digit) (λ ds. pure (value_from 10 0 ds)) s.now 0) }
 {
-    let n = s.len();
-    if n == 15 {
-        return wire::text_number(15, s, 0, 0);
+    match s.len() {
+        15 => wire::text_number(15, s, 0),
+        n => wire::text_number(n, s, 0),
     }
-    wire::text_number(n, s, 0, 0)
 }
 
-fn given_imei(l: Layout, s: &[u8]) -> Given
+fn given_imei(l: Layout, s: &[u8]) -> Result<u64, Refusal>
     requires { l.imei ≤ 8 }
-    ensures { given_as result ≡ given_imei l s.now }
+    ensures { result ≡ given_imei l s.now }
 {
-    let n = s.len();
-    if n != digit_count(l.imei) {
-        return not_given(15);
+    if s.len() != digit_count(l.imei) {
+        return Err(Refusal::of(15));
     }
-    let imei = digits_of(s);
-    if imei < wire::NO_IMEI {
-        return Given::Imei(imei);
+    match digits_of(s) {
+        Ok(imei) => Ok(imei),
+        Err(r) => Err(Refusal::of(r.number)),
     }
-    not_given(15)
 }
 
 // The time as the caller gives it, ignored where the codec has none.
@@ -326,26 +260,22 @@ fn field_size(l: Layout, text: &[u8]) -> usize
 }
 
 // Decides everything before a byte is written.
-fn plan(limits: Limits, l: Layout, kind: u8, imei: &[u8], text: &[u8]) -> Given
-    requires { layout_of l.codec ≡ accepted l }
+fn plan(limits: Limits, l: Layout, kind: u8, imei: &[u8], text: &[u8]) -> Result<u64, Refusal>
+    requires { layout_of l.codec ≡ Ok l }
     ensures { (time : ℕ) → planned l kind time text.now result ≡ bytes_within limits l.codec kind imei.now time text.now }
 {
     if !allows(l, kind) {
-        return not_given(13);
+        return Err(Refusal::of(13));
     }
-    match given_imei(l, imei) {
-        Given::Imei(n) => {
-            if !allows_text(kind, text) {
-                return not_given(14);
-            }
-            let whole = field_size(l, text) + 12;
-            if limits.largest < whole {
-                return not_given(14);
-            }
-            Given::Imei(n)
-        }
-        Given::Refused(r) => Given::Refused(r),
+    let n = given_imei(l, imei)?;
+    if !allows_text(kind, text) {
+        return Err(Refusal::of(14));
     }
+    let whole = field_size(l, text) + 12;
+    if limits.largest < whole {
+        return Err(Refusal::of(14));
+    }
+    Ok(n)
 }
 
 // An IMEI in `w` bytes, two digits a byte, the higher first.
@@ -354,12 +284,10 @@ fn put_packed(out: &mut [u8], at: usize, w: usize, imei: u64)
     ensures { out.new ≡ sets out.old at (packed w imei) }
 {
     let mut rest = imei;
-    let mut left = w;
-    while 0 < left {
-        left -= 1;
+    for i in (0..w).rev() {
         let d = rest % 100;
-        out[at + left] = (d / 10 * 16 + d % 10) as u8;
-        rest = rest / 100;
+        out[at + i] = (d / 10 * 16 + d % 10) as u8;
+        rest /= 100;
     }
 }
 
@@ -391,30 +319,27 @@ fn put_field(out: &mut [u8], l: Layout, kind: u8, imei: u64, time: u32, text: &[
     wire::put_be(out, last, 1, 1);
 }
 
-fn not_written(number: usize) -> Written
-    ensures { result ≡ Written.Refused (record { number = number; index = 0; place = 0 }) }
-{
-    Written::Refused(Refusal {
-        number,
-        index: 0,
-        place: 0,
-    })
-}
-
 // The field, then the frame around it.
-fn write_planned(l: Layout, kind: u8, imei: u64, time: u32, text: &[u8], out: &mut [u8]) -> Written
+fn write_planned(
+    l: Layout,
+    kind: u8,
+    imei: u64,
+    time: u32,
+    text: &[u8],
+    out: &mut [u8],
+) -> Result<usize, Refusal>
     requires { Narrow l }
-    ensures result_value { written_as result ≡ writing (planned l kind time text.now (Given.Imei imei)) out.old }
-    ensures out_after { out.new ≡ leaving (planned l kind time text.now (Given.Imei imei)) out.old }
+    ensures result_value { result ≡ writing (planned l kind time text.now (Ok imei)) out.old }
+    ensures out_after { out.new ≡ leaving (planned l kind time text.now (Ok imei)) out.old }
 {
     let size = field_size(l, text);
     let whole = size + 12;
     if out.len() < whole {
-        return not_written(18);
+        return Err(Refusal::of(18));
     }
     put_field(out, l, kind, imei, given_time(l, time), text);
     frame::put_frame(out, size);
-    Written::Bytes(whole)
+    Ok(whole)
 }
 
 // Writes the packet to the start of `out`, within limits.
@@ -426,17 +351,15 @@ fn write_within(
     time: u32,
     text: &[u8],
     out: &mut [u8],
-) -> Written
-    ensures result_value { written_as result ≡ writing (bytes_within limits codec kind imei.now time text.now) out.old }
+) -> Result<usize, Refusal>
+    ensures result_value { result ≡ writing (bytes_within limits codec kind imei.now time text.now) out.old }
     ensures out_after { out.new ≡ leaving (bytes_within limits codec kind imei.now time text.now) out.old }
 {
-    match layout_of(codec) {
-        Row::Unknown => not_written(6),
-        Row::Of(l) => match plan(limits, l, kind, imei, text) {
-            Given::Imei(n) => write_planned(l, kind, n, time, text, out),
-            Given::Refused(r) => Written::Refused(r),
-        },
-    }
+    let Some(l) = layout_of(codec) else {
+        return Err(Refusal::of(6));
+    };
+    let n = plan(limits, l, kind, imei, text)?;
+    write_planned(l, kind, n, time, text, out)
 }
 
 // Writes the packet to the start of `out`; a refusal changes no byte.
@@ -448,13 +371,13 @@ pub fn write_command(
     time: u32,
     text: &[u8],
     out: &mut [u8],
-) -> Written
-    ensures result_value { written_as result ≡ writing (command_bytes (limits_of family) codec kind imei.now time text.now) out.old }
+) -> Result<usize, Refusal>
+    ensures result_value { result ≡ writing (command_bytes (limits_of family) codec kind imei.now time text.now) out.old }
     ensures out_after { out.new ≡ leaving (command_bytes (limits_of family) codec kind imei.now time text.now) out.old }
 {
     let limits = wire::limits_of(family);
     if limits.largest < 1 {
-        return not_written(21);
+        return Err(Refusal::of(21));
     }
     write_within(limits, codec, kind, imei, time, text, out)
 }

@@ -1,4 +1,5 @@
 -- A feed by whether the connection is open, and whether the lent buffer is long enough.
+use Rattle.std.specs.Prelude.{Err, Ok}
 use Prim.Native.Nat.{ℕ, ◌≤◌, ◌<◌}
 use native.Mathlib.Omega.{arith}
 use mathlib.Core.Path.{◌≡◌, refl, sym, ap, ◌∙◌, subst}
@@ -8,7 +9,7 @@ use lib.Seq.{length-take-le}
 use borrow.Author.Tests.{le-leb, lt-leb}
 use Rattle.wire.specs.declared.Limits.{Limits}
 use Rattle.wire.specs.declared.Refusal.{Refusal}
-use Rattle.wire.specs.Answers.{Answer, accepted, refused, refusal}
+use Rattle.wire.specs.Answers.{Answer, refusal}
 use Rattle.wire.specs.Buffers.{leaving}
 use Rattle.wire.proofs.Accepting.{check-passed, check-failed, on_accepted-passed, on_accepted-refused}
 use Rattle.wire.proofs.BufferLaws.{leaving-done}
@@ -25,29 +26,29 @@ use Rattle.connection.proofs.JudgeLaws.{judged-itself}
 
 -- what is given, by the outcome
 pub by-outcome : {o u : Outcome} (before : List ℕ) {r : Lent} {held out : List ℕ} → o ≡ u → Gives u before r held out
-    → (r ≡ lent_as o) × ((held ≡ o.state.held) × (out ≡ leaving (accepted (packet_in o.told)) before))
+    → (r ≡ lent_as o) × ((held ≡ o.state.held) × (out ≡ leaving (Ok (packet_in o.told)) before))
 by-outcome before {r} {held} {out} e g = let k = subst (λ (x : Outcome). Gives x before r held out) (sym e) g in (k.answer, (k.state, k.buffer))
 
 module _ (limits : Limits) (room : ℕ) (c : Gathered) (s : List ℕ) where
-  pub unopened : {r : Refusal} → opened limits room c ≡ refused r → fed limits room c s ≡ record { state = c; used = 0; told = settled (refusing r) }
+  pub unopened : {r : Refusal} → opened limits room c ≡ Err r → fed limits room c s ≡ record { state = c; used = 0; told = settled (refusing r) }
   unfolding fed feeding
   unopened e = ap (feeding limits room c s) e
 
-  pub open-fed : {h : List ℕ} → opened limits room c ≡ accepted h → fed limits room c s ≡ outcome room (taken limits (phase_of c.phase) h s)
+  pub open-fed : {h : List ℕ} → opened limits room c ≡ Ok h → fed limits room c s ≡ outcome room (taken limits (phase_of c.phase) h s)
   unfolding fed feeding
   open-fed e = ap (feeding limits room c s) e
 
   module _ (out : List ℕ) where
-    pub shut-into : {r : Refusal} → opened limits room c ≡ refused r → fed_into limits room c s out ≡ record { state = c; used = 0; told = settled (refusing r) }
+    pub shut-into : {r : Refusal} → opened limits room c ≡ Err r → fed_into limits room c s out ≡ record { state = c; used = 0; told = settled (refusing r) }
     unfolding fed_into feeding
     shut-into e = ap (feeding limits room c s) (on_accepted-refused (opened limits room c) _ e)
 
-    pub tight-into : {h : List ℕ} → opened limits room c ≡ accepted h → length out < limits.largest
+    pub tight-into : {h : List ℕ} → opened limits room c ≡ Ok h → length out < limits.largest
         → fed_into limits room c s out ≡ record { state = c; used = 0; told = settled (refusing (refusal 18)) }
     unfolding fed_into feeding
     tight-into e h = ap (feeding limits room c s) (on_accepted-passed (opened limits room c) _ e ∙ check-failed _ 18 _ _ (lt-leb _ _ h))
 
-    pub open-into : {h : List ℕ} → opened limits room c ≡ accepted h → limits.largest ≤ length out
+    pub open-into : {h : List ℕ} → opened limits room c ≡ Ok h → limits.largest ≤ length out
         → fed_into limits room c s out ≡ outcome room (taken limits (phase_of c.phase) h s)
     unfolding fed_into feeding
     open-into e h = ap (feeding limits room c s) (on_accepted-passed (opened limits room c) _ e ∙ check-passed _ 18 _ _ (le-leb _ _ h))
@@ -69,13 +70,13 @@ unfolding judged item_of packet_in
 packet-within limits for_login p = go (read_login p)
   where
     go : (r : Answer ℕ) → length (packet_in (settled (item_of login r))) ≤ length p
-    go (accepted imei) = omega arith
-    go (refused x) = omega arith
+    go (Ok imei) = omega arith
+    go (Err x) = omega arith
 packet-within limits for_packet p = go (judged_packet limits p) refl
   where
     go : (r : Answer (List ℕ)) → judged_packet limits p ≡ r → length (packet_in (settled (item_of packet r))) ≤ length p
-    go (accepted g) e = omega (arith, ap length (judged-itself limits p e))
-    go (refused x) e = omega arith
+    go (Ok g) e = omega (arith, ap length (judged-itself limits p e))
+    go (Err x) e = omega arith
 
 -- what a feed tells, where more was needed before
 module _ (limits : Limits) (room : ℕ) (small : 17 ≤ room) (large : limits.largest ≤ room) (phase : Phase) (held s : List ℕ) (waits : verdict limits phase held ≡ more) where
@@ -90,7 +91,7 @@ module _ (limits : Limits) (room : ℕ) (small : 17 ≤ room) (large : limits.la
       (omega arith)
 
 -- zeros behind what is written at the start of zeros
-leaving-zeros : (room : ℕ) (p : List ℕ) → length p ≤ room → leaving (accepted p) (zeros room) ≡ padded room p
+leaving-zeros : (room : ℕ) (p : List ℕ) → length p ≤ room → leaving (Ok p) (zeros room) ≡ padded room p
 unfolding padded
 leaving-zeros room p h = leaving-done p (zeros room) (omega (arith, length-zeros room)) ∙ ap (λ (l : List ℕ). p ++ l) (drop-zeros (length p) room)
 
@@ -103,13 +104,13 @@ fed-fits limits room c s small large =
 
 -- the state by value, from what a lent one gives
 pub fed-value : (family : ℕ) (limits : Limits) (room : ℕ) (c : Gathered) (s out held p : List ℕ) (r : Lent) → 17 ≤ room → limits.largest ≤ room → out ≡ zeros room
-    → let o = fed_into limits room c s out in r ≡ lent_as o → held ≡ o.state.held → p ≡ leaving (accepted (packet_in o.told)) out
+    → let o = fed_into limits room c s out in r ≡ lent_as o → held ≡ o.state.held → p ≡ leaving (Ok (packet_in o.told)) out
     → ◌≡◌ {A = Fed} (record { state = record { held = held; fill = r.fill; phase = r.phase; family = family }; used = r.used; item = r.item; packet = p }) (fed_as room family (fed limits room c s))
 unfolding fed_as lent_as
 fed-value family limits room c s out held p r small large clean e k m =
     let o = fed_into limits room c s out in
     let same : o ≡ fed limits room c s = fed-into limits room c s out (omega (arith, ap length clean, length-zeros room)) in
     let fits : length (packet_in o.told) ≤ room = omega (arith, ap (λ (x : Outcome). length (packet_in x.told)) same, fed-fits limits room c s small large) in
-    let packet-is : p ≡ padded room (packet_in o.told) = m ∙ ap (leaving (accepted (packet_in o.told))) clean ∙ leaving-zeros room (packet_in o.told) fits in
+    let packet-is : p ≡ padded room (packet_in o.told) = m ∙ ap (leaving (Ok (packet_in o.told))) clean ∙ leaving-zeros room (packet_in o.told) fits in
     (λ i. record { state = record { held = k i; fill = (e i).fill; phase = (e i).phase; family = family }; used = (e i).used; item = (e i).item; packet = packet-is i })
     ∙ ap (fed_as room family) same

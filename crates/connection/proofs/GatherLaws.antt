@@ -1,4 +1,6 @@
 -- Bytes gathered behind those held: what each of the three ways that it ends leaves.
+use Rattle.wire.specs.declared.Refusal.{Refusal}
+use Rattle.std.specs.Prelude.{Err, Ok}
 use Prim.Native.Nat.{ℕ, ◌+◌, ◌-◌, ◌≤◌, ◌<◌}
 use native.Mathlib.Omega.{arith}
 use mathlib.Core.Path.{◌≡◌, refl, sym, ap, ap₂, ◌∙◌}
@@ -7,17 +9,13 @@ use lib.ListN.{length, take, drop, length-append}
 use lib.Seq.{sets, length-sets, take-length, length-take-le}
 use borrow.Author.Tests.{eq-eqb, ne_eqb}
 use Rattle.wire.specs.declared.Limits.{Limits}
-use Rattle.wire.specs.Answers.{accepted, refused}
 use Rattle.wire.proofs.Accepting.{by_length}
-use Rattle.frame.specs.declared.Framed.{Framed}
-use Rattle.frame.specs.Frame.{heading, refusal_of}
-use Rattle.frame.proofs.FramingLaws.{heading-accepted}
 use Rattle.stream.specs.Stream.{Item, login, packet, refusing, more, settled, waiting, closed, needed, judged, next, taken}
 use Rattle.stream.proofs.StreamLaws.{needed-least, item-long, needed-most, needed-front, header-length, held-less, feed-more, feed-judged, feed-refused, refused-early}
 use Rattle.connection.specs.State.{Gathered, zeros, padded, phase_number, kept, phase_of, held_by}
 use Rattle.connection.specs.Feeding.{Feedable}
 use Rattle.connection.proofs.PaddedLaws.{front-part, take-padded, store-padded, clear-padded}
-use Rattle.connection.proofs.OpenLaws.{needed-unframed, held-length, held-padded, Open, open_is}
+use Rattle.connection.proofs.OpenLaws.{held-length, held-padded, Open, open_is}
 
 pub phase-back : (n : ℕ) → n ≤ 1 → phase_number (phase_of n) ≡ n
 unfolding phase_number phase_of
@@ -72,11 +70,11 @@ module _ {limits : Limits} {room : ℕ} {c : Gathered} {out : List ℕ} (able : 
 
     -- ---- the header is refused
 
-    module _ (size k : ℕ) (e : heading (needed limits (phase_of c.phase) (take (c.fill + front - 0) (drop 0 stored))) ≡ Framed.Unframed k) where
-      bad : needed limits (phase_of c.phase) (held_by c ++ s) ≡ refused (refusal_of size k)
-      bad = needed-unframed limits (phase_of c.phase) (held_by c ++ s) size k (ap heading (sym tells) ∙ e)
+    module _ (x : Refusal) (e : needed limits (phase_of c.phase) (take (c.fill + front - 0) (drop 0 stored)) ≡ Err x) where
+      bad : needed limits (phase_of c.phase) (held_by c ++ s) ≡ Err x
+      bad = sym tells ∙ e
 
-      pub header-taken : taken limits (phase_of c.phase) (held_by c) s ≡ record { used = front; told = settled (refusing (refusal_of size k)); state = closed }
+      pub header-taken : taken limits (phase_of c.phase) (held_by c) s ≡ record { used = front; told = settled (refusing x); state = closed }
       header-taken =
           let early = refused-early limits (phase_of c.phase) (held_by c) s is.waits bad in
           let long = header-length limits (phase_of c.phase) (held_by c) s bad in
@@ -87,9 +85,9 @@ module _ {limits : Limits} {room : ℕ} {c : Gathered} {out : List ℕ} (able : 
           ap (λ (l : List ℕ). sets l 0 (zeros (c.fill + front))) stored_is
           ∙ clear-padded room (held_by c ++ take front s) (c.fill + front) (omega (arith, filled, length-append (held_by c) (take front s), length-take-le front s front_fits.1)) front_fits.0
 
-    module _ (n : ℕ) (e : heading (needed limits (phase_of c.phase) (take (c.fill + front - 0) (drop 0 stored))) ≡ Framed.Field n) where
-      good : needed limits (phase_of c.phase) (held_by c ++ s) ≡ accepted n
-      good = heading-accepted _ (ap heading (sym tells) ∙ e)
+    module _ (n : ℕ) (e : needed limits (phase_of c.phase) (take (c.fill + front - 0) (drop 0 stored)) ≡ Ok n) where
+      good : needed limits (phase_of c.phase) (held_by c ++ s) ≡ Ok n
+      good = sym tells ∙ e
 
       pub judged-within : (c.fill < n) × (n ≤ room) × (8 ≤ n)
       judged-within = (
@@ -161,13 +159,13 @@ module _ {limits : Limits} {room : ℕ} {c : Gathered} {out : List ℕ} (able : 
 -- ---- nothing is held, and the item is whole in the bytes
 
 module _ {limits : Limits} {room : ℕ} {c : Gathered} {out : List ℕ} (able : Feedable limits room c out) (s : List ℕ) (small : 17 ≤ room)
-    (empty : c.fill ≡ 0) (n : ℕ) (e : heading (needed limits (phase_of c.phase) s) ≡ Framed.Field n) (enough : n ≤ length s) where
+    (empty : c.fill ≡ 0) (n : ℕ) (e : needed limits (phase_of c.phase) s ≡ Ok n) (enough : n ≤ length s) where
   none-held : held_by c ≡ []
   unfolding held_by
   none-held = ap (λ (k : ℕ). take k c.held) empty
 
-  tells_all : needed limits (phase_of c.phase) s ≡ accepted n
-  tells_all = heading-accepted _ e
+  tells_all : needed limits (phase_of c.phase) s ≡ Ok n
+  tells_all = e
 
   long : 9 ≤ n
   long = item-long limits (phase_of c.phase) s n tells_all enough

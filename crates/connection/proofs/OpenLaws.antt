@@ -1,4 +1,5 @@
 -- Which states are open: the test's way through, and what it tells.
+use Rattle.std.specs.Prelude.{Err, Ok}
 use Prim.Native.Nat.{ℕ, ◌+◌, ◌≤◌, ◌<◌}
 use native.Mathlib.Omega.{arith}
 use mathlib.Core.Path.{◌≡◌, refl, sym, ap, ◌∙◌}
@@ -10,34 +11,13 @@ use lib.Dec.{eqb, leb}
 use borrow.Author.Tests.{le-leb, leb-true, eq-eqb, eqb-true}
 use Rattle.wire.specs.declared.Limits.{Limits}
 use Rattle.wire.specs.declared.Refusal.{Refusal}
-use Rattle.wire.specs.Answers.{Answer, accepted, refused, refusal, check, check_at, on_accepted}
+use Rattle.wire.specs.Answers.{Answer, refusal, check, check_at, on_accepted}
 use Rattle.wire.proofs.Accepting.{by_length, check-accepted, check-passed, on_accepted-passed, on_accepted-refused}
-use Rattle.frame.specs.declared.Framed.{Framed}
-use Rattle.frame.specs.Frame.{header, heading, field_length, refusal_of}
-use Rattle.frame.proofs.FramingLaws.{header-unframed}
+use Rattle.frame.specs.Frame.{header, field_length}
 use Rattle.stream.specs.Stream.{Phase, for_login, for_packet, Verdict, more, settled, needed, verdict}
 use Rattle.stream.proofs.StreamLaws.{needed-long, needed-short, verdict-more, more-needed}
 use Rattle.connection.specs.State.{Gathered, padded, is_zero, is_more, phase_of, held_by, opened, count_of, judged_at}
 use Rattle.connection.proofs.PaddedLaws.{is-padded}
-
--- ---- what the code tells of what is needed
-
-heading-unframed : (r : Answer ℕ) {k : ℕ} → heading (on_accepted r (λ n. accepted (n + 12))) ≡ Framed.Unframed k → heading r ≡ Framed.Unframed k
-unfolding heading on_accepted
-heading-unframed (accepted n) e = absurd (let z : ◌≡◌ {A = ℕ} 0 1 = cc in omega arith)
-heading-unframed (refused x) e = e
-
-pub needed-unframed : (limits : Limits) (phase : Phase) (s : List ℕ) (size k : ℕ) → heading (needed limits phase s) ≡ Framed.Unframed k → needed limits phase s ≡ refused (refusal_of size k)
-unfolding needed heading
-needed-unframed limits for_login s size k e = absurd (let z : ◌≡◌ {A = ℕ} 0 1 = cc in omega arith)
-needed-unframed limits for_packet s size k e =
-    by_length 8 (length s)
-    (λ h.
-    let long = needed-long limits s h in
-    let head = header limits.largest s in
-    let bad : heading head ≡ Framed.Unframed k = heading-unframed head (ap heading (sym long) ∙ e) in
-    long ∙ on_accepted-refused head _ (header-unframed limits.largest s size k bad (accepted (field_length s))))
-    (λ h. absurd (let wrong : Framed.Field 8 ≡ Framed.Unframed k = ap heading (sym (needed-short limits s h)) ∙ e in let z : ◌≡◌ {A = ℕ} 0 1 = cc in omega arith))
 
 -- ---- the test
 
@@ -64,7 +44,7 @@ module _ (limits : Limits) (room : ℕ) (c : Gathered) where
   unfolding held_by
   held-padded o = is-padded room c.held c.fill o.size o.fill o.spare
 
-  pub open_is : {h : List ℕ} → opened limits room c ≡ accepted h → Open × (h ≡ held_by c)
+  pub open_is : {h : List ℕ} → opened limits room c ≡ Ok h → Open × (h ≡ held_by c)
   unfolding opened
   open_is {h} e =
       let c₀ = check-accepted _ 19 _ _ e in
@@ -84,7 +64,7 @@ module _ (limits : Limits) (room : ℕ) (c : Gathered) where
         cc c₅.1,
       )
 
-  pub is_open : Open → opened limits room c ≡ accepted (held_by c)
+  pub is_open : Open → opened limits room c ≡ Ok (held_by c)
   unfolding opened is_more
   is_open o =
       check-passed _ 19 _ _ (le-leb _ _ o.known)
@@ -95,14 +75,14 @@ module _ (limits : Limits) (room : ℕ) (c : Gathered) where
       ∙ check-passed _ 19 _ _ (ap is_more o.waits)
 
   -- it is open, or it is 19
-  pub open-or : {P : Type 0} → (opened limits room c ≡ accepted (held_by c) → P) → (opened limits room c ≡ refused (refusal 19) → P) → P
+  pub open-or : {P : Type 0} → (opened limits room c ≡ Ok (held_by c) → P) → (opened limits room c ≡ Err (refusal 19) → P) → P
   unfolding opened check_at
   open-or {P} f g =
       go (leb 1 limits.largest) (leb c.phase 1) (eqb (length c.held) room) (leb c.fill room) (is_zero (drop c.fill c.held))
       (is_more (verdict limits (phase_of c.phase) (held_by c))) f g
     where
-      go : (t₀ t₁ t₂ t₃ t₄ t₅ : Bool) → let r = check t₀ 19 (check t₁ 19 (check t₂ 19 (check t₃ 19 (check t₄ 19 (check t₅ 19 (accepted (held_by c))))))) in
-          (r ≡ accepted (held_by c) → P) → (r ≡ refused (refusal 19) → P) → P
+      go : (t₀ t₁ t₂ t₃ t₄ t₅ : Bool) → let r = check t₀ 19 (check t₁ 19 (check t₂ 19 (check t₃ 19 (check t₄ 19 (check t₅ 19 (Ok (held_by c))))))) in
+          (r ≡ Ok (held_by c) → P) → (r ≡ Err (refusal 19) → P) → P
       go true true true true true true f g = f refl
       go true true true true true false f g = g refl
       go true true true true false t₅ f g = g refl
@@ -114,40 +94,40 @@ module _ (limits : Limits) (room : ℕ) (c : Gathered) where
   -- ---- how many bytes are judged together next
 
   module _ (k₀ : 1 ≤ limits.largest) (p : c.phase ≤ 1) (s : length c.held ≡ room) (f : c.fill ≤ room) (z : is_zero (drop c.fill c.held) ≡ true) where
-    pub at_more : (n : ℕ) → needed limits (phase_of c.phase) (held_by c) ≡ accepted n → c.fill < n → count_of (judged_at limits room c) ≡ n
+    pub at_more : (n : ℕ) → needed limits (phase_of c.phase) (held_by c) ≡ Ok n → c.fill < n → count_of (judged_at limits room c) ≡ n
     unfolding count_of judged_at
     at_more n e h =
         let waits = verdict-more limits (phase_of c.phase) (held_by c) n e (omega (arith, held-length s f)) in
         let shown = is_open (record { known = k₀; phase = p; size = s; fill = f; spare = z; waits = waits }) in
         ap count_of (on_accepted-passed _ (needed limits (phase_of c.phase)) shown ∙ e)
 
-    at-settled : (opened limits room c ≡ accepted (held_by c) → ⊥) → count_of (judged_at limits room c) ≡ 0
+    at-settled : (opened limits room c ≡ Ok (held_by c) → ⊥) → count_of (judged_at limits room c) ≡ 0
     unfolding count_of judged_at
     at-settled never = open-or (λ e. absurd (never e)) (λ e. ap count_of (on_accepted-refused _ (needed limits (phase_of c.phase)) e))
 
-    pub at-full : (n : ℕ) → needed limits (phase_of c.phase) (held_by c) ≡ accepted n → n ≤ c.fill → count_of (judged_at limits room c) ≡ 0
+    pub at-full : (n : ℕ) → needed limits (phase_of c.phase) (held_by c) ≡ Ok n → n ≤ c.fill → count_of (judged_at limits room c) ≡ 0
     at-full n e h =
         at-settled (λ o.
         let k = more-needed limits (phase_of c.phase) (held_by c) (open_is o).0.waits in
         let same : n ≡ k.0 = cc (e, k.1) in
         omega (arith, k.2, held-length s f))
 
-    pub at-refused : {r : Refusal} → needed limits (phase_of c.phase) (held_by c) ≡ refused r → count_of (judged_at limits room c) ≡ 0
+    pub at-refused : {r : Refusal} → needed limits (phase_of c.phase) (held_by c) ≡ Err r → count_of (judged_at limits room c) ≡ 0
     at-refused {r} e =
         at-settled (λ o.
         let k = more-needed limits (phase_of c.phase) (held_by c) (open_is o).0.waits in
-        let bad : ◌≡◌ {A = Answer ℕ} (refused r) (accepted k.0) = sym e ∙ k.1 in
+        let bad : ◌≡◌ {A = Answer ℕ} (Err r) (Ok k.0) = sym e ∙ k.1 in
         let z : ◌≡◌ {A = ℕ} 0 1 = cc bad in
         omega (arith, z))
 
   -- none are where it is not open
-  pub judged-open : 0 < count_of (judged_at limits room c) → opened limits room c ≡ accepted (held_by c)
+  pub judged-open : 0 < count_of (judged_at limits room c) → opened limits room c ≡ Ok (held_by c)
   unfolding count_of judged_at
   judged-open h =
       open-or (λ e. e)
       (λ e. let none : count_of (judged_at limits room c) ≡ 0 = ap count_of (on_accepted-refused _ (needed limits (phase_of c.phase)) e) in absurd (omega (arith, none, h)))
 
-  pub judged-shut : count_of (judged_at limits room c) ≡ 0 → opened limits room c ≡ refused (refusal 19)
+  pub judged-shut : count_of (judged_at limits room c) ≡ 0 → opened limits room c ≡ Err (refusal 19)
   unfolding count_of judged_at
   judged-shut h =
       open-or

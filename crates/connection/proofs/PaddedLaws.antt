@@ -11,6 +11,7 @@ use lib.Dec.{eqb}
 use borrow.Author.Tests.{ne_eqb, eqb-true}
 use Rattle.wire.specs.Numbers.{pick}
 use Rattle.wire.proofs.Accepting.{both_true}
+use Rattle.wire.proofs.BufferLaws.{sets-front}
 use Rattle.connection.specs.State.{zeros, padded, is_zero}
 
 -- ---- zeros
@@ -18,13 +19,15 @@ use Rattle.connection.specs.State.{zeros, padded, is_zero}
 pub length-zeros : (n : ℕ) → length (zeros n) ≡ n
 length-zeros n = length-replicate n 0
 
-pub zeros-step : (n : ℕ) (i : ℕ) → i < n → zeros (n - i) ≡ 0 ∷ zeros (n - (i + 1))
-zeros-step n i h = let size : n - i ≡ suc (n - (i + 1)) = omega arith in ap (λ (k : ℕ). zeros k) size
-
 pub drop-zeros : (m n : ℕ) → drop m (zeros n) ≡ zeros (n - m)
 drop-zeros zero n = let all : n ≡ n - 0 = omega arith in ap (λ (k : ℕ). zeros k) all
 drop-zeros (suc m) zero = let none : 0 ≡ 0 - suc m = omega arith in ap (λ (k : ℕ). zeros k) none
 drop-zeros (suc m) (suc n) = let left : n - m ≡ suc n - suc m = omega arith in drop-zeros m n ∙ ap (λ (k : ℕ). zeros k) left
+
+-- what clearing the first `n` bytes leaves
+pub zeros-front : (s : List ℕ) (n : ℕ) → n ≤ length s → zeros (length (take n s)) ++ drop n s ≡ sets s 0 (zeros n)
+zeros-front s n h =
+    ap₂ (λ (j k : ℕ). zeros j ++ drop k s) (length-take-le n s h) (sym (length-zeros n)) ∙ sym (sets-front (zeros n) s (omega (arith, length-zeros n, h)))
 
 pub zeros-are : (n : ℕ) → is_zero (zeros n) ≡ true
 unfolding is_zero

@@ -1,8 +1,8 @@
 -- What a feed gives: the state, how many bytes it uses, and what it tells.
-use Rattle.std.specs.Prelude.{ℕ, ◌≤◌, ◌≡◌, List, [], length, leb}
+use Rattle.std.specs.Prelude.{Err, Ok, ℕ, ◌≤◌, ◌≡◌, List, [], length, leb}
 use Rattle.wire.specs.declared.Limits.{Limits}
 use Rattle.wire.specs.declared.Refusal.{Refusal}
-use Rattle.wire.specs.Answers.{Answer, accepted, refused, refusal, check, on_accepted}
+use Rattle.wire.specs.Answers.{Answer, refusal, check, on_accepted}
 use Rattle.wire.specs.Buffers.{leaving}
 use Rattle.stream.specs.Stream.{login, packet, refusing, Verdict, more, settled, Taken, taken}
 use Rattle.connection.specs.declared.Fed.{Fed}
@@ -21,15 +21,15 @@ outcome room t = record { state = kept room t.state; used = t.used; told = t.tol
 
 -- the bytes are taken behind those held; a refusal before that uses and changes nothing
 unfoldable pub feeding : Limits → ℕ → Gathered → List ℕ → Answer (List ℕ) → Outcome
-feeding limits room c s (accepted held) = outcome room (taken limits (phase_of c.phase) held s)
-feeding limits room c s (refused r) = record { state = c; used = 0; told = settled (refusing r) }
+feeding limits room c s (Ok held) = outcome room (taken limits (phase_of c.phase) held s)
+feeding limits room c s (Err r) = record { state = c; used = 0; told = settled (refusing r) }
 
 unfoldable pub fed : Limits → ℕ → Gathered → List ℕ → Outcome
 fed limits room c s = feeding limits room c s (opened limits room c)
 
 -- with a lent buffer for the packet, which has to be as long as a packet of the family may be: else 18, behind 19
 unfoldable pub fed_into : Limits → ℕ → Gathered → List ℕ → List ℕ → Outcome
-fed_into limits room c s out = feeding limits room c s (on_accepted (opened limits room c) (λ held. check (leb limits.largest (length out)) 18 (accepted held)))
+fed_into limits room c s out = feeding limits room c s (on_accepted (opened limits room c) (λ held. check (leb limits.largest (length out)) 18 (Ok held)))
 
 -- the packet that is told, or no bytes
 unfoldable pub packet_in : Verdict → List ℕ
@@ -63,7 +63,7 @@ lent_as o = record { phase = o.state.phase; fill = o.state.fill; used = o.used; 
 
 -- a state that is open, and a lent buffer: both have room for every packet, and for a login
 pub record Feedable (limits : Limits) (room : ℕ) (c : Gathered) (out : List ℕ) : Type 0 where
-  pub opens : opened limits room c ≡ accepted (held_by c)
+  pub opens : opened limits room c ≡ Ok (held_by c)
   pub holds : limits.largest ≤ room
   pub login : 17 ≤ limits.largest
   pub fits : limits.largest ≤ length out
@@ -72,4 +72,4 @@ pub record Feedable (limits : Limits) (room : ℕ) (c : Gathered) (out : List �
 pub record Gives (o : Outcome) (before : List ℕ) (r : Lent) (held out : List ℕ) : Type 0 where
   pub answer : r ≡ lent_as o
   pub state : held ≡ o.state.held
-  pub buffer : out ≡ leaving (accepted (packet_in o.told)) before
+  pub buffer : out ≡ leaving (Ok (packet_in o.told)) before

@@ -1,9 +1,9 @@
 -- The state of a connection as it is kept: `room` bytes, of which the first so many are held, the numbers of the phase and the family.
-use Rattle.std.specs.Prelude.{ℕ, ◌-◌, Bool, true, false, List, [], ◌∷◌, ◌++◌, length, take, drop, replicate, eqb, leb}
+use Rattle.std.specs.Prelude.{Err, Ok, ℕ, ◌-◌, Bool, true, false, List, [], ◌∷◌, ◌++◌, length, take, drop, replicate, eqb, leb}
 use Rattle.wire.specs.declared.Limits.{Limits}
 use Rattle.wire.specs.Limits.{limits_of, is_known}
 use Rattle.wire.specs.Numbers.{pick}
-use Rattle.wire.specs.Answers.{Answer, accepted, refused, refusal, check, on_accepted}
+use Rattle.wire.specs.Answers.{Answer, refusal, check, on_accepted}
 use Rattle.stream.specs.Stream.{Phase, for_login, for_packet, Verdict, more, settled, State, waiting, closed, needed, verdict}
 use Rattle.connection.specs.declared.Connection.{Connection}
 use Rattle.connection.specs.declared.Started.{Started}
@@ -73,13 +73,13 @@ opened limits room c =
     (check (leb c.fill room) 19
     (check (is_zero (drop c.fill c.held)) 19
     (check (is_more (verdict limits (phase_of c.phase) (held_by c))) 19
-    (accepted (held_by c)))))))
+    (Ok (held_by c)))))))
 
 -- ---- how many bytes are wanted before anything is judged
 
 unfoldable pub count_of : Answer ℕ → ℕ
-count_of (accepted n) = n
-count_of (refused r) = 0
+count_of (Ok n) = n
+count_of (Err r) = 0
 
 unfoldable pub judged_at : Limits → ℕ → Gathered → Answer ℕ
 judged_at limits room c = on_accepted (opened limits room c) (needed limits (phase_of c.phase))

@@ -14,7 +14,6 @@ use Rattle.avl.specs.Records.{Fixed, AvlRecord, element_count, record_bytes, Gro
 use Rattle.avl.specs.RecordReader.{groups, plain_record}
 use Rattle.avl.proofs.RecordLaws.{fixed-exact, groups-exact}
 use Rattle.avl.proofs.Inversion.{fixed_at, fixed-read, FixedRead, RecordRead, record-read, plain_size}
-use Rattle.walk.specs.Walks.{Narrow}
 use Rattle.element.specs.Elements.{Located, fixed_size, locate_groups}
 use Rattle.element.proofs.ElementLaws.{length-groups}
 use Rattle.element.proofs.ReadLaws.{got_same}
@@ -159,9 +158,9 @@ module _ (w : Widths) {s : List ℕ} {at to : ℕ} (k : Ready (plain_record w) s
         let e = ap (λ (x : Moved). x.to) moved-is in
         (omega (arith, e), omega (arith, e, count-is))
 
-    pub few : Narrow w → base + length s < 2 ^ 16 → (q.from - at < 2 ^ 16) × (q.to - (to + 4) < 2 ^ 16)
-    few narrow h =
-        let size = record-size w narrow.named k.content keep in
+    pub few : base + length s < 2 ^ 16 → (q.from - at < 2 ^ 16) × (q.to - (to + 4) < 2 ^ 16)
+    few h =
+        let size = record-size w w.id_named k.content keep in
         (omega (arith, h, counted-bytes.2), omega (arith, h, size, counted-bytes.1, counted-bytes.2, counted-elements.1))
 
     -- the four words are stored in front of those of the elements

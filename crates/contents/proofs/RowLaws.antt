@@ -1,4 +1,5 @@
 -- What a caller reads of a table is what the look-ups give, for all records and values, and nothing else is in it.
+use Rattle.std.specs.Prelude.{Err, Ok}
 use Prim.Native.Nat.{ℕ, zero, suc, ◌+◌, ◌*◌, ◌^◌, ◌≤◌, ◌<◌}
 use native.Mathlib.Nat.{pow-le-pow_right, le_trans}
 use native.Mathlib.Omega.{arith}
@@ -10,18 +11,17 @@ use Rattle.wire.specs.declared.Limits.{Limits}
 use Rattle.wire.proofs.LimitLaws.{Most}
 use Rattle.wire.specs.Numbers.{Bytes, be}
 use Rattle.wire.specs.Sequences.{joined, All}
-use Rattle.wire.specs.Answers.{Answer, accepted, refused, on_accepted}
+use Rattle.wire.specs.Answers.{Answer, on_accepted}
 use Rattle.wire.proofs.Widths.{byte_pos, all_append}
 use borrow.Author.Tests.{le-leb}
 use Rattle.wire.proofs.Accepting.{check-passed, on_accepted-accepted, on_accepted-passed}
 use Rattle.avl.specs.declared.Widths.{Widths}
 use Rattle.avl.specs.Codecs.{widths_of, kinds}
 use Rattle.avl.specs.Records.{Element, AvlRecord, element_bytes, element_count, record_bytes, ElementRules, GroupsRules, RecordRules, group_bytes}
-use Rattle.avl.specs.DataField.{AvlData, DataResult, data_result}
+use Rattle.avl.specs.DataField.{AvlData, data_result}
+use Rattle.avl.specs.declared.DataResult.{DataResult}
 use Rattle.avl.proofs.DataLaws.{codec-fits}
-use Rattle.walk.specs.Walks.{Narrow}
 use Rattle.walk.proofs.KindLaws.{KindRange, kinds-range}
-use Rattle.walk.proofs.WalkLaws.{narrow}
 use Rattle.packet.specs.DataPackets.{read_packet, answer_packet, acknowledged, tcp_acknowledgement}
 use Rattle.packet.proofs.PacketLaws.{packet-exact}
 use Rattle.packet.proofs.FieldLaws.{packet-most}
@@ -38,7 +38,8 @@ use Rattle.element.proofs.ElementLaws.{elements-inside, length-elements}
 use Rattle.lookup.specs.Places.{Placed, place_records}
 use Rattle.lookup.specs.Lookups.{Source, tcp_source, udp_source, placed_record, record_by_number, value_by_number, value_in, found_in}
 use Rattle.lookup.specs.Answers.{part_of, value_result, answer_value}
-use Rattle.lookup.proofs.PlaceLaws.{Stored, tcp-stored, udp-stored, Kept, all-kept, local}
+use Rattle.lookup.specs.Carriers.{Stored}
+use Rattle.lookup.proofs.PlaceLaws.{tcp-stored, udp-stored, Kept, all-kept, local}
 use Rattle.contents.specs.Words.{title_words, record_words, value_word, title_result, title_header, record_of, value_of}
 use Rattle.contents.specs.Contents.{element_word, record_contents, contents, no_header, contents_of_packet, contents_of_datagram}
 use Rattle.contents.specs.Rows.{Row, values_of, row_of, rows_from, rows_of, rows_size, RowsAhead, place_of, Lists}
@@ -67,14 +68,14 @@ length-values r (e ∷ l) = ap suc (length-values r l)
 abbrev Named : Located → Type 0
 Named e = (e.id < 2 ^ 16) × (e.kind < 2 ^ 8)
 
-id-fits : {w : Widths} {n : ℕ} → Narrow w → n < 256 ^ w.id → n < 2 ^ 16
-id-fits k h = le_trans h (pow-le-pow_right byte_pos k.id)
+id-fits : (w : Widths) {n : ℕ} → n < 256 ^ w.id → n < 2 ^ 16
+id-fits w h = le_trans h (pow-le-pow_right byte_pos w.id_fits)
 
-module _ (w : Widths) (k : Narrow w) where
+module _ (w : Widths) where
   group-named : (kind at : ℕ) (g : List Element) → kind ≤ 9 → All (ElementRules w kind) g → All Named (locate_group w kind at g)
   unfolding locate_group
   group-named kind at [] h r = tt
-  group-named kind at (e ∷ g) h r = ((id-fits k r.0.id_fits, omega (arith, h)), group-named kind (at + length (element_bytes w kind e)) g h r.1)
+  group-named kind at (e ∷ g) h r = ((id-fits w r.0.id_fits, omega (arith, h)), group-named kind (at + length (element_bytes w kind e)) g h r.1)
 
   groups-named : (ks : List ℕ) (at : ℕ) (gs : List (List Element)) → All KindRange ks → GroupsRules w ks gs → All Named (locate_groups w ks at gs)
   unfolding locate_groups
@@ -88,9 +89,9 @@ record Fits (w : Widths) (r : Placed) : Type 0 where
   rules : (longest : ℕ) × RecordRules longest w r.content
   ends : r.start + length (record_bytes w r.content) < 2 ^ 16
 
-module _ (w : Widths) (k : Narrow w) (r : Placed) (h : Fits w r) where
+module _ (w : Widths) (r : Placed) (h : Fits w r) where
   size_fits : 2 * (4 + element_count r.content.groups) ≤ length (record_bytes w r.content)
-  size_fits = record-size w k.named r.content h.rules.1.groups_keep
+  size_fits = record-size w w.id_named r.content h.rules.1.groups_keep
 
   -- the words of values are read as values
   values-read : (l : List Located) → All Named l → All (λ e. Inside e (record_bytes w r.content)) l → values_of (joined (element_word r) l) ≡ values_in r l
@@ -116,7 +117,7 @@ module _ (w : Widths) (k : Narrow w) (r : Placed) (h : Fits w r) where
     parted = append_assoc head words rest
 
     event : r.content.fixed.event < 2 ^ 16
-    event = le_trans h.rules.1.fixed_keep.event_fits (pow-le-pow_right byte_pos k.event)
+    event = le_trans h.rules.1.fixed_keep.event_fits (pow-le-pow_right byte_pos w.event_fits)
 
     starts : r.start < 2 ^ 16
     starts = omega (arith, h.ends)
@@ -141,7 +142,7 @@ module _ (w : Widths) (k : Narrow w) (r : Placed) (h : Fits w r) where
 
     named : All Named (elements w r.content)
     unfolding elements
-    named = groups-named w k (kinds w) (fixed_size w) r.content.groups (kinds-range w) h.rules.1.groups_keep
+    named = groups-named w (kinds w) (fixed_size w) r.content.groups (kinds-range w) h.rules.1.groups_keep
 
     row_read : row_of (record_contents w r ++ rest) ≡ row_in w r
     unfolding row_of
@@ -166,12 +167,12 @@ module _ (w : Widths) (k : Narrow w) (r : Placed) (h : Fits w r) where
 
 -- ---- record by record
 
-rows-read : (w : Widths) → Narrow w → (rs : List Placed) → All (Fits w) rs → rows_from (length rs) (joined (record_contents w) rs) ≡ rows_in w rs
+rows-read : (w : Widths) (rs : List Placed) → All (Fits w) rs → rows_from (length rs) (joined (record_contents w) rs) ≡ rows_in w rs
 unfolding rows_from
-rows-read w k [] h = refl
-rows-read w k (r ∷ rs) h =
+rows-read w [] h = refl
+rows-read w (r ∷ rs) h =
     let rest = joined (record_contents w) rs in
-    ap₂ (λ (x : Row) (xs : List Row). x ∷ xs) (row_read w k r h.0 rest) (ap (rows_from (length rs)) (next-read w k r h.0 rest) ∙ rows-read w k rs h.1)
+    ap₂ (λ (x : Row) (xs : List Row). x ∷ xs) (row_read w r h.0 rest) (ap (rows_from (length rs)) (next-read w r h.0 rest) ∙ rows-read w rs h.1)
 
 rows-size : (w : Widths) (rs : List Placed) → length (joined (record_contents w) rs) ≡ rows_size (rows_in w rs)
 unfolding rows_size record_contents record_words
@@ -194,7 +195,7 @@ nth-row w f n [] = refl
 nth-row w f zero (r ∷ rs) = refl
 nth-row w f (suc n) (r ∷ rs) = nth-row w f n rs
 
-nth-value : (r : Placed) (k : ℕ) (l : List Located) → nth k (values_in r l) ≡ answer_value (on_accepted (nth k l) (λ e. accepted (found_in r e)))
+nth-value : (r : Placed) (k : ℕ) (l : List Located) → nth k (values_in r l) ≡ answer_value (on_accepted (nth k l) (λ e. Ok (found_in r e)))
 unfolding nth on_accepted answer_value
 nth-value r k [] = refl
 nth-value r zero (e ∷ l) = refl
@@ -242,7 +243,7 @@ module _ (longest : ℕ) (p : List ℕ) (x : Source) (h : Header) (short : lengt
       let fit = all_fit longest w p short placed (all-kept longest w p x.content.records x.base _ stored.rules.each stored.tiles.1) in
       ap₂ (λ (d : DataResult) (t : List ℕ). rows_from d.count t) title-is behind-title
       ∙ ap (λ (n : ℕ). rows_from n (joined (record_contents w) placed)) (sym (placed-count w x.base x.content.records))
-      ∙ rows-read w (narrow x.content.codec) placed fit
+      ∙ rows-read w placed fit
 
   of-rows : {B : Type 0} (f : Row → Answer B) (n : ℕ) → on_accepted (placed_record x n) (λ r. f (row_in w r)) ≡ on_accepted (nth n (rows_of (contents h x))) f
   unfolding placed_record
@@ -253,17 +254,17 @@ module _ (longest : ℕ) (p : List ℕ) (x : Source) (h : Header) (short : lengt
   values-of n k = go (placed_record x n)
     where
       go : (a : Answer Placed)
-          → answer_value (on_accepted a (λ r. on_accepted (nth k (elements w r.content)) (λ e. accepted (found_in r e)))) ≡ on_accepted a (λ r. nth k (values_in r (elements w r.content)))
-      go (accepted r) = sym (nth-value r k (elements w r.content))
-      go (refused y) = refl
+          → answer_value (on_accepted a (λ r. on_accepted (nth k (elements w r.content)) (λ e. Ok (found_in r e)))) ≡ on_accepted a (λ r. nth k (values_in r (elements w r.content)))
+      go (Ok r) = sym (nth-value r k (elements w r.content))
+      go (Err y) = refl
 
-  pub lists : {source : Answer Source} → source ≡ accepted x → Lists source (contents h x)
+  pub lists : {source : Answer Source} → source ≡ Ok x → Lists source (contents h x)
   unfolding record_by_number part_of value_by_number value_in answer_value on_accepted record_result data_result contents title_words
   lists {source} e =
       record {
-        records = λ n. on_accepted-passed source _ e ∙ of-rows (λ row. accepted row.fields) n;
-        places = λ n. on_accepted-passed source _ e ∙ of-rows (λ row. accepted (place_of x.content.codec row)) n
-            ∙ ap (λ (d : DataResult). on_accepted (nth n (rows_of (contents h x))) (λ row. accepted (place_of d.codec row))) (sym title-is);
+        records = λ n. on_accepted-passed source _ e ∙ of-rows (λ row. Ok row.fields) n;
+        places = λ n. on_accepted-passed source _ e ∙ of-rows (λ row. Ok (place_of x.content.codec row)) n
+            ∙ ap (λ (d : DataResult). on_accepted (nth n (rows_of (contents h x))) (λ row. Ok (place_of d.codec row))) (sym title-is);
         values = λ n k. ap answer_value (on_accepted-passed source _ e) ∙ values-of n k ∙ of-rows (λ row. nth k row.values) n;
         whole = omega (arith, rows-size w placed, ap rows_size rows_are);
       }
@@ -271,7 +272,7 @@ module _ (longest : ℕ) (p : List ℕ) (x : Source) (h : Header) (short : lengt
 -- ---- a record's words are made of where it starts and of its own bytes
 
 pub contents-local : (longest : ℕ) (p q : List ℕ) (x y : Source) (m n : ℕ) (r t : Placed) → Stored longest p x → Stored longest q y
-    → x.content.codec ≡ y.content.codec → placed_record x m ≡ accepted r → placed_record y n ≡ accepted t
+    → x.content.codec ≡ y.content.codec → placed_record x m ≡ Ok r → placed_record y n ≡ Ok t
     → part p r.start (length (record_bytes (widths_of x.content.codec) r.content))
     ≡ part q t.start (length (record_bytes (widths_of x.content.codec) r.content))
     → r.start ≡ t.start → record_contents (widths_of x.content.codec) r ≡ record_contents (widths_of x.content.codec) t
@@ -292,15 +293,15 @@ values-ahead w p r more zero (e ∷ l) h i a b c =
     omega (arith, ap (λ (x : Value). x.offset) same, ap (λ (x : Value). x.size) same, b.0.within, i)
 values-ahead w p r more (suc k) (e ∷ l) h i a b c = values-ahead w p r more k l h i a.1 b.1 (omega (arith, c))
 
-rows-ahead : (longest : ℕ) (w : Widths) → Narrow w → (p t more : List ℕ) → length p < 2 ^ 16 → (at : ℕ) (rs : List Placed) → All (Kept longest w p) rs
+rows-ahead : (longest : ℕ) (w : Widths) (p t more : List ℕ) → length p < 2 ^ 16 → (at : ℕ) (rs : List Placed) → All (Kept longest w p) rs
     → drop at t ≡ joined (record_contents w) rs ++ more → RowsAhead p t at (length rs)
-rows-ahead longest w k p t more h at [] a e = tt
-rows-ahead longest w k p t more h at (r ∷ rs) a e =
+rows-ahead longest w p t more h at [] a e = tt
+rows-ahead longest w p t more h at (r ∷ rs) a e =
     let fit : Fits w r = record { rules = (longest, a.0.rules); ends = omega (arith, h, a.0.stands.inside) } in
     let rest = joined (record_contents w) rs ++ more in
     let words = joined (element_word r) (elements w r.content) in
     let split : drop at t ≡ record_contents w r ++ rest = e ∙ append_assoc (record_contents w r) (joined (record_contents w) rs) more in
-    let count : (record_of (drop at t)).elements ≡ length words = ap (λ (l : List ℕ). (record_of l).elements) (split ∙ parted w k r fit rest) ∙ count-read w k r fit rest in
+    let count : (record_of (drop at t)).elements ≡ length words = ap (λ (l : List ℕ). (record_of l).elements) (split ∙ parted w r fit rest) ∙ count-read w r fit rest in
     let long = ap length split ∙ length-append (record_contents w r) rest in
     let n = (record_of (drop at t)).elements in
     let steps : at + 4 + n ≡ at + (4 + n) = omega arith in
@@ -309,13 +310,13 @@ rows-ahead longest w k p t more h at (r ∷ rs) a e =
     ap (λ (m : ℕ). drop m t) steps
     ∙ sym (drop-drop (4 + n) at t)
     ∙ ap₂ (λ (m : ℕ) (l : List ℕ). drop (4 + m) l) same split
-    ∙ next-read w k r fit rest in
-    let own : drop (at + 4) t ≡ words ++ rest = sym (drop-drop 4 at t) ∙ ap (drop 4) (split ∙ parted w k r fit rest) ∙ behind w k r fit rest in (
-      omega (arith, length-drop at t, long, contents-long w k r fit rest, count),
+    ∙ next-read w r fit rest in
+    let own : drop (at + 4) t ≡ words ++ rest = sym (drop-drop 4 at t) ∙ ap (drop 4) (split ∙ parted w r fit rest) ∙ behind w r fit rest in (
+      omega (arith, length-drop at t, long, contents-long w r fit rest, count),
       λ i j. subst (λ (word : ℕ). (value_of word).offset + (value_of word).size ≤ length p) (ap (λ (l : List ℕ). get_or l i 0) (sym own) ∙ get_or-drop (at + 4) t i 0)
-          (values-ahead w p r rest i (elements w r.content) h a.0.stands.inside (named w k r fit rest) (elements-inside w r.content)
+          (values-ahead w p r rest i (elements w r.content) h a.0.stands.inside (named w r fit rest) (elements-inside w r.content)
           (omega (arith, j, count, length-words (λ (e : Located). value_word (value_result (found_in r e))) (elements w r.content)))),
-      rows-ahead longest w k p t more h (at + 4 + n) rs a.1 next,
+      rows-ahead longest w p t more h (at + 4 + n) rs a.1 next,
     )
 
 module _ (longest : ℕ) (p : List ℕ) (x : Source) (h : Header) (short : length p < 2 ^ 16) (stored : Stored longest p x) (rules : HeaderRules h) (more : List ℕ) where
@@ -327,7 +328,7 @@ module _ (longest : ℕ) (p : List ℕ) (x : Source) (h : Header) (short : lengt
   ahead =
       let w = widths_of x.content.codec in
       subst (RowsAhead p (contents h x ++ more) 2) (placed-count w x.base x.content.records)
-      (rows-ahead longest w (narrow x.content.codec) p (contents h x ++ more) more short 2 records (all-kept longest w p x.content.records x.base _ stored.rules.each stored.tiles.1) refl)
+      (rows-ahead longest w p (contents h x ++ more) more short 2 records (all-kept longest w p x.content.records x.base _ stored.rules.each stored.tiles.1) refl)
 
   title-ahead : title_result (contents h x ++ more) ≡ title_result (contents h x)
   unfolding contents title_words title_result
@@ -348,7 +349,7 @@ record TableOf (p : List ℕ) (source : Answer Source) (x : Source) (h : Header)
   short : length p < 2 ^ 16
   stored : Stored longest p x
   rules : HeaderRules h
-  accepts : source ≡ accepted x
+  accepts : source ≡ Ok x
   is : contents h x ≡ t
 
 module _ {p : List ℕ} {source : Answer Source} {x : Source} {h : Header} {t : List ℕ} (k : TableOf p source x h t) where
@@ -370,8 +371,8 @@ no-header : HeaderRules no_header
 no-header = omega arith
 
 module _ (limits : Limits) (small : Most limits) (p t : List ℕ) (b : Bytes p) where
-  packet-table : contents_of_packet limits p ≡ accepted t
-      → (a : AvlData) × (read_packet limits p ≡ accepted a) × TableOf p (tcp_source limits p) (record { content = a; base = 10 }) no_header t
+  packet-table : contents_of_packet limits p ≡ Ok t
+      → (a : AvlData) × (read_packet limits p ≡ Ok a) × TableOf p (tcp_source limits p) (record { content = a; base = 10 }) no_header t
   unfolding contents_of_packet tcp_source
   packet-table e =
       let i = on_accepted-accepted (tcp_source limits p) _ e in
@@ -389,8 +390,8 @@ module _ (limits : Limits) (small : Most limits) (p t : List ℕ) (b : Bytes p) 
         },
       )
 
-  datagram-table : contents_of_datagram limits p ≡ accepted t
-      → (g : Datagram) × (read_datagram limits p ≡ accepted g) × TableOf p (udp_source limits p) (record { content = g.payload; base = 25 }) g.header t
+  datagram-table : contents_of_datagram limits p ≡ Ok t
+      → (g : Datagram) × (read_datagram limits p ≡ Ok g) × TableOf p (udp_source limits p) (record { content = g.payload; base = 25 }) g.header t
   unfolding contents_of_datagram udp_source
   datagram-table e =
       let i = on_accepted-accepted (read_datagram limits p) _ e in
@@ -408,32 +409,32 @@ module _ (limits : Limits) (small : Most limits) (p t : List ℕ) (b : Bytes p) 
       )
 
   -- a TCP packet's table, its codec and count, and its acknowledgement
-  pub packet-lists : contents_of_packet limits p ≡ accepted t
-      → Lists (tcp_source limits p) t × (answer_packet limits p ≡ accepted (title_result t)) × (tcp_acknowledgement limits p ≡ accepted (be 4 (title_result t).count))
+  pub packet-lists : contents_of_packet limits p ≡ Ok t
+      → Lists (tcp_source limits p) t × (answer_packet limits p ≡ Ok (title_result t)) × (tcp_acknowledgement limits p ≡ Ok (be 4 (title_result t).count))
   unfolding answer_packet tcp_acknowledgement data_result acknowledged
   packet-lists e =
       let k = packet-table e in
       let title = sym (table-title k.2) in (
         table-lists k.2,
-        on_accepted-passed (read_packet limits p) _ k.1 ∙ ap accepted title,
+        on_accepted-passed (read_packet limits p) _ k.1 ∙ ap Ok title,
         check-passed _ 21 _ _ (le-leb 1 limits.largest (omega (arith, ((packet-exact limits p k.0 b).0 k.1).frame.most)))
-            ∙ ap (λ r. accepted (be 4 (acknowledged r))) k.1
-            ∙ ap (λ (d : DataResult). accepted (be 4 d.count)) title,
+            ∙ ap (λ r. Ok (be 4 (acknowledged r))) k.1
+            ∙ ap (λ (d : DataResult). Ok (be 4 d.count)) title,
       )
 
   -- a datagram's table, its codec, count and header, and its acknowledgement
-  pub datagram-lists : contents_of_datagram limits p ≡ accepted t
+  pub datagram-lists : contents_of_datagram limits p ≡ Ok t
       → Lists (udp_source limits p) t
-      × (answer_datagram limits p ≡ accepted (record { payload = title_result t; header = title_header t }))
-      × (udp_acknowledgement limits p ≡ accepted (acknowledgement_bytes (title_header t) (title_result t).count))
+      × (answer_datagram limits p ≡ Ok (record { payload = title_result t; header = title_header t }))
+      × (udp_acknowledgement limits p ≡ Ok (acknowledgement_bytes (title_header t) (title_result t).count))
   unfolding answer_datagram udp_acknowledgement data_result
   datagram-lists e =
       let k = datagram-table e in
       let title = sym (table-title k.2) in
       let header = sym (table-header k.2) in (
         table-lists k.2,
-        on_accepted-passed (read_datagram limits p) _ k.1 ∙ (λ n. accepted (record { payload = title n; header = header n })),
-        on_accepted-passed (read_datagram limits p) _ k.1 ∙ ap₂ (λ (h : Header) (d : DataResult). accepted (acknowledgement_bytes h d.count)) header title,
+        on_accepted-passed (read_datagram limits p) _ k.1 ∙ (λ n. Ok (record { payload = title n; header = header n })),
+        on_accepted-passed (read_datagram limits p) _ k.1 ∙ ap₂ (λ (h : Header) (d : DataResult). Ok (acknowledgement_bytes h d.count)) header title,
       )
 
   -- the records ahead in a buffer that begins with the table, as many as are acknowledged
@@ -441,14 +442,14 @@ module _ (limits : Limits) (small : Most limits) (p t : List ℕ) (b : Bytes p) 
     abbrev Ahead : Answer AvlData → Type 0
     Ahead read = ((title_result (t ++ more)).count ≡ acknowledged read) × RowsAhead p (t ++ more) 2 (title_result (t ++ more)).count
 
-    pub packet-ahead : contents_of_packet limits p ≡ accepted t → Ahead (read_packet limits p)
+    pub packet-ahead : contents_of_packet limits p ≡ Ok t → Ahead (read_packet limits p)
     unfolding acknowledged
     packet-ahead e =
         let k = packet-table e in
         let a = table-ahead k.2 more in
         (a.0 ∙ ap acknowledged (sym k.1), a.1)
 
-    pub datagram-ahead : contents_of_datagram limits p ≡ accepted t → Ahead (payload_of (read_datagram limits p))
+    pub datagram-ahead : contents_of_datagram limits p ≡ Ok t → Ahead (payload_of (read_datagram limits p))
     unfolding acknowledged payload_of
     datagram-ahead e =
         let k = datagram-table e in

@@ -1,4 +1,5 @@
 -- What is written along a data field is the table of its contents.
+use Rattle.std.specs.Prelude.{Err, Ok}
 use Prim.Native.Nat.{ℕ, zero, suc, ◌+◌, ◌-◌, ◌*◌, ◌≤◌}
 use native.Mathlib.Nat.{add-zero}
 use native.Mathlib.Omega.{arith}
@@ -8,11 +9,10 @@ use lib.ListN.{length, take, drop, set, length-take, length-drop}
 use lib.Seq.{sets}
 use Rattle.wire.specs.declared.Limits.{Limits}
 use Rattle.wire.specs.declared.Refusal.{Refusal}
-use Rattle.wire.specs.declared.Written.{Written}
 use Rattle.wire.specs.Numbers.{Bytes}
 use Rattle.wire.specs.Sequences.{joined}
 use Rattle.wire.specs.Reading.{Reader, repeat}
-use Rattle.wire.specs.Answers.{Answer, accepted, refused, on_accepted}
+use Rattle.wire.specs.Answers.{Answer, on_accepted}
 use Rattle.wire.proofs.Widths.{bytes_take, bytes_drop}
 use Rattle.wire.proofs.Storing.{sets-append}
 use Rattle.wire.proofs.Exactness.{Meets, meets-weaken, meets-pure}
@@ -21,14 +21,15 @@ use Rattle.avl.specs.declared.Widths.{Widths}
 use Rattle.avl.specs.Codecs.{widths_of, kinds}
 use Rattle.avl.specs.Records.{Element, AvlRecord, element_bytes, group_bytes, record_bytes}
 use Rattle.avl.specs.RecordReader.{plain_record}
-use Rattle.avl.specs.DataField.{AvlData, read_data, data_result, DataResult}
+use Rattle.avl.specs.DataField.{AvlData, read_data, data_result}
+use Rattle.avl.specs.declared.DataResult.{DataResult}
 use Rattle.avl.proofs.Inversion.{list_read}
-use Rattle.walk.proofs.WalkLaws.{narrow}
 use Rattle.packet.specs.DataPackets.{read_packet}
 use Rattle.avl.proofs.FieldLaws.{FieldOf}
 use Rattle.packet.proofs.FieldLaws.{packet-field, packet-long}
 use Rattle.datagram.specs.declared.Header.{Header}
-use Rattle.datagram.specs.Datagrams.{Datagram, DatagramResult, read_datagram, answer_datagram}
+use Rattle.datagram.specs.Datagrams.{Datagram, read_datagram, answer_datagram}
+use Rattle.datagram.specs.declared.DatagramResult.{DatagramResult}
 use Rattle.datagram.proofs.FieldLaws.{datagram-field, datagram-long}
 use Rattle.element.specs.Elements.{lead_size, fixed_size, locate_group, locate_groups, elements}
 use Rattle.lookup.specs.Places.{place_records}
@@ -89,12 +90,12 @@ table-listed : (w : Widths) (base : ℕ) (rs : List AvlRecord)
     → records_text (record_text (listed_word base) w (head_text base w)) w 0 rs ≡ joined (record_contents w) (place_records w base rs)
 table-listed w base rs = records-listed w base 0 rs ∙ ap (λ (n : ℕ). joined (record_contents w) (place_records w n rs)) (add-zero base)
 
-pub contents-size : (h : Header) (base longest : ℕ) (d : List ℕ) (a : AvlData) → Bytes d → 3 ≤ length d → read_data longest d ≡ accepted a
+pub contents-size : (h : Header) (base longest : ℕ) (d : List ℕ) (a : AvlData) → Bytes d → 3 ≤ length d → read_data longest d ≡ Ok a
     → 2 * length (field_contents h base a) ≤ length d + 1
 unfolding contents title_words
 contents-size h base longest d a b l e =
     let w = widths_of a.codec in
-    let named = (narrow a.codec).named in
+    let named = (widths_of a.codec).id_named in
     let records = field-size 2 1 (listed_word base) w (word_size w named base) (head_text base w) (head-size w named base) longest 0 d a refl b l e in
     omega (arith, records, ap length (table-listed w base a.records))
 
@@ -133,62 +134,62 @@ title-stored l a b e is f = f ∙ ap (λ (o : List ℕ). set o 1 b) (e ∙ ap (s
 -- the space between the counts of a short data field is short
 -- ---- a packet and a datagram
 
-untold : {A B : Type 0} (r : Answer A) (f : A → B) {x : Refusal} → refused x ≡ on_accepted r (λ a. accepted (f a)) → r ≡ refused x
+untold : {A B : Type 0} (r : Answer A) (f : A → B) {x : Refusal} → Err x ≡ on_accepted r (λ a. Ok (f a)) → r ≡ Err x
 unfolding on_accepted
-untold (accepted a) f e = absurd (let z : ◌≡◌ {A = ℕ} 0 1 = cc in omega arith)
-untold (refused y) f e = ap refused (cc)
+untold (Ok a) f e = absurd (let z : ◌≡◌ {A = ℕ} 0 1 = cc in omega arith)
+untold (Err y) f e = ap Err (cc)
 
 module _ (limits : Limits) (p : List ℕ) where
-  pub packet-written : {a : AvlData} → read_packet limits p ≡ accepted a → Bytes p → {before after : List ℕ} {r : Written}
+  pub packet-written : {a : AvlData} → read_packet limits p ≡ Ok a → Bytes p → {before after : List ℕ} {r : Answer ℕ}
       → Writes (field_contents no_header 10) (take (length p - 4 - 8) (drop 8 p)) before after r → Answers (contents_of_packet limits p) before after r
   unfolding contents_of_packet tcp_source
   packet-written e b w = written-field (packet-field limits p e b) (on_accepted-passed (tcp_source limits p) _ (on_accepted-passed (read_packet limits p) _ e)) w
 
-  pub packet-refused : {x : Refusal} {before : List ℕ} → read_packet limits p ≡ refused x → Answers (contents_of_packet limits p) before before (Written.Refused x)
+  pub packet-refused : {x : Refusal} {before : List ℕ} → read_packet limits p ≡ Err x → Answers (contents_of_packet limits p) before before (Err x)
   unfolding contents_of_packet tcp_source
   packet-refused e = refused-whole (on_accepted-refused (tcp_source limits p) _ (on_accepted-refused (read_packet limits p) _ e))
 
   -- what the answer to a datagram tells
-  pub datagram-told : {d : DataResult} {h : Header} → accepted (record { payload = d; header = h }) ≡ answer_datagram limits p
-      → (g : Datagram) × (read_datagram limits p ≡ accepted g) × (g.header ≡ h)
+  pub datagram-told : {d : DataResult} {h : Header} → Ok (record { payload = d; header = h }) ≡ answer_datagram limits p
+      → (g : Datagram) × (read_datagram limits p ≡ Ok g) × (g.header ≡ h)
   unfolding answer_datagram
   datagram-told {d} {h} e =
       let i = on_accepted-accepted (read_datagram limits p) _ (sym e) in
       let same : ◌≡◌ {A = DatagramResult} (record { payload = data_result i.0.payload; header = i.0.header }) (record { payload = d; header = h }) = cc i.2 in
       (i.0, i.1, ap (λ (x : DatagramResult). x.header) same)
 
-  pub datagram-untold : {x : Refusal} → refused x ≡ answer_datagram limits p → read_datagram limits p ≡ refused x
+  pub datagram-untold : {x : Refusal} → Err x ≡ answer_datagram limits p → read_datagram limits p ≡ Err x
   unfolding answer_datagram
   datagram-untold e = untold (read_datagram limits p) _ e
 
-  pub datagram-written : {g : Datagram} {h : Header} → read_datagram limits p ≡ accepted g → g.header ≡ h → Bytes p → {before after : List ℕ} {r : Written}
+  pub datagram-written : {g : Datagram} {h : Header} → read_datagram limits p ≡ Ok g → g.header ≡ h → Bytes p → {before after : List ℕ} {r : Answer ℕ}
       → Writes (field_contents h 25) (take (length p - 23) (drop 23 p)) before after r → Answers (contents_of_datagram limits p) before after r
   unfolding contents_of_datagram
   datagram-written {g} {h} e is b w =
-      written-field (datagram-field limits p e b) (on_accepted-passed (read_datagram limits p) _ e ∙ ap (λ (x : Header). accepted (field_contents x 25 g.payload)) is) w
+      written-field (datagram-field limits p e b) (on_accepted-passed (read_datagram limits p) _ e ∙ ap (λ (x : Header). Ok (field_contents x 25 g.payload)) is) w
 
-  pub datagram-refused : {x : Refusal} {before : List ℕ} → read_datagram limits p ≡ refused x → Answers (contents_of_datagram limits p) before before (Written.Refused x)
+  pub datagram-refused : {x : Refusal} {before : List ℕ} → read_datagram limits p ≡ Err x → Answers (contents_of_datagram limits p) before before (Err x)
   unfolding contents_of_datagram
   datagram-refused e = refused-whole (on_accepted-refused (read_datagram limits p) _ e)
 
 -- ---- how long a table can be: a word for every two bytes of the packet or the datagram
 
-field_room : {longest n : ℕ} (h : Header) (base : ℕ) {d t : List ℕ} {a : AvlData} → Bytes d → FieldOf longest d a → length d + 1 ≤ n → accepted (field_contents h base a) ≡ accepted t → 2 * length t ≤ n
+field_room : {longest n : ℕ} (h : Header) (base : ℕ) {d t : List ℕ} {a : AvlData} → Bytes d → FieldOf longest d a → length d + 1 ≤ n → ◌≡◌ {A = Answer (List ℕ)} (Ok (field_contents h base a)) (Ok t) → 2 * length t ≤ n
 field_room {longest} {n} h base {d} {t} {a} b k room e =
     let same : field_contents h base a ≡ t = cc in
     omega (arith, ap length same, room, contents-size h base longest d a b k.long k.accepts)
 
 module _ (limits : Limits) (p t : List ℕ) (b : Bytes p) where
-  pub packet-room : contents_of_packet limits p ≡ accepted t → 2 * length t ≤ length p
+  pub packet-room : contents_of_packet limits p ≡ Ok t → 2 * length t ≤ length p
   unfolding contents_of_packet tcp_source
   packet-room e =
       let i = on_accepted-accepted (tcp_source limits p) _ e in
       let j = on_accepted-accepted (read_packet limits p) _ i.1 in
       let long = packet-long limits p j.1 b in
       let content : ◌≡◌ {A = Source} (record { content = j.0; base = 10 }) i.0 = cc j.2 in
-      field_room no_header 10 (bytes_take (length p - 4 - 8) (drop 8 p) (bytes_drop 8 p b)) (packet-field limits p j.1 b) (simp (length-take, length-drop) (omega (arith, long))) (ap (λ (x : Source). accepted (contents no_header x)) content ∙ i.2)
+      field_room no_header 10 (bytes_take (length p - 4 - 8) (drop 8 p) (bytes_drop 8 p b)) (packet-field limits p j.1 b) (simp (length-take, length-drop) (omega (arith, long))) (ap (λ (x : Source). Ok (contents no_header x)) content ∙ i.2)
 
-  pub datagram-room : contents_of_datagram limits p ≡ accepted t → 2 * length t ≤ length p
+  pub datagram-room : contents_of_datagram limits p ≡ Ok t → 2 * length t ≤ length p
   unfolding contents_of_datagram
   datagram-room e =
       let i = on_accepted-accepted (read_datagram limits p) _ e in

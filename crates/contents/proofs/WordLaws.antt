@@ -9,7 +9,7 @@ use lib.Seq.{get_or-drop}
 use Rattle.wire.specs.Numbers.{signed}
 use Rattle.avl.specs.declared.Widths.{Widths}
 use Rattle.avl.specs.Records.{Fixed, FixedRules}
-use Rattle.avl.specs.DataField.{DataResult}
+use Rattle.avl.specs.declared.DataResult.{DataResult}
 use Rattle.datagram.specs.declared.Header.{Header}
 use Rattle.datagram.specs.Datagrams.{HeaderRules}
 use Rattle.element.specs.declared.RecordFields.{RecordFields}

@@ -1,8 +1,8 @@
 -- A packet's table of contents: words for the packet, then for each record in order its own and one for each of its values.
-use Rattle.std.specs.Prelude.{ℕ, List, [], ◌∷◌, ◌++◌, length}
+use Rattle.std.specs.Prelude.{Ok, ℕ, List, [], ◌∷◌, ◌++◌, length}
 use Rattle.wire.specs.declared.Limits.{Limits}
 use Rattle.wire.specs.Sequences.{joined}
-use Rattle.wire.specs.Answers.{Answer, accepted, on_accepted}
+use Rattle.wire.specs.Answers.{Answer, on_accepted}
 use Rattle.avl.specs.declared.Widths.{Widths}
 use Rattle.avl.specs.Codecs.{widths_of}
 use Rattle.avl.specs.Records.{element_count, record_bytes}
@@ -36,8 +36,8 @@ no_header = record { packet = 0; unused = 0; avl = 0; imei = 0 }
 -- ---- the packet's refusals
 
 unfoldable pub contents_of_packet : Limits → List ℕ → Answer (List ℕ)
-contents_of_packet limits p = on_accepted (tcp_source limits p) (λ x. accepted (contents no_header x))
+contents_of_packet limits p = on_accepted (tcp_source limits p) (λ x. Ok (contents no_header x))
 
 unfoldable pub contents_of_datagram : Limits → List ℕ → Answer (List ℕ)
 contents_of_datagram limits p =
-    on_accepted (read_datagram limits p) (λ g. accepted (contents g.header (record { content = g.payload; base = 25 })))
+    on_accepted (read_datagram limits p) (λ g. Ok (contents g.header (record { content = g.payload; base = 25 })))

@@ -1,11 +1,12 @@
 -- What a caller reads of a table of contents, record by record and value by value; and that it is what the look-ups give.
-use Rattle.std.specs.Prelude.{ℕ, zero, suc, ◌+◌, ◌≤◌, ◌<◌, ◌≡◌, List, [], ◌∷◌, length, take, drop, get_or}
-use Rattle.wire.specs.Answers.{Answer, accepted, on_accepted}
+use Rattle.std.specs.Prelude.{Ok, ℕ, zero, suc, ◌+◌, ◌≤◌, ◌<◌, ◌≡◌, List, [], ◌∷◌, length, take, drop, get_or}
+use Rattle.wire.specs.Answers.{Answer, on_accepted}
 use Rattle.element.specs.declared.RecordFields.{RecordFields}
 use Rattle.element.specs.declared.Value.{Value}
 use Rattle.element.specs.Elements.{nth}
 use Rattle.lookup.specs.Lookups.{Source, record_by_number, value_by_number}
-use Rattle.lookup.specs.Answers.{PartResult, part_of, answer_value}
+use Rattle.lookup.specs.Answers.{part_of, answer_value}
+use Rattle.lookup.specs.declared.Part.{Part}
 use Rattle.contents.specs.Words.{bits, title_result, record_of, value_of}
 
 pub record Row : Type 0 where
@@ -51,11 +52,11 @@ RowsAhead p t at (suc n) =
 
 -- ---- the table lists what the look-ups give, and nothing else
 
-abbrev pub place_of : ℕ → Row → PartResult
+abbrev pub place_of : ℕ → Row → Part
 place_of codec r = record { codec = codec; start = r.start; end = r.start + r.size; elements = r.fields.elements }
 
 pub record Lists (source : Answer Source) (t : List ℕ) : Type 0 where
-  pub records : (n : ℕ) → record_by_number source n ≡ on_accepted (nth n (rows_of t)) (λ row. accepted row.fields)
-  pub places : (n : ℕ) → part_of source n ≡ on_accepted (nth n (rows_of t)) (λ row. accepted (place_of (title_result t).codec row))
+  pub records : (n : ℕ) → record_by_number source n ≡ on_accepted (nth n (rows_of t)) (λ row. Ok row.fields)
+  pub places : (n : ℕ) → part_of source n ≡ on_accepted (nth n (rows_of t)) (λ row. Ok (place_of (title_result t).codec row))
   pub values : (n k : ℕ) → answer_value (value_by_number source n k) ≡ on_accepted (nth n (rows_of t)) (λ row. nth k row.values)
   pub whole : length t ≡ 2 + rows_size (rows_of t)

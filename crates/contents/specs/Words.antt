@@ -2,7 +2,7 @@
 use Rattle.std.specs.Prelude.{ℕ, ◌+◌, ◌*◌, ◌/◌, ◌%◌, ◌^◌, List, [], ◌∷◌, get_or}
 use Rattle.wire.specs.Numbers.{signed}
 use Rattle.avl.specs.Records.{Fixed}
-use Rattle.avl.specs.DataField.{DataResult}
+use Rattle.avl.specs.declared.DataResult.{DataResult}
 use Rattle.datagram.specs.declared.Header.{Header}
 use Rattle.element.specs.declared.RecordFields.{RecordFields}
 use Rattle.element.specs.declared.Value.{Value}

@@ -6,25 +6,22 @@ ghost use Rattle.std.proofs.lemmas.List.Edits.{sets};
 ghost use Rattle.wire.specs.Limits.{limits_of};
 ghost use Rattle.wire.specs.Numbers.{number_at};
 ghost use Rattle.wire.specs.Reading.{got};
-ghost use Rattle.wire.specs.Buffers.{writing, leaving, written_as};
+ghost use Rattle.wire.specs.Buffers.{writing, leaving};
 ghost use Rattle.avl.specs.Records.{AvlRecord};
 ghost use Rattle.avl.specs.RecordReader.{plain_record};
-ghost use Rattle.walk.specs.Walks.{Narrow};
 ghost use Rattle.traverse.specs.Texts.{record_text};
 ghost use Rattle.traverse.specs.Copying.{Ready};
 ghost use Rattle.traverse.specs.Fields.{Field, Writes};
-ghost use Rattle.contents.specs.Words.{quad, record_words, title_result, record_of, value_of};
+ghost use Rattle.contents.specs.Words.{quad, bits, record_words, title_result, record_of, value_of};
 ghost use Rattle.contents.specs.Contents.{contents_of_packet, contents_of_datagram};
 ghost use Rattle.contents.specs.Listing.{listed_word, head_text, field_contents};
 
 use avl::Widths;
-use datagram::DatagramAnswer;
 use element::{RecordFields, Value};
 use traverse::{ElementWriter, FieldWriter, Moved, RecordWriter};
-use walk::DataWalk;
-use wire::Written;
+use wire::Refusal;
 
-// Four numbers of 16 bits in a word, the first in the lowest.
+// Four numbers of 16 bits in a word, the first in the lowest: the sum that the definition states; `from_le_bytes` would take eight bytes.
 fn quad_word(a: u64, b: u64, c: u64, d: u64) -> u64
     requires { (a < 2 ^ 16) × (b < 2 ^ 16) × (c < 2 ^ 16) × (d < 2 ^ 16) }
     ensures { result ≡ quad a b c d }
@@ -72,13 +69,13 @@ impl ElementWriter for Listing {
 
 // Altitude, angle, satellites and speed as they stand, below priority and generation type.
 fn motion(w: Widths, s: &[u8], at: usize) -> u64
-    requires narrow { Narrow w }
     requires generation_in_bounds { at + 24 + w.event + w.generation ≤ length s.now }
     requires at_bound { (number_at s.now (at + 8) 1 ≤ 2) × (number_at s.now (at + 24 + w.event) w.generation ≤ 7) }
     ensures { result ≡ number_at s.now (at + 17) 7 + 2 ^ 56 * number_at s.now (at + 8) 1 + 2 ^ 60 * number_at s.now (at + 24 + w.event) w.generation }
 {
     let event = w.event;
     let generation = w.generation;
+    // The number of seven bytes by one load; `wire::number` would load each byte.
     let low = wire::be64(s, at + 16) % 0x100_0000_0000_0000;
     let priority = wire::short_number(s, at + 8, 1);
     let reason = wire::short_number(s, at + 24 + event, generation);
@@ -87,7 +84,6 @@ fn motion(w: Widths, s: &[u8], at: usize) -> u64
 
 // Event ID; where the record starts in the input, its bytes, its elements.
 fn extent(w: Widths, s: &[u8], at: usize, start: usize, size: usize, elements: usize) -> u64
-    requires narrow { Narrow w }
     requires event_in_bounds { at + 24 + w.event ≤ length s.now }
     requires start_bound { (start < 2 ^ 16) × (size < 2 ^ 16) × (elements < 2 ^ 16) }
     ensures { result ≡ quad (number_at s.now (at + 24) w.event) start size elements }
@@ -108,7 +104,6 @@ fn put_head(
     out: &mut [u64],
     to: usize,
 )
-    requires narrow { Narrow w }
     requires s_bound { base + length s.now < 2 ^ 16 }
     requires ready { Ready (plain_record w) s.now at to }
     requires size_bound { (size < 2 ^ 16) × (elements < 2 ^ 16) }
@@ -173,7 +168,7 @@ impl FieldWriter for Table {
 }
 
 // The table of the data field `d`, which has at most a word for every two bytes.
-fn write_field(table: Table, d: &[u8], out: &mut [u64]) -> Written
+fn write_field(table: Table, d: &[u8], out: &mut [u64]) -> Result<usize, Refusal>
     requires field { Field d.now }
     requires d_bound { table.base + length d.now < 2 ^ 16 }
     ensures { Writes (field_contents (record { packet = table.packet; unused = table.unused; avl = table.avl; imei = table.imei }) table.base) d.now out.old out.new result }
@@ -182,62 +177,56 @@ fn write_field(table: Table, d: &[u8], out: &mut [u64]) -> Written
 }
 
 // The table of contents of a TCP data packet.
-pub fn contents_of_packet(family: usize, p: &[u8], out: &mut [u64]) -> Written
-    ensures answer { written_as result ≡ writing (contents_of_packet (limits_of family) p.now) out.old }
+pub fn contents_of_packet(family: usize, p: &[u8], out: &mut [u64]) -> Result<usize, Refusal>
+    ensures answer { result ≡ writing (contents_of_packet (limits_of family) p.now) out.old }
     ensures buffer { out.new ≡ leaving (contents_of_packet (limits_of family) p.now) out.old }
 {
-    match packet::judge_packet(wire::limits_of(family), p, 0) {
-        DataWalk::Refused(r) => Written::Refused(r),
-        DataWalk::Taken {
-            codec: _,
-            count: _,
-            span: _,
-        } => {
-            let end = p.len() - 4;
-            let table = Table {
-                packet: 0,
-                unused: 0,
-                avl: 0,
-                imei: 0,
-                base: 10,
-            };
-            write_field(table, &p[8..end], out)
-        }
-    }
+    packet::judge_packet(wire::limits_of(family), p, 0)?;
+    let end = p.len() - 4;
+    let table = Table {
+        packet: 0,
+        unused: 0,
+        avl: 0,
+        imei: 0,
+        base: 10,
+    };
+    write_field(table, &p[8..end], out)
 }
 
-// The table of contents of a UDP datagram.
-pub fn contents_of_datagram(family: usize, p: &[u8], out: &mut [u64]) -> Written
-    ensures answer { written_as result ≡ writing (contents_of_datagram (limits_of family) p.now) out.old }
+// The table of contents of a UDP datagram: by itself, because of its header and its judge.
+pub fn contents_of_datagram(family: usize, p: &[u8], out: &mut [u64]) -> Result<usize, Refusal>
+    ensures answer { result ≡ writing (contents_of_datagram (limits_of family) p.now) out.old }
     ensures buffer { out.new ≡ leaving (contents_of_datagram (limits_of family) p.now) out.old }
 {
-    match datagram::read_datagram(family, p) {
-        DatagramAnswer::Refused(r) => Written::Refused(r),
-        DatagramAnswer::Accepted {
-            codec: _,
-            count: _,
-            header,
-        } => {
-            let table = Table {
-                packet: header.packet,
-                unused: header.unused,
-                avl: header.avl,
-                imei: header.imei,
-                base: 25,
-            };
-            write_field(table, &p[23..], out)
-        }
-    }
+    let accepted = datagram::read_datagram(family, p)?;
+    let header = accepted.header;
+    let table = Table {
+        packet: header.packet,
+        unused: header.unused,
+        avl: header.avl,
+        imei: header.imei,
+        base: 25,
+    };
+    write_field(table, &p[23..], out)
 }
 
 // ---- reading a table
+
+// `n` bits of a word, from bit `at` on.
+fn bits(word: u64, at: u32, n: u32) -> u64
+    requires { (at < 64) × (n < 64) }
+    ensures value { result ≡ bits word at n }
+    ensures below { result < 2 ^ n }
+{
+    (word >> at) % (1 << n)
+}
 
 // How many records the packet has.
 pub fn record_count(t: &[u64]) -> usize
     requires { 1 ≤ length t.now }
     ensures { result ≡ (title_result t.now).count }
 {
-    (t[0] / 0x1_0000 % 0x1_0000) as usize
+    bits(t[0], 16, 16) as usize
 }
 
 // The record whose words begin at `at`.
@@ -250,16 +239,16 @@ pub fn record_at(t: &[u64], at: usize) -> RecordFields
     let extent = t[at + 3];
     RecordFields {
         timestamp: t[at],
-        latitude: wire::signed32((place % 0x1_0000_0000) as u32),
-        longitude: wire::signed32((place / 0x1_0000_0000 % 0x1_0000_0000) as u32),
-        speed: (motion % 0x1_0000) as u16,
-        satellites: (motion / 0x1_0000 % 0x100) as u8,
-        angle: (motion / 0x100_0000 % 0x1_0000) as u16,
-        altitude: wire::signed16((motion / 0x100_0000_0000 % 0x1_0000) as u16),
-        priority: (motion / 0x100_0000_0000_0000 % 0x10) as u8,
-        generation: (motion / 0x1000_0000_0000_0000 % 0x10) as u8,
-        event: (extent % 0x1_0000) as u16,
-        elements: (extent / 0x1_0000_0000_0000 % 0x1_0000) as usize,
+        latitude: wire::signed32(bits(place, 0, 32) as u32),
+        longitude: wire::signed32(bits(place, 32, 32) as u32),
+        speed: bits(motion, 0, 16) as u16,
+        satellites: bits(motion, 16, 8) as u8,
+        angle: bits(motion, 24, 16) as u16,
+        altitude: wire::signed16(bits(motion, 40, 16) as u16),
+        priority: bits(motion, 56, 4) as u8,
+        generation: bits(motion, 60, 4) as u8,
+        event: bits(extent, 0, 16) as u16,
+        elements: bits(extent, 48, 16) as usize,
     }
 }
 
@@ -268,9 +257,9 @@ pub fn value_of(word: u64) -> Value
     ensures { result ≡ value_of word }
 {
     Value {
-        id: (word % 0x1_0000) as u16,
-        kind: (word / 0x1_0000 % 0x100) as u8,
-        offset: (word / 0x1_0000_0000 % 0x1_0000) as usize,
-        size: (word / 0x1_0000_0000_0000 % 0x1_0000) as usize,
+        id: bits(word, 0, 16) as u16,
+        kind: bits(word, 16, 8) as u8,
+        offset: bits(word, 32, 16) as usize,
+        size: bits(word, 48, 16) as usize,
     }
 }

@@ -1,4 +1,5 @@
 -- The judge of a datagram accepts exactly what keeps the rules, and a datagram carries one thing.
+use Rattle.std.specs.Prelude.{Ok}
 use Prim.Native.Nat.{ℕ, ◌+◌, ◌^◌, ◌≤◌, ◌<◌}
 use native.Mathlib.Omega.{arith}
 use mathlib.Core.Path.{◌≡◌, refl, sym, ap, ap₂, ◌∙◌, subst}
@@ -11,7 +12,6 @@ use borrow.Author.Tests.{le-leb, leb-true, eq-eqb, eqb-true}
 use Rattle.wire.specs.declared.Limits.{Limits}
 use Rattle.wire.specs.Numbers.{Bytes, number_at, be}
 use Rattle.wire.specs.Reading.{got, pure, number}
-use Rattle.wire.specs.Answers.{accepted}
 use Rattle.wire.specs.Imei.{read_imei}
 use Rattle.wire.proofs.Widths.{length_digits, number_lt, number-be, be-number, bytes_drop}
 use Rattle.wire.proofs.Placed.{between_join, between_split, between-moved, between-bytes, between-whole}
@@ -59,7 +59,7 @@ data-long : (a : AvlData) → 3 ≤ length (data_bytes a)
 unfolding data_bytes
 data-long a = simp length-enclosed (omega arith)
 
-datagram-sound : (limits : Limits) (p : List ℕ) (g : Datagram) → Bytes p → read_datagram limits p ≡ accepted g → UdpPacket limits g p
+datagram-sound : (limits : Limits) (p : List ℕ) (g : Datagram) → Bytes p → read_datagram limits p ≡ Ok g → UdpPacket limits g p
 unfolding read_datagram judge_header content_bytes datagram_bytes
 datagram-sound limits p g h e =
     let c₄ = on_accepted-accepted (judge_header limits.datagram p) _ e in
@@ -100,7 +100,7 @@ parts limits g p h =
       (between-moved end refl b.1).layout ∙ simp (drop-length, append-nil),
     )
 
-datagram-complete : (limits : Limits) (p : List ℕ) (g : Datagram) → UdpPacket limits g p → read_datagram limits p ≡ accepted g
+datagram-complete : (limits : Limits) (p : List ℕ) (g : Datagram) → UdpPacket limits g p → read_datagram limits p ≡ Ok g
 unfolding read_datagram judge_header datagram_bytes
 datagram-complete limits p g k =
     let a = parts limits g p k in
@@ -116,7 +116,7 @@ datagram-complete limits p g k =
     ∙ on_accepted-passed _ _ (from-passed 23 _ (ap (read_data limits.longest) a.1 ∙ data-complete limits.longest g.payload k.payload))
 
 -- the judge accepts exactly what keeps the rules
-pub datagram-exact : (limits : Limits) (p : List ℕ) (g : Datagram) → Bytes p → (read_datagram limits p ≡ accepted g) ↔ UdpPacket limits g p
+pub datagram-exact : (limits : Limits) (p : List ℕ) (g : Datagram) → Bytes p → (read_datagram limits p ≡ Ok g) ↔ UdpPacket limits g p
 datagram-exact limits p g h = (datagram-sound limits p g h, datagram-complete limits p g)
 
 pub datagrams-unique : (limits : Limits) (g h : Datagram) (p : List ℕ) → UdpPacket limits g p → UdpPacket limits h p → g ≡ h

@@ -1,4 +1,5 @@
 -- The data field of an accepted datagram: the part behind its header.
+use Rattle.std.specs.Prelude.{Ok}
 use Prim.Native.Nat.{ℕ, ◌-◌, ◌≤◌}
 use native.Mathlib.Omega.{arith}
 use mathlib.Core.Path.{◌≡◌, sym, ap, ◌∙◌, subst}
@@ -8,7 +9,7 @@ use lib.Dec.{leb}
 use borrow.Author.Tests.{leb-true}
 use Rattle.wire.specs.declared.Limits.{Limits}
 use Rattle.wire.specs.Numbers.{Bytes}
-use Rattle.wire.specs.Answers.{accepted, from}
+use Rattle.wire.specs.Answers.{from}
 use Rattle.wire.proofs.Accepting.{check-accepted, on_accepted-accepted, from-accepted}
 use Rattle.avl.specs.DataField.{read_data}
 use Rattle.avl.proofs.FieldLaws.{FieldOf}
@@ -16,7 +17,7 @@ use Rattle.datagram.specs.Datagrams.{Datagram, judge_header, read_datagram}
 use Rattle.datagram.proofs.WalkLaws.{payload-part}
 use Rattle.datagram.proofs.DatagramLaws.{length-datagram, datagram-exact}
 
-module _ (limits : Limits) (p : List ℕ) {g : Datagram} (e : read_datagram limits p ≡ accepted g) (b : Bytes p) where
+module _ (limits : Limits) (p : List ℕ) {g : Datagram} (e : read_datagram limits p ≡ Ok g) (b : Bytes p) where
   pub datagram-field : FieldOf limits.longest (take (length p - 23) (drop 23 p)) g.payload
   unfolding read_datagram judge_header
   datagram-field =
@@ -32,7 +33,7 @@ module _ (limits : Limits) (p : List ℕ) {g : Datagram} (e : read_datagram limi
       (record {
         long = simp length-drop (omega arith);
         small = simp length-drop (omega (arith, size, rules.counted));
-        accepts = from-accepted 23 _ c₅.1 ∙ ap (λ (x : Datagram). accepted x.payload) whole;
+        accepts = from-accepted 23 _ c₅.1 ∙ ap (λ (x : Datagram). Ok x.payload) whole;
       })
 
   pub datagram-long : 23 ≤ length p

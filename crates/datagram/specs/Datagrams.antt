@@ -1,17 +1,15 @@
 -- UDP datagrams: length, packet ID, unused byte, AVL packet ID, IMEI, then the data field as in TCP without a CRC.
-use Rattle.std.specs.Prelude.{ℕ, ◌+◌, ◌^◌, ◌≤◌, ◌<◌, ◌≡◌, List, [], ◌∷◌, length, drop, get_or, eqb, leb}
+use Rattle.std.specs.Prelude.{Err, Ok, ℕ, ◌+◌, ◌^◌, ◌≤◌, ◌<◌, ◌≡◌, List, [], ◌∷◌, length, drop, get_or, eqb, leb}
+use Rattle.datagram.specs.declared.DatagramResult.{DatagramResult}
 use Rattle.wire.specs.declared.Limits.{Limits}
 use Rattle.wire.specs.Limits.{is_known}
 use Rattle.wire.specs.Numbers.{number_at, be}
 use Rattle.wire.specs.Sequences.{fields}
 use Rattle.wire.specs.Reading.{Reader, ◌>>=◌, pure, number}
-use Rattle.wire.specs.Answers.{Answer, accepted, refused, check, from, told, on_accepted}
+use Rattle.wire.specs.Answers.{Answer, check, from, told, on_accepted}
 use Rattle.wire.specs.Imei.{imei_text, read_imei}
 use Rattle.datagram.specs.declared.Header.{Header}
-use Rattle.datagram.specs.declared.DatagramAnswer.{DatagramAnswer}
-use Rattle.datagram.specs.declared.DatagramAnswer.TheVariants.{Accepted, Refused}
-use Rattle.datagram.specs.declared.HeaderAnswer.{HeaderAnswer}
-use Rattle.avl.specs.DataField.{AvlData, data_bytes, DataRules, read_data, DataResult, data_result}
+use Rattle.avl.specs.DataField.{AvlData, data_bytes, DataRules, read_data, data_result}
 
 pub record Datagram : Type 0 where
   pub header : Header
@@ -65,18 +63,14 @@ unfoldable pub read_datagram : Limits → List ℕ → Answer Datagram
 read_datagram limits p =
     on_accepted (judge_header limits.datagram p)
     (λ h. on_accepted (from 23 (read_data limits.longest (drop 23 p)))
-    (λ a. accepted (record { header = h; payload = a })))
+    (λ a. Ok (record { header = h; payload = a })))
 
 unfoldable pub payload_of : Answer Datagram → Answer AvlData
-payload_of datagram = on_accepted datagram (λ g. accepted g.payload)
-
-pub record DatagramResult : Type 0 where
-  pub payload : DataResult
-  pub header : Header
+payload_of datagram = on_accepted datagram (λ g. Ok g.payload)
 
 unfoldable pub answer_datagram : Limits → List ℕ → Answer DatagramResult
 answer_datagram limits p =
-    on_accepted (read_datagram limits p) (λ g. accepted (record { payload = data_result g.payload; header = g.header }))
+    on_accepted (read_datagram limits p) (λ g. Ok (record { payload = data_result g.payload; header = g.header }))
 
 -- ---- the acknowledgement (the paper's receipt): the length 5, the IDs and the unused byte as received, the number of records
 
@@ -85,21 +79,17 @@ acknowledgement_bytes h count = fields (be 2 5 ∷ be 2 h.packet ∷ be 1 h.unus
 
 unfoldable pub udp_acknowledgement : Limits → List ℕ → Answer (List ℕ)
 udp_acknowledgement limits p =
-    on_accepted (read_datagram limits p) (λ g. accepted (acknowledgement_bytes g.header (length g.payload.records)))
+    on_accepted (read_datagram limits p) (λ g. Ok (acknowledgement_bytes g.header (length g.payload.records)))
 
 -- ---- what the code's answers say
-
-unfoldable pub datagram_as : DatagramAnswer → Answer DatagramResult
-datagram_as (Accepted codec count header) = accepted (record { payload = record { codec = codec; count = count }; header = header })
-datagram_as (Refused r) = refused r
 
 -- the header that stands at 2, with this IMEI
 abbrev pub header_at : List ℕ → ℕ → Header
 header_at p imei = record { packet = number_at p 2 2; unused = number_at p 4 1; avl = number_at p 5 1; imei = imei }
 
-unfoldable pub header_as : List ℕ → HeaderAnswer → Answer Header
-header_as p (HeaderAnswer.Of imei) = accepted (header_at p imei)
-header_as p (HeaderAnswer.Refused r) = refused r
+unfoldable pub header_as : List ℕ → Answer ℕ → Answer Header
+header_as p (Ok imei) = Ok (header_at p imei)
+header_as p (Err r) = Err r
 
 -- the same bytes as they stand in the datagram
 abbrev pub answer_bytes : List ℕ → ℕ → List ℕ

@@ -1,4 +1,5 @@
 -- The element with a number: which group has it, and where it stands there.
+use Rattle.std.specs.Prelude.{Err, None, Ok, Option, Some}
 use Prim.Native.Nat.{ℕ, zero, suc, ◌+◌, ◌-◌, ◌*◌, ◌≤◌, ◌<◌}
 use native.Mathlib.Nat.{suc-mul}
 use native.Mathlib.Omega.{arith}
@@ -10,7 +11,7 @@ use lib.Dec.{eqb}
 use borrow.Author.Tests.{ne_eqb}
 use Rattle.wire.specs.Numbers.{Bytes, number_at, pick}
 use Rattle.wire.specs.Reading.{got, repeat}
-use Rattle.wire.specs.Answers.{Answer, accepted, refused, refusal}
+use Rattle.wire.specs.Answers.{Answer, refusal}
 use Rattle.wire.proofs.Accepting.{pick_true, pick-false}
 use Rattle.avl.specs.declared.Widths.{Widths}
 use Rattle.avl.specs.Codecs.{kinds}
@@ -18,7 +19,6 @@ use Rattle.avl.specs.Records.{Element, AvlRecord, element_bytes}
 use Rattle.avl.proofs.Inversion.{group-read}
 use Rattle.avl.specs.RecordReader.{element, group, plain_record}
 use Rattle.element.specs.declared.Value.{Value}
-use Rattle.element.specs.declared.ElementAnswer.{ElementAnswer}
 use Rattle.element.specs.Elements.{Located, lead_size, locate_group, locate_groups, elements, nth}
 use Rattle.element.specs.Search.{Onward, ReadableElement, located_value, value_at, element_as}
 use Rattle.element.proofs.ElementLaws.{length-element, length-group}
@@ -39,13 +39,13 @@ nth-behind k [] b h = ap (λ (n : ℕ). nth n b) (omega arith)
 nth-behind zero (e ∷ a) b h = absurd (omega arith)
 nth-behind (suc k) (e ∷ a) b h = nth-behind k a b (omega arith) ∙ ap (λ (n : ℕ). nth n b) (omega arith)
 
-nth-none : (k : ℕ) (a : List Located) → length a ≤ k → nth k a ≡ refused (refusal 16)
+nth-none : (k : ℕ) (a : List Located) → length a ≤ k → nth k a ≡ Err (refusal 16)
 unfolding nth
 nth-none k [] h = refl
 nth-none zero (e ∷ a) h = absurd (omega arith)
 nth-none (suc k) (e ∷ a) h = nth-none k a (omega arith)
 
-pub nth_here : {k i : ℕ} → k ≤ i → (e : Located) (l : List Located) → nth (k - i) (e ∷ l) ≡ accepted e
+pub nth_here : {k i : ℕ} → k ≤ i → (e : Located) (l : List Located) → nth (k - i) (e ∷ l) ≡ Ok e
 unfolding nth
 nth_here {k} {i} h e l = let none : k - i ≡ 0 = omega arith in ap (λ (n : ℕ). nth n (e ∷ l)) none
 
@@ -53,14 +53,14 @@ pub nth-later : {k i : ℕ} → i < k → (e : Located) (l : List Located) → n
 unfolding nth
 nth-later {k} {i} h e l = let more : k - i ≡ suc (k - (i + 1)) = omega arith in sym (ap (λ (n : ℕ). nth n (e ∷ l)) more)
 
-pub nth-nothing : (n : ℕ) → ElementAnswer.Nothing ≡ element_as (nth n [])
+pub nth-nothing : (n : ℕ) → None ≡ element_as (nth n [])
 unfolding nth element_as
 nth-nothing n = refl
 
 -- what was found is what the code answers
-pub at-found : {v : Value} (r : Answer Located) → ((e : Located) × (r ≡ accepted e) × (located_value e ≡ v)) → ElementAnswer.At v ≡ element_as r
+pub at-found : {v : Value} (r : Answer Located) → ((e : Located) × (r ≡ Ok e) × (located_value e ≡ v)) → Some v ≡ element_as r
 unfolding element_as
-at-found r h = sym (ap element_as h.1 ∙ ap ElementAnswer.At h.2)
+at-found r h = sym (ap element_as h.1 ∙ ap Some h.2)
 
 -- ---- within a group
 
@@ -84,7 +84,7 @@ module _ (w : Widths) (kind : ℕ) (s : List ℕ) where
     -- the element with number `k` stands behind `k` elements of this size
     fixed-place : (k n at : ℕ) (g : List Element) (end : ℕ) → k < n → repeat n (element w kind) s at ≡ got g end
         → (e : Element) × (next : ℕ) × (element w kind s (at + k * (w.id + kind)) ≡ got e next)
-        × (nth k (locate_group w kind at g) ≡ accepted (record { kind = kind; id = e.id; place = at + k * (w.id + kind) + lead_size w kind; value = e.value }))
+        × (nth k (locate_group w kind at g) ≡ Ok (record { kind = kind; id = e.id; place = at + k * (w.id + kind) + lead_size w kind; value = e.value }))
     unfolding nth locate_group
     fixed-place k zero at g end h r = absurd (omega arith)
     fixed-place zero (suc n) at g end h r =
@@ -94,7 +94,7 @@ module _ (w : Widths) (kind : ℕ) (s : List ℕ) where
           p.mid,
           ap (element w kind s) here ∙ p.one,
           ap (λ (l : List Element). nth 0 (locate_group w kind at l)) p.is
-              ∙ ap (λ (m : ℕ). accepted (record { kind = kind; id = p.first.id; place = m + lead_size w kind; value = p.first.value })) (sym here),
+              ∙ ap (λ (m : ℕ). Ok (record { kind = kind; id = p.first.id; place = m + lead_size w kind; value = p.first.value })) (sym here),
         )
     fixed-place (suc k) (suc n) at g end h r =
         let p = (repeat-parted n (element w kind) s at).if-got _ _ r in
@@ -107,12 +107,12 @@ module _ (w : Widths) (kind : ℕ) (s : List ℕ) where
           ap (λ (l : List Element). nth (suc k) (locate_group w kind at l)) p.is
               ∙ ap (λ (m : ℕ). nth k (locate_group w kind m p.others)) behind
               ∙ i.3
-              ∙ ap (λ (m : ℕ). accepted (record { kind = kind; id = i.0.id; place = m + lead_size w kind; value = i.0.value })) there,
+              ∙ ap (λ (m : ℕ). Ok (record { kind = kind; id = i.0.id; place = m + lead_size w kind; value = i.0.value })) there,
         )
 
 -- a group has not so many elements
 pub nth_beyond : (w : Widths) (kind : ℕ) (s : List ℕ) (at k : ℕ) → number_at s at w.count ≤ k → (g : List Element) (n : ℕ) → group w kind s at ≡ got g n
-    → ElementAnswer.Nothing ≡ element_as (nth k (locate_group w kind (at + w.count) g))
+    → None ≡ element_as (nth k (locate_group w kind (at + w.count) g))
 unfolding element_as
 nth_beyond w kind s at k h g n f =
     let size = repeat-size w kind s _ (at + w.count) g n ((group-read w kind s at).if-got _ _ f).elements in
@@ -146,15 +146,15 @@ module _ {w : Widths} {kind : ℕ} {ks : List ℕ} {s : List ℕ} {at : ℕ} {an
             record { content = f.0; next = f.1; reads = f.2 }
 
         pub number-hit : {v : Value} → ((e : Element) (m : ℕ) → element w kind s (at + w.count + k * (w.id + kind)) ≡ got e m → v ≡ value_at w kind (at + w.count + k * (w.id + kind)) e)
-            → ElementAnswer.At v ≡ element_as answer
+            → Some v ≡ element_as answer
         unfolding element_as located_value value_at
         number-hit is =
             let f = fixed-place w kind s ne k n (at + w.count) _ _ i members in
-            ap ElementAnswer.At (is _ _ f.2)
+            ap Some (is _ _ f.2)
             ∙ ap element_as (sym f.3 ∙ sym (nth-before k (present-group h) (later h) (omega (arith, size))) ∙ ahead h)
 
 -- the last group
-pub number-last : {w : Widths} {kind : ℕ} {s : List ℕ} {at : ℕ} {answer : Answer Located} (k : ℕ) (h : Onward w (kind ∷ []) s at (nth k) answer) {r : ElementAnswer}
+pub number-last : {w : Widths} {kind : ℕ} {s : List ℕ} {at : ℕ} {answer : Answer Located} (k : ℕ) (h : Onward w (kind ∷ []) s at (nth k) answer) {r : Option Value}
     → ((g : List Element) (n : ℕ) → group w kind s at ≡ got g n → r ≡ element_as (nth k (locate_group w kind (at + w.count) g))) → r ≡ element_as answer
 unfolding locate_groups
 number-last k h found = found _ _ (parts h).one ∙ ap element_as (sym (ap (nth k) (append-nil (present-group h))) ∙ ahead h)

@@ -1,4 +1,5 @@
 -- Looking for one of a record's elements: within a group, from group to group, and what it is of the whole record.
+use Rattle.std.specs.Prelude.{Err, None, Ok, Some}
 use Prim.Native.Nat.{ℕ, suc, ◌+◌, ◌-◌, ◌≤◌, ◌<◌}
 use native.Mathlib.Omega.{arith}
 use mathlib.Core.Path.{◌≡◌, refl, sym, ap, ap₂, ◌∙◌, subst}
@@ -9,7 +10,7 @@ use lib.Dec.{eqb}
 use borrow.Author.Tests.{eq-eqb, ne_eqb}
 use Rattle.wire.specs.Numbers.{Bytes, number_at, pick}
 use Rattle.wire.specs.Reading.{got, repeat}
-use Rattle.wire.specs.Answers.{Answer, accepted, refused}
+use Rattle.wire.specs.Answers.{Answer}
 use Rattle.wire.proofs.Accepting.{pick_true, pick-false}
 use Rattle.avl.specs.declared.Widths.{Widths}
 use Rattle.avl.specs.Codecs.{kinds, all_kinds}
@@ -20,7 +21,6 @@ use Rattle.avl.proofs.RecordLaws.{group-exact}
 use Rattle.walk.proofs.KindLaws.{kind-known, next-kind}
 use Rattle.element.specs.declared.Value.{Value}
 use Rattle.element.specs.declared.Search.{Search}
-use Rattle.element.specs.declared.ElementAnswer.{ElementAnswer}
 use Rattle.element.specs.Elements.{Located, lead_size, locate_group, locate_groups, fixed_size, elements, first_with, passed_for}
 use Rattle.element.specs.Search.{Onward, ReadableElement, ReadableGroup, located_value, value_at, Sought, sought, hit_or, searched, element_as}
 use Rattle.element.proofs.ElementLaws.{length-element, length-group}
@@ -210,8 +210,8 @@ module _ {A : Type 0} {w : Widths} {s : List ℕ} (look : List Located → A) wh
 
 -- what was found, with so many elements passed, or else the other
 unfoldable sought_or : Answer Located → ℕ → Sought → Sought
-sought_or (accepted e) n other = record { found = accepted e; passed = n }
-sought_or (refused r) n other = other
+sought_or (Ok e) n other = record { found = Ok e; passed = n }
+sought_or (Err r) n other = other
 
 sought-append : (id before : ℕ) (a b : List Located)
     → sought id before (a ++ b) ≡ sought_or (first_with id a) (before + passed_for id a) (sought id (before + passed_for id a) b)
@@ -223,8 +223,8 @@ sought-append id before (e ∷ a) b = go (eqb e.id id) (sought-append id (before
     here n = omega arith
 
     go : (t : Bool) → sought id (before + 1) (a ++ b) ≡ sought_or (first_with id a) (before + 1 + passed_for id a) (sought id (before + 1 + passed_for id a) b)
-        → ◌≡◌ {A = Sought} (record { found = pick t (accepted e) (first_with id (a ++ b)); passed = before + pick t 1 (suc (passed_for id (a ++ b))) })
-        (sought_or (pick t (accepted e) (first_with id a)) (before + pick t 1 (suc (passed_for id a))) (sought id (before + pick t 1 (suc (passed_for id a))) b))
+        → ◌≡◌ {A = Sought} (record { found = pick t (Ok e) (first_with id (a ++ b)); passed = before + pick t 1 (suc (passed_for id (a ++ b))) })
+        (sought_or (pick t (Ok e) (first_with id a)) (before + pick t 1 (suc (passed_for id a))) (sought id (before + pick t 1 (suc (passed_for id a))) b))
     go true more = refl
     go false more =
         ap (λ (n : ℕ). record { found = first_with id (a ++ b); passed = n }) (here (passed_for id (a ++ b)))
@@ -237,7 +237,7 @@ module _ (id : ℕ) {v : Value} (e : Located) (l : List Located) (same : located
   id-is = ap (λ (x : Value). x.id) (sym same)
 
   -- it has the ID, and is one more that is passed
-  pub sought-here : (i : ℕ) → v.id ≡ id → sought id i (e ∷ l) ≡ record { found = accepted e; passed = i + 1 }
+  pub sought-here : (i : ℕ) → v.id ≡ id → sought id i (e ∷ l) ≡ record { found = Ok e; passed = i + 1 }
   unfolding sought first_with passed_for
   sought-here i h =
       let t = eq-eqb e.id id (sym id-is ∙ h) in
@@ -262,7 +262,7 @@ searched-as id before n l h =
     ap (λ (r : Sought). hit_or r.found n (before + r.passed)) (sym h) ∙ ap (λ (m : ℕ). hit_or (first_with id l) n (before + m)) (sought-passed id l)
 
 pub searched-hit : (id before n i : ℕ) {v : Value} {passed : ℕ} (l : List Located)
-    → ((e : Located) × (sought id 0 l ≡ record { found = accepted e; passed = i + 1 }) × (located_value e ≡ v)) → passed ≡ before + (i + 1) → Search.Hit v passed ≡ searched id before n l
+    → ((e : Located) × (sought id 0 l ≡ record { found = Ok e; passed = i + 1 }) × (located_value e ≡ v)) → passed ≡ before + (i + 1) → Search.Hit v passed ≡ searched id before n l
 unfolding hit_or
 searched-hit id before n i l h e = ap₂ Search.Hit (sym h.2) e ∙ searched-as id before n l h.1
 
@@ -273,7 +273,7 @@ searched-miss id before n i l h e =
     ap₂ Search.Miss h.1 (e ∙ ap (λ (m : ℕ). before + m) all) ∙ searched-as id before n l h.0
 
 -- no element is left
-pub sought-end : (id before : ℕ) (l : List Located) → sought id before [] ≡ sought id 0 l → (ElementAnswer.Nothing ≡ element_as (first_with id l)) × (before ≡ passed_for id l)
+pub sought-end : (id before : ℕ) (l : List Located) → sought id before [] ≡ sought id 0 l → (None ≡ element_as (first_with id l)) × (before ≡ passed_for id l)
 unfolding sought first_with passed_for element_as
 sought-end id before l h =
     let n = ap (λ (r : Sought). r.passed) h in
@@ -291,16 +291,16 @@ passed-most id (e ∷ l) = go (eqb e.id id) (passed-most id l)
 
 -- what a group gives, and else the groups behind it
 hit-first : (r : Answer Located) (other : Sought) (n m : ℕ) {v : Value} {k : ℕ} → hit_or r n m ≡ Search.Hit v k
-    → (ElementAnswer.At v ≡ element_as (sought_or r m other).found) × (k ≡ (sought_or r m other).passed)
+    → (Some v ≡ element_as (sought_or r m other).found) × (k ≡ (sought_or r m other).passed)
 unfolding hit_or sought_or element_as
-hit-first (accepted e) other n m h = (ap ElementAnswer.At (cc), cc)
-hit-first (refused r) other n m h = absurd (let z : ◌≡◌ {A = ℕ} 0 1 = cc in omega arith)
+hit-first (Ok e) other n m h = (ap Some (cc), cc)
+hit-first (Err r) other n m h = absurd (let z : ◌≡◌ {A = ℕ} 0 1 = cc in omega arith)
 
 miss-first : (r : Answer Located) (other : Sought) (n m : ℕ) {next k : ℕ} → hit_or r n m ≡ Search.Miss next k
     → (sought_or r m other ≡ other) × (n ≡ next) × (m ≡ k)
 unfolding hit_or sought_or
-miss-first (accepted e) other n m h = absurd (let z : ◌≡◌ {A = ℕ} 0 1 = cc in omega arith)
-miss-first (refused r) other n m h = (refl, cc, cc)
+miss-first (Ok e) other n m h = absurd (let z : ◌≡◌ {A = ℕ} 0 1 = cc in omega arith)
+miss-first (Err r) other n m h = (refl, cc, cc)
 
 module _ {w : Widths} {k : ℕ} {ks : List ℕ} {s : List ℕ} {at : ℕ} {answer : Sought} (id before : ℕ) (h : Onward w (k ∷ ks) s at (sought id before) answer)
     {r : Search} (found : (g : List Element) (n : ℕ) → group w k s at ≡ got g n → r ≡ searched id before n (locate_group w k (at + w.count) g)) where
@@ -308,7 +308,7 @@ module _ {w : Widths} {k : ℕ} {ks : List ℕ} {s : List ℕ} {at : ℕ} {answe
   passed_here : ℕ
   passed_here = before + passed_for id (present-group h)
 
-  pub onward-hit : {v : Value} {n : ℕ} → r ≡ Search.Hit v n → (ElementAnswer.At v ≡ element_as answer.found) × (n ≡ answer.passed)
+  pub onward-hit : {v : Value} {n : ℕ} → r ≡ Search.Hit v n → (Some v ≡ element_as answer.found) × (n ≡ answer.passed)
   unfolding searched passed_here
   onward-hit e =
       let same = sym (sought-append id before (present-group h) (later h)) ∙ ahead h in

@@ -1,7 +1,7 @@
 -- A record's elements in packet order, each with its kind and with the place of its value, counted from the record's start.
-use Rattle.std.specs.Prelude.{ℕ, zero, suc, ◌+◌, List, [], ◌∷◌, ◌++◌, length, eqb}
+use Rattle.std.specs.Prelude.{Err, Ok, ℕ, zero, suc, ◌+◌, List, [], ◌∷◌, ◌++◌, length, eqb}
 use Rattle.wire.specs.Numbers.{pick}
-use Rattle.wire.specs.Answers.{Answer, accepted, refused, refusal}
+use Rattle.wire.specs.Answers.{Answer, refusal}
 use Rattle.avl.specs.declared.Widths.{Widths}
 use Rattle.avl.specs.Codecs.{kinds}
 use Rattle.avl.specs.Records.{Element, AvlRecord, element_bytes, group_bytes}
@@ -36,14 +36,14 @@ elements w r = locate_groups w (kinds w) (fixed_size w) r.groups
 
 -- the n-th of a list, from 0, else 16
 unfoldable pub nth : {A : Type 0} → ℕ → List A → Answer A
-nth n [] = refused (refusal 16)
-nth zero (a ∷ l) = accepted a
+nth n [] = Err (refusal 16)
+nth zero (a ∷ l) = Ok a
 nth (suc n) (a ∷ l) = nth n l
 
 -- the first with this ID, else 16
 unfoldable pub first_with : ℕ → List Located → Answer Located
-first_with id [] = refused (refusal 16)
-first_with id (e ∷ l) = pick (eqb e.id id) (accepted e) (first_with id l)
+first_with id [] = Err (refusal 16)
+first_with id (e ∷ l) = pick (eqb e.id id) (Ok e) (first_with id l)
 
 -- the number of elements passed in looking for it: its place, from 1; all of them where there is none
 unfoldable pub passed_for : ℕ → List Located → ℕ

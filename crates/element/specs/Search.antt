@@ -1,14 +1,12 @@
 -- The search among a record's elements, and what its functions answer.
-use Rattle.std.specs.Prelude.{ℕ, ◌+◌, ◌≡◌, List, length}
+use Rattle.std.specs.Prelude.{Err, None, Ok, Option, Some, ℕ, ◌+◌, ◌≡◌, List, length}
 use Rattle.wire.specs.Reading.{got}
-use Rattle.wire.specs.Answers.{Answer, accepted, refused}
+use Rattle.wire.specs.Answers.{Answer}
 use Rattle.avl.specs.declared.Widths.{Widths}
 use Rattle.avl.specs.Records.{Element, AvlRecord, element_count}
 use Rattle.avl.specs.RecordReader.{element, group, groups, plain_record}
 use Rattle.element.specs.declared.Value.{Value}
 use Rattle.element.specs.declared.Search.{Search}
-use Rattle.element.specs.declared.ElementAnswer.{ElementAnswer}
-use Rattle.element.specs.declared.ElementAnswer.TheVariants.{At, Nothing}
 use Rattle.element.specs.Elements.{Located, lead_size, locate_groups, elements, first_with, passed_for}
 
 -- the bytes `s` begin with a record that can be read
@@ -58,19 +56,19 @@ unfoldable pub sought : ℕ → ℕ → List Located → Sought
 sought id before l = record { found = first_with id l; passed = before + passed_for id l }
 
 unfoldable pub hit_or : Answer Located → ℕ → ℕ → Search
-hit_or (accepted e) next n = Search.Hit (located_value e) n
-hit_or (refused r) next n = Search.Miss next n
+hit_or (Ok e) next n = Search.Hit (located_value e) n
+hit_or (Err r) next n = Search.Miss next n
 
 -- in a group that ends at `next`, behind so many elements
 unfoldable pub searched : ℕ → ℕ → ℕ → List Located → Search
 searched id before next l = hit_or (first_with id l) next (before + passed_for id l)
 
-unfoldable pub element_as : Answer Located → ElementAnswer
-element_as (accepted e) = At (located_value e)
-element_as (refused r) = Nothing
+unfoldable pub element_as : Answer Located → Option Value
+element_as (Ok e) = Some (located_value e)
+element_as (Err r) = None
 
 -- the answer is the element that is looked for in the record that the bytes `s` begin with
-abbrev pub Finds : Widths → List ℕ → (List Located → Answer Located) → ElementAnswer → Type 0
+abbrev pub Finds : Widths → List ℕ → (List Located → Answer Located) → Option Value → Type 0
 Finds w s look r = (x : AvlRecord) (n : ℕ) → plain_record w s 0 ≡ got x n → r ≡ element_as (look (elements w x))
 
 -- so many elements of this record are passed in looking for the ID

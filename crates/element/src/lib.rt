@@ -5,7 +5,6 @@ ghost use Rattle.std.specs.Prelude.{◌≡◌, ℕ, ◌+◌, ◌≤◌, List};
 ghost use Rattle.wire.specs.Reading.{got};
 ghost use Rattle.avl.specs.Records.{Element, AvlRecord};
 ghost use Rattle.avl.specs.RecordReader.{element, group, plain_record};
-ghost use Rattle.walk.specs.Walks.{Narrow};
 ghost use Rattle.element.specs.Elements.{fixed_size, locate_group, nth, first_with};
 ghost use Rattle.element.specs.Results.{record_result};
 ghost use Rattle.element.specs.Search.{Readable, HasElements, ReadableElement, ReadableGroup, Finds, Passes, value_at, searched, element_as};
@@ -37,21 +36,14 @@ pub struct Value {
     pub size: usize,
 }
 
-// A value of a record, its offset counted from the record's start; or none.
-#[derive(Clone, Copy)]
-pub enum ElementAnswer {
-    At(Value),
-    Nothing,
-}
-
 // What a look-up by ID in a record gives: the element, and the number of elements passed.
 #[derive(Clone, Copy)]
 pub struct CountedElement {
-    pub answer: ElementAnswer,
+    pub answer: Option<Value>,
     pub passed: usize,
 }
 
-// The value looked for in a group, or where the group ends; and how many elements of the record were passed.
+// The value looked for in a group, or where the group ends; and how many elements of the record were passed. No `Result`: a miss is no failure, and the search goes on behind it.
 #[derive(Clone, Copy)]
 enum Search {
     Hit { value: Value, passed: usize },
@@ -60,7 +52,6 @@ enum Search {
 
 // How many bytes of a record stand before its groups.
 pub fn fixed_size(w: Widths) -> usize
-    requires { Narrow w }
     ensures { result ≡ fixed_size w }
 {
     24 + w.event + w.generation + w.count
@@ -68,7 +59,6 @@ pub fn fixed_size(w: Widths) -> usize
 
 // The fixed fields of the record that `part` is, which has so many elements. The fields that are always there are read last, in one run.
 pub fn fields_of(w: Widths, part: &[u8], elements: usize) -> RecordFields
-    requires narrow { Narrow w }
     requires readable { Readable w part.now }
     requires has_elements { HasElements w part.now elements }
     ensures { (x : AvlRecord) (n : ℕ) → plain_record w part.now 0 ≡ got x n → result ≡ record_result x }
@@ -95,7 +85,6 @@ pub fn fields_of(w: Widths, part: &[u8], elements: usize) -> RecordFields
 
 // The element of a kind at `at`, its place counted from the record's start.
 pub fn element_value(w: Widths, kind: usize, part: &[u8], at: usize) -> Value
-    requires narrow { Narrow w }
     requires kind_bound { kind ≤ 9 }
     requires readable_element { ReadableElement w kind part.now at }
     ensures { (e : Element) (n : ℕ) → element w kind part.now at ≡ got e n → result ≡ value_at w kind at e }
@@ -122,7 +111,6 @@ pub fn element_value(w: Widths, kind: usize, part: &[u8], at: usize) -> Value
 
 // The first element of a group with this ID, behind so many elements before the group. It counts down, as it has to for the group's end: a count upwards beside that takes time.
 fn find_in_group(w: Widths, kind: usize, part: &[u8], at: usize, id: u16, before: usize) -> Search
-    requires narrow { Narrow w }
     requires le_kind { 1 ≤ kind }
     requires kind_bound { kind ≤ 9 }
     requires readable_group { ReadableGroup w kind part.now at }
@@ -130,12 +118,11 @@ fn find_in_group(w: Widths, kind: usize, part: &[u8], at: usize, id: u16, before
     ensures { (g : List Element) (n : ℕ) → group w kind part.now at ≡ got g n → result ≡ searched id before n (locate_group w kind (at + w.count) g) }
 {
     let width = w.count;
-    let mut left = wire::short_number(part, at, width) as usize;
-    let behind = before + left;
+    let count = wire::short_number(part, at, width) as usize;
+    let behind = before + count;
     let mut next = at + width;
-    while 0 < left {
+    for left in (0..count).rev() {
         let v = element_value(w, kind, part, next);
-        left -= 1;
         if v.id == id {
             return Search::Hit {
                 value: v,
@@ -152,20 +139,17 @@ fn find_in_group(w: Widths, kind: usize, part: &[u8], at: usize, id: u16, before
 
 // The first element with this ID, of the record that `part` is, and the number of elements passed.
 pub fn find_id(w: Widths, part: &[u8], id: u16) -> CountedElement
-    requires narrow { Narrow w }
     requires readable { Readable w part.now }
     ensures found { Finds w part.now (first_with id) result.answer }
     ensures passed { Passes w part.now id result.passed }
 {
-    let kinds = walk::kind_count(w);
     let mut next = fixed_size(w);
     let mut before: usize = 0;
-    let mut k: usize = 0;
-    while k < kinds {
+    for k in 0..walk::kind_count(w) {
         match find_in_group(w, walk::kind_at(k), part, next, id, before) {
             Search::Hit { value, passed } => {
                 return CountedElement {
-                    answer: ElementAnswer::At(value),
+                    answer: Some(value),
                     passed,
                 };
             }
@@ -174,38 +158,33 @@ pub fn find_id(w: Widths, part: &[u8], id: u16) -> CountedElement
                 before = passed;
             }
         }
-        k += 1;
     }
     CountedElement {
-        answer: ElementAnswer::Nothing,
+        answer: None,
         passed: before,
     }
 }
 
 // The variable element with number `n` in the group at `at`.
-fn nth_variable(w: Widths, part: &[u8], at: usize, n: usize) -> ElementAnswer
-    requires narrow { Narrow w }
+fn nth_variable(w: Widths, part: &[u8], at: usize, n: usize) -> Option<Value>
     requires readable_group { ReadableGroup w 9 part.now at }
     ensures { (g : List Element) (m : ℕ) → group w 9 part.now at ≡ got g m → result ≡ element_as (nth n (locate_group w 9 (at + w.count) g)) }
 {
     let width = w.count;
     let count = wire::short_number(part, at, width) as usize;
     if count <= n {
-        return ElementAnswer::Nothing;
+        return None;
     }
     let mut next = at + width;
-    let mut i: usize = 0;
-    while i < n {
+    for _i in 0..n {
         let v = element_value(w, 9, part, next);
         next = v.offset + v.size;
-        i += 1;
     }
-    ElementAnswer::At(element_value(w, 9, part, next))
+    Some(element_value(w, 9, part, next))
 }
 
 // The element with number `n` of the record that `part` is. A group of fixed values is stepped over by its size.
-pub fn nth_element(w: Widths, part: &[u8], n: usize) -> ElementAnswer
-    requires narrow { Narrow w }
+pub fn nth_element(w: Widths, part: &[u8], n: usize) -> Option<Value>
     requires readable { Readable w part.now }
     ensures { Finds w part.now (nth n) result }
 {
@@ -213,23 +192,20 @@ pub fn nth_element(w: Widths, part: &[u8], n: usize) -> ElementAnswer
     let id = w.id;
     let mut left = n;
     let mut next = fixed_size(w);
-    let mut k: usize = 0;
-    while k < 4 {
+    for k in 0..4 {
         let kind = walk::kind_at(k);
         let size = id + kind;
         let count = wire::short_number(part, next, width) as usize;
         let start = next + width;
         if left < count {
             let place = start + left * size;
-            return ElementAnswer::At(element_value(w, kind, part, place));
+            return Some(element_value(w, kind, part, place));
         }
         left -= count;
         next = start + count * size;
-        k += 1;
     }
-    let variable = w.variable;
-    if variable {
+    if w.variable {
         return nth_variable(w, part, next, left);
     }
-    ElementAnswer::Nothing
+    None
 }

@@ -1,4 +1,5 @@
 -- How long a form is beside its data field, from the layouts. Before its value an element has six bytes in the form, and its ID in the packet, with a length where it is variable; before its elements a record has 31 bytes in the form, and at least 30 in the packet.
+use Rattle.std.specs.Prelude.{Ok}
 use Prim.Native.Nat.{ℕ, ◌+◌, ◌*◌, ◌^◌, ◌≤◌, ◌<◌}
 use native.Mathlib.Nat.{mul-add, suc-mul}
 use native.Mathlib.Omega.{arith}
@@ -10,7 +11,6 @@ use lib.ListN.{length, length-append}
 use lib.Dec.{eqb}
 use Rattle.wire.specs.Numbers.{Bytes, be, le, pick}
 use Rattle.wire.specs.Sequences.{joined, All}
-use Rattle.wire.specs.Answers.{accepted}
 use Rattle.wire.proofs.Accepting.{pick-either}
 use Rattle.wire.proofs.Widths.{length_digits}
 use Rattle.wire.proofs.Enclosed.{length-enclosed}
@@ -169,7 +169,7 @@ measured longest a h =
     }
 
 -- at most three and a half times, and so at most four times as long as its data field
-pub form-size : (longest : ℕ) (d : List ℕ) (a : AvlData) → Bytes d → 3 ≤ length d → read_data longest d ≡ accepted a → length (form a) ≤ 4 * length d
+pub form-size : (longest : ℕ) (d : List ℕ) (a : AvlData) → Bytes d → 3 ≤ length d → read_data longest d ≡ Ok a → length (form a) ≤ 4 * length d
 form-size longest d a b l e =
     let k = (data-exact longest d a b l).0 e in
     let m = measured longest a k.0 in

@@ -1,6 +1,6 @@
 -- What is written along a data field: the entries of its TLV form.
-use Rattle.std.specs.Prelude.{ℕ, List}
-use Rattle.wire.specs.Answers.{Answer, accepted, on_accepted}
+use Rattle.std.specs.Prelude.{Ok, ℕ, List}
+use Rattle.wire.specs.Answers.{Answer, on_accepted}
 use Rattle.avl.specs.Records.{Fixed, AvlRecord}
 use Rattle.avl.specs.DataField.{read_data}
 use Rattle.element.specs.Elements.{Located}
@@ -20,4 +20,4 @@ head_text at r = fixed_text at r.fixed
 
 -- the form of a data field of at least three bytes
 unfoldable pub form_of_field : ℕ → List ℕ → Answer (List ℕ)
-form_of_field longest d = on_accepted (read_data longest d) (λ a. accepted (form a))
+form_of_field longest d = on_accepted (read_data longest d) (λ a. Ok (form a))

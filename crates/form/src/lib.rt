@@ -4,11 +4,10 @@
 ghost use Rattle.std.specs.Prelude.{◌≡◌, ◌+◌, ◌^◌, ◌≤◌, ◌<◌, ◌++◌, length};
 ghost use Rattle.wire.specs.Numbers.{number_at, le};
 ghost use Rattle.wire.specs.Reading.{got, repeat};
-ghost use Rattle.wire.specs.Buffers.{writing, leaving, written_as};
+ghost use Rattle.wire.specs.Buffers.{writing, leaving};
 ghost use Rattle.store.specs.Stores.{Stored};
 ghost use Rattle.avl.specs.RecordReader.{value_size, fixed_fields, plain_record};
 ghost use Rattle.avl.specs.Codecs.{widths_of};
-ghost use Rattle.walk.specs.Walks.{Narrow};
 ghost use Rattle.tlv.specs.Form.{form};
 ghost use Rattle.tlv.specs.PacketOf.{form_of_packet, form_of_datagram};
 ghost use Rattle.wire.specs.Limits.{limits_of};
@@ -19,8 +18,7 @@ ghost use Rattle.form.specs.Moves.{entry_text, fixed_text, head_text, form_of_fi
 
 use avl::Widths;
 use traverse::{ElementWriter, FieldWriter, Moved, RecordWriter};
-use walk::DataWalk;
-use wire::Written;
+use wire::Refusal;
 
 // Reads a number of `w` bytes and stores it in `v`, the lowest first.
 fn store_number(s: &[u8], at: usize, w: usize, out: &mut [u8], to: usize, v: usize) -> usize
@@ -40,7 +38,6 @@ fn store_field(s: &[u8], at: usize, i: usize, w: usize, out: &mut [u8], to: usiz
 
 // The entry of the fixed fields: kind 101, 27 bytes.
 fn put_fixed(w: Widths, s: &[u8], at: usize, out: &mut [u8], to: usize) -> Moved
-    requires narrow { Narrow w }
     requires ready { Ready (fixed_fields w) s.now at to }
     ensures { Copies (fixed_fields w) fixed_text s.now at to out.old out.new result }
 {
@@ -168,7 +165,7 @@ impl FieldWriter for Entries {
 }
 
 // The form of the data field `d`, which is at most four times as long.
-fn write_field(d: &[u8], out: &mut [u8]) -> Written
+fn write_field(d: &[u8], out: &mut [u8]) -> Result<usize, Refusal>
     requires { Field d.now }
     ensures { Writes form d.now out.old out.new result }
 {
@@ -176,50 +173,30 @@ fn write_field(d: &[u8], out: &mut [u8]) -> Written
 }
 
 // The form of a data field, which is judged first.
-pub fn form_of_field(longest: usize, d: &[u8], out: &mut [u8]) -> Written
+pub fn form_of_field(longest: usize, d: &[u8], out: &mut [u8]) -> Result<usize, Refusal>
     requires { (3 ≤ length d.now) × (length d.now < 2 ^ 32) }
-    ensures answer { written_as result ≡ writing (form_of_field longest d.now) out.old }
+    ensures answer { result ≡ writing (form_of_field longest d.now) out.old }
     ensures buffer { out.new ≡ leaving (form_of_field longest d.now) out.old }
 {
-    match walk::read_data(longest, 0, d, 0) {
-        DataWalk::Refused(r) => Written::Refused(r),
-        DataWalk::Taken {
-            codec: _,
-            count: _,
-            span: _,
-        } => write_field(d, out),
-    }
+    walk::read_data(longest, 0, d, 0)?;
+    write_field(d, out)
 }
 
 // The form of a TCP data packet.
-pub fn form_of_packet(family: usize, p: &[u8], out: &mut [u8]) -> Written
-    ensures answer { written_as result ≡ writing (form_of_packet (limits_of family) p.now) out.old }
+pub fn form_of_packet(family: usize, p: &[u8], out: &mut [u8]) -> Result<usize, Refusal>
+    ensures answer { result ≡ writing (form_of_packet (limits_of family) p.now) out.old }
     ensures buffer { out.new ≡ leaving (form_of_packet (limits_of family) p.now) out.old }
 {
-    match packet::judge_packet(wire::limits_of(family), p, 0) {
-        DataWalk::Refused(r) => Written::Refused(r),
-        DataWalk::Taken {
-            codec: _,
-            count: _,
-            span: _,
-        } => {
-            let end = p.len() - 4;
-            write_field(&p[8..end], out)
-        }
-    }
+    packet::judge_packet(wire::limits_of(family), p, 0)?;
+    let end = p.len() - 4;
+    write_field(&p[8..end], out)
 }
 
-// The form of a UDP datagram.
-pub fn form_of_datagram(family: usize, p: &[u8], out: &mut [u8]) -> Written
-    ensures answer { written_as result ≡ writing (form_of_datagram (limits_of family) p.now) out.old }
+// The form of a UDP datagram. Two functions: one over both would take the judge, its clause and the two bounds of the slice, for these two lines.
+pub fn form_of_datagram(family: usize, p: &[u8], out: &mut [u8]) -> Result<usize, Refusal>
+    ensures answer { result ≡ writing (form_of_datagram (limits_of family) p.now) out.old }
     ensures buffer { out.new ≡ leaving (form_of_datagram (limits_of family) p.now) out.old }
 {
-    match datagram::judge_datagram(family, p, 0) {
-        DataWalk::Refused(r) => Written::Refused(r),
-        DataWalk::Taken {
-            codec: _,
-            count: _,
-            span: _,
-        } => write_field(&p[23..], out),
-    }
+    datagram::judge_datagram(family, p, 0)?;
+    write_field(&p[23..], out)
 }

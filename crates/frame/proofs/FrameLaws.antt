@@ -1,4 +1,5 @@
 -- The frame's judge accepts exactly what keeps the frame's rules.
+use Rattle.std.specs.Prelude.{Ok}
 use Prim.Native.Nat.{ℕ, ◌+◌, ◌^◌, ◌≤◌, ◌<◌}
 use native.Mathlib.Nat.{lt_of_lt_of_le}
 use native.Mathlib.Omega.{arith}
@@ -10,7 +11,6 @@ use lib.Seq.{length-take-le}
 use lib.Dec.{lit<, lit≤}
 use borrow.Author.Tests.{le-leb, leb-true, eq-eqb, eqb-true}
 use Rattle.wire.specs.Numbers.{Bytes, number_at, digits, be}
-use Rattle.wire.specs.Answers.{accepted}
 use Rattle.wire.proofs.Widths.{be-number, number-be, number_lt, length_digits, bytes_take, bytes_drop, bytes-append, bytes-be}
 use Rattle.wire.proofs.Placed.{Between, between_join, between_split, between-moved, between-bytes, between-take, between_is, between-whole, whole-between}
 use Rattle.wire.proofs.Accepting.{check-accepted, check-passed}
@@ -65,7 +65,7 @@ counted : (p : List ℕ) → Bytes p → field_length p < 256 ^ 4
 unfolding field_length
 counted p h = number_lt p 4 4 h
 
-frame-sound : (largest : ℕ) (p d : List ℕ) → Bytes p → unframe largest p ≡ accepted d → FrameRules largest d × (p ≡ framed d)
+frame-sound : (largest : ℕ) (p d : List ℕ) → Bytes p → unframe largest p ≡ Ok d → FrameRules largest d × (p ≡ framed d)
 unfolding unframe
 frame-sound largest p d h e =
     let c₀ = check-accepted _ 21 _ _ e in
@@ -111,7 +111,7 @@ parts d s n b h f =
       sum = number-be 4 (crc d) s (8 + length d) _ (lt_of_lt_of_le (crc-lt d b) (lit≤ tt)) f₃.1.layout;
     }
 
-pub frame-complete : (largest : ℕ) (d : List ℕ) → FrameRules largest d → unframe largest (framed d) ≡ accepted d
+pub frame-complete : (largest : ℕ) (d : List ℕ) → FrameRules largest d → unframe largest (framed d) ≡ Ok d
 unfolding unframe
 frame-complete largest d h =
     let s = framed d in
@@ -124,8 +124,8 @@ frame-complete largest d h =
     ∙ check-passed _ 3 _ _ (le-leb _ largest (omega (arith, k.size, h.most)))
     ∙ check-passed _ 4 _ _ (eq-eqb (length s) _ (omega (arith, k.size, long)))
     ∙ check-passed _ 5 _ _ (eq-eqb _ _ (ap (λ (n : ℕ). number_at s (8 + n) 4) k.size ∙ k.sum ∙ ap crc (sym k.field)))
-    ∙ ap accepted k.field
+    ∙ ap Ok k.field
 
 -- the judge accepts exactly the frames that keep the rules
-pub frame-exact : (largest : ℕ) (p d : List ℕ) → Bytes p → (unframe largest p ≡ accepted d) ↔ (FrameRules largest d × (p ≡ framed d))
+pub frame-exact : (largest : ℕ) (p d : List ℕ) → Bytes p → (unframe largest p ≡ Ok d) ↔ (FrameRules largest d × (p ≡ framed d))
 frame-exact largest p d h = (frame-sound largest p d h, λ k. ap (unframe largest) k.1 ∙ frame-complete largest d k.0)

@@ -1,4 +1,5 @@
 -- What the code's answer tells of the frame's judge.
+use Rattle.std.specs.Prelude.{Err, Ok}
 use Prim.Native.Nat.{ℕ, ◌+◌, ◌-◌, ◌≤◌}
 use native.Mathlib.Omega.{arith}
 use mathlib.Core.Path.{◌≡◌, refl, sym, ap, ap₂, subst, ◌∙◌}
@@ -9,21 +10,20 @@ use lib.Dec.{eqb, leb}
 use borrow.Author.Tests.{le-leb, leb-true, eqb-true}
 use Rattle.wire.specs.Numbers.{Bytes, number_at}
 use Rattle.wire.specs.declared.Refusal.{Refusal}
-use Rattle.wire.specs.Answers.{Answer, accepted, refused, refusal_at, check, check_at}
+use Rattle.wire.specs.Answers.{Answer, refusal_at, check, check_at}
 use Rattle.wire.proofs.Accepting.{check-accepted, check-passed}
 use Rattle.wire.proofs.Placed.{between-whole}
 use Rattle.checksum.specs.Crc.{crc}
-use Rattle.frame.specs.declared.Framed.TheVariants.{Field, Unframed}
-use Rattle.frame.specs.Frame.{framed, field_length, field_of, headed, header, unframe, framing, heading, refusal_of}
+use Rattle.frame.specs.Frame.{framed, field_length, field_of, headed, header, unframe, framing}
 use Rattle.frame.proofs.FrameLaws.{length-framed, parts, frame-exact}
 
-framing-accepted : (r : Answer (List ℕ)) {n : ℕ} → framing r ≡ Field n → (d : List ℕ) × (r ≡ accepted d) × (length d ≡ n)
+framing-accepted : (r : Answer (List ℕ)) {n : ℕ} → framing r ≡ Ok n → (d : List ℕ) × (r ≡ Ok d) × (length d ≡ n)
 unfolding framing
-framing-accepted (accepted d) e = (d, refl, cc)
-framing-accepted (refused x) e = absurd (let z : ◌≡◌ {A = ℕ} 0 1 = cc in omega arith)
+framing-accepted (Ok d) e = (d, refl, cc)
+framing-accepted (Err x) e = absurd (let z : ◌≡◌ {A = ℕ} 0 1 = cc in omega arith)
 
-pub framing-field : (largest : ℕ) (p : List ℕ) (n : ℕ) → framing (unframe largest p) ≡ Field n → Bytes p
-    → (unframe largest p ≡ accepted (take n (drop 8 p))) × (length p ≡ n + 12) × (3 ≤ n)
+pub framing-field : (largest : ℕ) (p : List ℕ) (n : ℕ) → framing (unframe largest p) ≡ Ok n → Bytes p
+    → (unframe largest p ≡ Ok (take n (drop 8 p))) × (length p ≡ n + 12) × (3 ≤ n)
 unfolding field_of
 framing-field largest p n e h =
     let a = framing-accepted (unframe largest p) e in
@@ -33,21 +33,16 @@ framing-field largest p n e h =
     let field : take n (drop 8 p) ≡ d =
     ap₂ (λ (m : ℕ) (s : List ℕ). take m (drop 8 s)) (sym (k.size ∙ a.2)) rules.1 ∙ k.field
     in
-    (a.1 ∙ ap accepted (sym field), omega (arith, ap length rules.1, length-framed d, a.2), omega (arith, rules.0.least, a.2))
+    (a.1 ∙ ap Ok (sym field), omega (arith, ap length rules.1, length-framed d, a.2), omega (arith, rules.0.least, a.2))
 
 -- ---- the header
 
-pub heading-accepted : (r : Answer ℕ) {n : ℕ} → heading r ≡ Field n → r ≡ accepted n
-unfolding heading
-heading-accepted (accepted m) e = ap accepted (cc)
-heading-accepted (refused x) e = absurd (let z : ◌≡◌ {A = ℕ} 0 1 = cc in omega arith)
-
 module _ (largest : ℕ) (p : List ℕ) where
   -- what a header that passes gives, whatever stands behind it
-  pub header-field : (n : ℕ) → heading (header largest p) ≡ Field n
+  pub header-field : (n : ℕ) → header largest p ≡ Ok n
       → (n ≡ field_length p) × (3 ≤ n) × (n + 12 ≤ largest) × ((A : Type 0) (rest : Answer A) → headed largest p rest ≡ rest)
   header-field n e =
-      let c₁ = check-accepted _ 2 _ _ (heading-accepted _ e) in
+      let c₁ = check-accepted _ 2 _ _ e in
       let c₂ = check-accepted _ 3 _ _ c₁.1 in
       let c₃ = check-accepted _ 3 _ _ c₂.1 in
       let least : 3 ≤ field_length p = leb-true _ _ c₂.0 in
@@ -60,25 +55,24 @@ module _ (largest : ℕ) (p : List ℕ) where
       )
 
   -- a header that is refused, whatever stands behind it
-  pub header-unframed : {A : Type 0} (size n : ℕ) → heading (header largest p) ≡ Unframed n
-      → (rest : Answer A) → headed largest p rest ≡ refused (refusal_of size n)
-  unfolding heading check_at refusal_of
-  header-unframed {A} size n e rest = go (eqb (number_at p 0 4) 0) (leb 3 (field_length p)) (leb (field_length p + 12) largest) e
+  pub header-unframed : {A : Type 0} {x : Refusal} → header largest p ≡ Err x → (rest : Answer A) → headed largest p rest ≡ Err x
+  unfolding check_at
+  header-unframed {A} {x} e rest = go (eqb (number_at p 0 4) 0) (leb 3 (field_length p)) (leb (field_length p + 12) largest) e
     where
-      go : (a b c : Bool) → heading (check_at a 2 0 (check_at b 3 4 (check_at c 3 4 (accepted (field_length p))))) ≡ Unframed n
-          → check_at a 2 0 (check_at b 3 4 (check_at c 3 4 rest)) ≡ refused (refusal_of size n)
-      go false b c e = let same : 2 ≡ n = cc e in ap (λ (k : ℕ). refused (refusal_of size k)) same
-      go true false c e = let same : 3 ≡ n = cc e in ap (λ (k : ℕ). refused (refusal_of size k)) same
-      go true true false e = let same : 3 ≡ n = cc e in ap (λ (k : ℕ). refused (refusal_of size k)) same
+      go : (a b c : Bool) → ◌≡◌ {A = Answer ℕ} (check_at a 2 0 (check_at b 3 4 (check_at c 3 4 (Ok (field_length p))))) (Err x)
+          → check_at a 2 0 (check_at b 3 4 (check_at c 3 4 rest)) ≡ Err x
+      go false b c e = let same : refusal_at 2 0 ≡ x = cc e in ap Err same
+      go true false c e = let same : refusal_at 3 4 ≡ x = cc e in ap Err same
+      go true true false e = let same : refusal_at 3 4 ≡ x = cc e in ap Err same
       go true true true e = absurd (let z : ◌≡◌ {A = ℕ} 0 1 = cc in omega arith)
 
-  pub refused-header : (size n : ℕ) → heading (header largest p) ≡ Unframed n → 1 ≤ largest → 8 ≤ length p → unframe largest p ≡ refused (refusal_of size n)
+  pub refused-header : {x : Refusal} → header largest p ≡ Err x → 1 ≤ largest → 8 ≤ length p → unframe largest p ≡ Err x
   unfolding unframe
-  refused-header size n e k h = check-passed _ 21 _ _ (le-leb 1 largest k) ∙ check-passed _ 1 _ _ (le-leb 8 (length p) h) ∙ header-unframed size n e _
+  refused-header e k h = check-passed _ 21 _ _ (le-leb 1 largest k) ∙ check-passed _ 1 _ _ (le-leb 8 (length p) h) ∙ header-unframed e _
 
   -- what is left to judge behind a header that passes
-  pub behind-header : (n : ℕ) → heading (header largest p) ≡ Field n → 1 ≤ largest → 8 ≤ length p → let d = take n (drop 8 p) in
-      unframe largest p ≡ check (eqb (length p) (n + 12)) 4 (check_at (eqb (number_at p (8 + n) 4) (crc d)) 5 (8 + n) (accepted d))
+  pub behind-header : (n : ℕ) → header largest p ≡ Ok n → 1 ≤ largest → 8 ≤ length p → let d = take n (drop 8 p) in
+      unframe largest p ≡ check (eqb (length p) (n + 12)) 4 (check_at (eqb (number_at p (8 + n) 4) (crc d)) 5 (8 + n) (Ok d))
   unfolding unframe field_of
   behind-header n e k h =
       let f = header-field n e in
@@ -86,41 +80,15 @@ module _ (largest : ℕ) (p : List ℕ) where
       ∙ check-passed _ 1 _ _ (le-leb 8 (length p) h)
       ∙ f.3 (List ℕ) _
       ∙ ap
-      (λ (k : ℕ). check (eqb (length p) (k + 12)) 4 (check_at (eqb (number_at p (8 + k) 4) (crc (take k (drop 8 p)))) 5 (8 + k) (accepted (take k (drop 8 p)))))
+      (λ (k : ℕ). check (eqb (length p) (k + 12)) 4 (check_at (eqb (number_at p (8 + k) 4) (crc (take k (drop 8 p)))) 5 (8 + k) (Ok (take k (drop 8 p)))))
       (sym f.0)
 
 -- ---- the frame
 
--- refused as the number says it of so many bytes
-abbrev Whole : {A : Type 0} → ℕ → Answer A → Type 0
-Whole size r = (x : Refusal) → r ≡ refused x → x ≡ refusal_of size x.number
-
-whole-accepted : {A : Type 0} (size : ℕ) (a : A) → Whole size (accepted a)
-whole-accepted size a x e = absurd (let z : ◌≡◌ {A = ℕ} 0 1 = cc in omega arith)
-
-whole-check : {A : Type 0} (size : ℕ) (test : Bool) (number place : ℕ) (rest : Answer A) → refusal_at number place ≡ refusal_of size number
-    → (test ≡ true → Whole size rest) → Whole size (check_at test number place rest)
-unfolding check_at
-whole-check size true number place rest k h x e = h refl x e
-whole-check size false number place rest k h x e =
-    let same : refusal_at number place ≡ x = cc in
-    subst (λ (y : Refusal). y ≡ refusal_of size y.number) same k
-
-whole-unframe : (largest : ℕ) (p : List ℕ) → Whole (length p) (unframe largest p)
-unfolding unframe refusal_of
-whole-unframe largest p =
-    let n = length p in
-    whole-check n _ 21 0 _ refl (λ _. whole-check n _ 1 0 _ refl
-    (λ _. whole-check n _ 2 0 _ refl (λ _. whole-check n _ 3 4 _ refl (λ _. whole-check n _ 3 4 _ refl
-    (λ _. whole-check n (eqb n (field_length p + 12)) 4 0 _ refl
-    (λ e. let long : n ≡ field_length p + 12 = eqb-true _ _ e in
-    let last : 8 + field_length p ≡ n - 4 = omega arith in
-    whole-check n _ 5 _ _ (ap (refusal_at 5) last) (λ _. whole-accepted n _)))))))
-
-framing-refused : (size : ℕ) (r : Answer (List ℕ)) {n : ℕ} → Whole size r → framing r ≡ Unframed n → r ≡ refused (refusal_of size n)
+framing-refused : (r : Answer (List ℕ)) {x : Refusal} → framing r ≡ Err x → r ≡ Err x
 unfolding framing
-framing-refused size (accepted d) h e = absurd (let z : ◌≡◌ {A = ℕ} 0 1 = cc in omega arith)
-framing-refused size (refused x) {n} h e = let same : x.number ≡ n = cc in ap refused (h x refl ∙ ap (refusal_of size) same)
+framing-refused (Ok d) e = absurd (let z : ◌≡◌ {A = ℕ} 0 1 = cc in omega arith)
+framing-refused (Err y) {x} e = let same : y ≡ x = cc in ap Err same
 
-pub framing-unframed : (largest : ℕ) (p : List ℕ) (n : ℕ) → framing (unframe largest p) ≡ Unframed n → unframe largest p ≡ refused (refusal_of (length p) n)
-framing-unframed largest p n e = framing-refused (length p) (unframe largest p) (whole-unframe largest p) e
+pub framing-unframed : (largest : ℕ) (p : List ℕ) {x : Refusal} → framing (unframe largest p) ≡ Err x → unframe largest p ≡ Err x
+framing-unframed largest p e = framing-refused (unframe largest p) e

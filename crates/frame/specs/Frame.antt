@@ -1,13 +1,11 @@
 -- The TCP packet around a data field: four zero bytes, the field's length, the field, its CRC.
-use Rattle.std.specs.Prelude.{ℕ, ◌+◌, ◌-◌, ◌^◌, ◌≤◌, ◌<◌, ◌≡◌, List, [], ◌∷◌, length, take, drop, eqb, leb}
+use Rattle.std.specs.Prelude.{Err, Ok, ℕ, ◌+◌, ◌-◌, ◌^◌, ◌≤◌, ◌<◌, ◌≡◌, List, [], ◌∷◌, length, take, drop, eqb, leb}
 use Rattle.wire.specs.Limits.{is_known}
 use Rattle.wire.specs.Numbers.{Bytes, number_at, be, pick}
 use Rattle.wire.specs.Sequences.{fields}
 use Rattle.wire.specs.declared.Refusal.{Refusal}
-use Rattle.wire.specs.Answers.{Answer, accepted, refused, refusal_at, check, check_at}
+use Rattle.wire.specs.Answers.{Answer, refusal_at, check, check_at}
 use Rattle.checksum.specs.Crc.{crc}
-use Rattle.frame.specs.declared.Framed.{Framed}
-use Rattle.frame.specs.declared.Framed.TheVariants.{Field, Unframed}
 
 -- ---- the rules
 
@@ -47,7 +45,7 @@ headed largest p rest =
 
 -- the length that the header gives
 abbrev pub header : ℕ → List ℕ → Answer ℕ
-header largest p = headed largest p (accepted (field_length p))
+header largest p = headed largest p (Ok (field_length p))
 
 -- the data field, or 21, then 1 to 5, which is at the CRC field
 unfoldable pub unframe : ℕ → List ℕ → Answer (List ℕ)
@@ -57,24 +55,15 @@ unframe largest p =
     (headed largest p
     (check (eqb (length p) (field_length p + 12)) 4
     (check_at (eqb (number_at p (8 + field_length p) 4) (crc (field_of p))) 5 (8 + field_length p)
-    (accepted (field_of p))))))
+    (Ok (field_of p))))))
 
 -- ---- what two packets are compared by
 
 unfoldable pub last_four : List ℕ → List ℕ
 last_four p = drop (length p - 4) p
 
--- ---- what the code answers: the data field's length, or the refusal's number, from which its place follows
+-- ---- what the code answers: the data field's length
 
-unfoldable pub framing : Answer (List ℕ) → Framed
-framing (accepted d) = Field (length d)
-framing (refused r) = Unframed r.number
-
--- of the header alone
-unfoldable pub heading : Answer ℕ → Framed
-heading (accepted n) = Field n
-heading (refused r) = Unframed r.number
-
--- the refusal with this number of a packet of `size` bytes: 3 is at the length field, 5 at the CRC field, which is last
-unfoldable pub refusal_of : ℕ → ℕ → Refusal
-refusal_of size number = refusal_at number (pick (eqb number 3) 4 (pick (eqb number 5) (size - 4) 0))
+unfoldable pub framing : Answer (List ℕ) → Answer ℕ
+framing (Ok d) = Ok (length d)
+framing (Err r) = Err r

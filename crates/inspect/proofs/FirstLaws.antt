@@ -1,4 +1,5 @@
 -- No acceptable datagram is taken for a connection.
+use Rattle.std.specs.Prelude.{Ok}
 use Prim.Native.Nat.{ℕ, ◌+◌, ◌≤◌}
 use native.Mathlib.Omega.{arith}
 use mathlib.Core.Path.{◌≡◌, refl, ap, ◌∙◌}
@@ -9,12 +10,11 @@ use lib.Dec.{leb}
 use borrow.Author.Tests.{le-leb, leb-true, eqb-true, ne_eqb}
 use Rattle.wire.specs.Numbers.{number_at, pick}
 use Rattle.wire.specs.declared.Limits.{Limits}
-use Rattle.wire.specs.Answers.{accepted}
 use Rattle.wire.proofs.Accepting.{check-accepted, on_accepted-accepted}
 use Rattle.datagram.specs.Datagrams.{Datagram, judge_header, read_datagram}
 use Rattle.inspect.specs.FirstBytes.{shows, is_connection}
 
-pub no-datagram : (limits : Limits) (p : List ℕ) {g : Datagram} → read_datagram limits p ≡ accepted g → is_connection p ≡ false
+pub no-datagram : (limits : Limits) (p : List ℕ) {g : Datagram} → read_datagram limits p ≡ Ok g → is_connection p ≡ false
 unfolding read_datagram judge_header is_connection shows
 no-datagram limits p e =
     let i = on_accepted-accepted (judge_header limits.datagram p) _ e in

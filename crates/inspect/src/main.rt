@@ -13,7 +13,6 @@ use input::ReadError;
 use std::env::{Env, FillError};
 use std::io::Input as StandardInput;
 use std::rt::Files;
-use text::{Kind, Read};
 
 // What the first word asks for, behind those that name a family.
 #[derive(Clone, Copy)]
@@ -206,8 +205,8 @@ fn odd(rt: &impl Eprint, digits: usize) {
 // a TCP packet, a login and a connection start with 00, a TLV form with 01, a datagram with 00 to 04.
 fn run_on_text(rt: &(impl Print + Eprint), family: usize, task: Task, s: &[u8]) {
     match text::kind_of(s) {
-        Kind::Raw => run_on(rt, family, task, s),
-        Kind::Hex(digits) => {
+        None => run_on(rt, family, task, s),
+        Some(digits) => {
             if digits % 2 == 1 {
                 return odd(rt, digits);
             }
@@ -248,7 +247,7 @@ fn wrong_time(rt: &impl Eprint) {
 }
 
 // The number of word `i`, none for one that is missing or has over 20 digits.
-fn number_of_word(rt: &impl Env, i: usize) -> Read {
+fn number_of_word(rt: &impl Env, i: usize) -> Option<usize> {
     let mut w = [0u8; 20];
     let n = input::word_of(rt, i, &mut w);
     text::number_of(&w[..n], usize::MAX)
@@ -260,14 +259,14 @@ fn write_words<R: Print + Eprint + Env>(
     family: usize,
     message: Message,
     i: Option<usize>,
-    time: Read,
+    time: Option<usize>,
     j: usize,
     words: usize,
 ) {
     if words.checked_sub(1) != Some(j) {
         return wrong(rt);
     }
-    let Read::Of(t) = time else {
+    let Some(t) = time else {
         return wrong_time(rt);
     };
     let Ok(time) = u32::try_from(t) else {
@@ -293,7 +292,7 @@ fn write_task<R: Print + Eprint + Env>(rt: &R, family: usize, i: usize, words: u
     let Some(message) = input::word_named(rt, i, &MESSAGES) else {
         return wrong(rt);
     };
-    let none = Read::Of(0);
+    let none = Some(0);
     match message.codec {
         0x0D => {
             let time = number_of_word(rt, i + 1);

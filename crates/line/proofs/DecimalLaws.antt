@@ -1,4 +1,5 @@
 -- Decimal numbers are read exactly where they are written without spare zeros.
+use Rattle.std.specs.Prelude.{Ok}
 use Prim.Native.Nat.{ℕ, zero, suc, ◌+◌, ◌-◌, ◌*◌, ◌/◌, ◌%◌, ◌^◌, ◌≤◌, ◌<◌}
 use native.Mathlib.Nat.{pow-suc}
 use native.Mathlib.Omega.{arith}
@@ -11,7 +12,7 @@ use lib.Arith.{digits_div, digits_mod}
 use borrow.Author.Tests.{ltb-true, ltb-false, lt-ltb, leb-true, le-leb, eqb-true, eqb-false, ne_eqb}
 use Rattle.wire.specs.Numbers.{value_from}
 use Rattle.wire.specs.Sequences.{All}
-use Rattle.wire.specs.Answers.{accepted, check_at}
+use Rattle.wire.specs.Answers.{check_at}
 use Rattle.wire.proofs.Widths.{all_append}
 use Rattle.wire.proofs.Accepting.{both_true, check-accepted, by_length}
 use Rattle.text.specs.Hex.{among}
@@ -158,7 +159,7 @@ decimal-said (c ∷ b ∷ s) z k fits =
     let some : 1 ≤ 0 * 10 + (c - 48) = by_length 1 (0 * 10 + (c - 48)) (λ h. h) (λ h. absurd (other (omega (arith, k.0.0)))) in
     decimal-on (0 * 10 + (c - 48)) (b ∷ s) some k.1 fits ∙ ap (λ (l : List ℕ). l ++ (b ∷ s)) (decimal-first c k.0))
 
-decimal-exact : (most : ℕ) → most < 10 ^ 20 → (s : List ℕ) (n : ℕ) → read_decimal most s ≡ accepted n → (n ≤ most) × (s ≡ decimal n)
+decimal-exact : (most : ℕ) → most < 10 ^ 20 → (s : List ℕ) (n : ℕ) → read_decimal most s ≡ Ok n → (n ≤ most) × (s ≡ decimal n)
 unfolding read_decimal
 decimal-exact most h s n e =
     let a = check-accepted (no_spare_zero s) 20 _ _ e in
@@ -168,7 +169,7 @@ decimal-exact most h s n e =
     let fits : said s ≤ most = leb-true (said s) most c.0 in
     (omega arith, sym (decimal-said s a.0 (digits-true s b.0) (omega arith)) ∙ ap decimal same)
 
-decimal-undo : (most n : ℕ) → most < 10 ^ 20 → n ≤ most → read_decimal most (decimal n) ≡ accepted n
+decimal-undo : (most n : ℕ) → most < 10 ^ 20 → n ≤ most → read_decimal most (decimal n) ≡ Ok n
 unfolding read_decimal check_at
 decimal-undo most n h k =
     let same : said (decimal n) ≡ n = said-decimal n (omega arith) in

@@ -1,4 +1,5 @@
 -- Degrees with seven places are read exactly where they are written.
+use Rattle.std.specs.Prelude.{Ok}
 use Prim.Native.Nat.{ℕ, suc, ◌+◌, ◌-◌, ◌*◌, ◌/◌, ◌%◌, ◌^◌, ◌≤◌, ◌<◌}
 use native.Mathlib.Nat.{div-add-mod', mod-lt}
 use native.Mathlib.Omega.{arith}
@@ -13,7 +14,7 @@ use borrow.Author.Tests.{leb-true, le-leb, eqb-true, eq-eqb, ne_eqb}
 use Rattle.wire.specs.Numbers.{digits, value_from}
 use Rattle.wire.specs.Sequences.{joined, All}
 use Rattle.wire.specs.Imei.{ascii_digit}
-use Rattle.wire.specs.Answers.{accepted, on_accepted}
+use Rattle.wire.specs.Answers.{on_accepted}
 use Rattle.wire.proofs.Widths.{all_append, length_digits, digits-small, value-digits, digits_value, value-lt}
 use Rattle.wire.proofs.ImeiText.{length-digit_bytes}
 use Rattle.wire.proofs.Accepting.{check-accepted, check-passed, on_accepted-accepted, on_accepted-passed}
@@ -76,7 +77,7 @@ places-exact s h e =
 
 -- ---- without a sign
 
-unsigned-undo : (m : ℕ) → m < 215 * 10 ^ 7 → read_unsigned (unsigned_degrees m) ≡ accepted m
+unsigned-undo : (m : ℕ) → m < 215 * 10 ^ 7 → read_unsigned (unsigned_degrees m) ≡ Ok m
 unfolding read_unsigned unsigned_degrees
 unsigned-undo m h =
     let whole = decimal (m / 10 ^ 7) in
@@ -85,9 +86,9 @@ unsigned-undo m h =
     (on_accepted-passed (read_decimal 214 whole) _ ((decimal-inverse 214 (lit< tt)).undo (m / 10 ^ 7) (omega arith))
     ∙ check-passed (eqb (length (places m)) 7) 20 _ _ (eq-eqb _ 7 (places-length m))
     ∙ check-passed (all_digits (places m)) 20 _ _ (true-digits (places m) (places-all m))
-    ∙ ap accepted (ap (λ (x : ℕ). m / 10 ^ 7 * 10 ^ 7 + x) (places-said m) ∙ div-add-mod' m (10 ^ 7)))
+    ∙ ap Ok (ap (λ (x : ℕ). m / 10 ^ 7 * 10 ^ 7 + x) (places-said m) ∙ div-add-mod' m (10 ^ 7)))
 
-unsigned-exact : (s : List ℕ) (m : ℕ) → read_unsigned s ≡ accepted m → (m < 215 * 10 ^ 7) × (s ≡ unsigned_degrees m)
+unsigned-exact : (s : List ℕ) (m : ℕ) → read_unsigned s ≡ Ok m → (m < 215 * 10 ^ 7) × (s ≡ unsigned_degrees m)
 unfolding read_unsigned unsigned_degrees
 unsigned-exact s m e =
     let i = on_accepted-accepted (read_decimal 214 (before 46 s)) _ e in
@@ -119,7 +120,7 @@ positive-front : (m : ℕ) → read_degrees (unsigned_degrees m) ≡ on_accepted
 unfolding unsigned_degrees
 positive-front m = unsigned-front (decimal (m / 10 ^ 7)) (46 ∷ places m) (decimal-some (m / 10 ^ 7)) (decimal-digits (m / 10 ^ 7))
 
-degrees-undo : (z : ℤ) → FitsI32 z → read_degrees (degrees z) ≡ accepted z
+degrees-undo : (z : ℤ) → FitsI32 z → read_degrees (degrees z) ≡ Ok z
 unfolding degrees read_degrees
 degrees-undo (pos m) h =
     positive-front m
@@ -130,12 +131,12 @@ degrees-undo (negsuc m) h =
     on_accepted-passed (read_unsigned (unsigned_degrees (suc m))) negative (unsigned-undo (suc m) (omega arith))
     ∙ check-passed (leb 1 (suc m)) 20 _ _ (le-leb 1 (suc m) (omega arith))
     ∙ check-passed (leb (suc m) (2 ^ 31)) 20 _ _ (le-leb (suc m) (2 ^ 31) (omega arith))
-    ∙ ap (λ (x : ℕ). accepted (negsuc x)) same
+    ∙ ap (λ (x : ℕ). Ok (negsuc x)) same
 
 abbrev Is : List ℕ → ℤ → Type 0
 Is s z = FitsI32 z × (s ≡ degrees z)
 
-negative-exact : (s : List ℕ) (z : ℤ) → on_accepted (read_unsigned s) negative ≡ accepted z → Is (45 ∷ s) z
+negative-exact : (s : List ℕ) (z : ℤ) → on_accepted (read_unsigned s) negative ≡ Ok z → Is (45 ∷ s) z
 unfolding degrees
 negative-exact s z e =
     let i = on_accepted-accepted (read_unsigned s) negative e in
@@ -149,7 +150,7 @@ negative-exact s z e =
     let is : negsuc (m - 1) ≡ z = cc c.1 in
     subst (Is (45 ∷ s)) is (omega arith, ap (λ (l : List ℕ). 45 ∷ l) (a.1 ∙ ap unsigned_degrees (sym same)))
 
-positive-exact : (s : List ℕ) (z : ℤ) → on_accepted (read_unsigned s) positive ≡ accepted z → Is s z
+positive-exact : (s : List ℕ) (z : ℤ) → on_accepted (read_unsigned s) positive ≡ Ok z → Is s z
 unfolding degrees
 positive-exact s z e =
     let i = on_accepted-accepted (read_unsigned s) positive e in
@@ -160,7 +161,7 @@ positive-exact s z e =
     let is : pos m ≡ z = cc b.1 in
     subst (Is s) is (omega arith, a.1)
 
-degrees-exact : (s : List ℕ) (z : ℤ) → read_degrees s ≡ accepted z → Is s z
+degrees-exact : (s : List ℕ) (z : ℤ) → read_degrees s ≡ Ok z → Is s z
 unfolding read_degrees
 degrees-exact [] z e = absurd (let z : ◌≡◌ {A = ℕ} 0 1 = cc in omega arith)
 degrees-exact (c ∷ s) z e =

@@ -1,4 +1,5 @@
 -- A line is read exactly where it is written, and no two lines have the same bytes.
+use Rattle.std.specs.Prelude.{Err, Ok}
 use Prim.Native.Nat.{ℕ, suc, ◌+◌, ◌-◌, ◌^◌, ◌<◌}
 use native.Mathlib.Omega.{arith}
 use mathlib.Core.Path.{◌≡◌, refl, sym, ap, ap₂, ◌∙◌, subst}
@@ -10,7 +11,7 @@ use lib.Dec.{eqb, lit<}
 use borrow.Author.Tests.{eqb-true, eq-eqb}
 use Rattle.wire.specs.Sequences.{All}
 use Rattle.wire.specs.Reading.{Read, got, bad, and_then}
-use Rattle.wire.specs.Answers.{Answer, accepted, refused}
+use Rattle.wire.specs.Answers.{Answer}
 use Rattle.wire.proofs.Accepting.{told-accepted, told-got, unplaced-accepted, unplaced-passed, pick_true}
 use Rattle.wire.proofs.Exactness.{and_then-got}
 use Rattle.text.specs.Decimal.{decimal}
@@ -30,19 +31,19 @@ and_then-passed : {A B : Type 0} (r : Read A) (f : A → ℕ → Read B) {a : A}
 unfolding and_then
 and_then-passed r f e = ap (λ x. and_then x f) e
 
-on_field-got : {A B : Type 0} (at : ℕ) (r : Answer A) (f : A → Read B) (b : B) (n : ℕ) → on_field at r f ≡ got b n → (a : A) × (r ≡ accepted a) × (f a ≡ got b n)
+on_field-got : {A B : Type 0} (at : ℕ) (r : Answer A) (f : A → Read B) (b : B) (n : ℕ) → on_field at r f ≡ got b n → (a : A) × (r ≡ Ok a) × (f a ≡ got b n)
 unfolding on_field
-on_field-got at (accepted a) f b n e = (a, refl, e)
-on_field-got at (refused x) f b n e = absurd (let z : ◌≡◌ {A = ℕ} 0 1 = cc in omega arith)
+on_field-got at (Ok a) f b n e = (a, refl, e)
+on_field-got at (Err x) f b n e = absurd (let z : ◌≡◌ {A = ℕ} 0 1 = cc in omega arith)
 
-on_field-passed : {A B : Type 0} (at : ℕ) (r : Answer A) (f : A → Read B) {a : A} → r ≡ accepted a → on_field at r f ≡ f a
+on_field-passed : {A B : Type 0} (at : ℕ) (r : Answer A) (f : A → Read B) {a : A} → r ≡ Ok a → on_field at r f ≡ f a
 unfolding on_field
 on_field-passed at r f e = ap (λ x. on_field at x f) e
 
 -- whatever is read from the next field on meets Q, if what is read behind it does
-next-exact : {A B : Type 0} {parse : List ℕ → Answer A} {write : A → List ℕ} {Ok : A → Type 0} (inverse : Inverse parse write Ok)
+next-exact : {A B : Type 0} {parse : List ℕ → Answer A} {write : A → List ℕ} {Rules : A → Type 0} (inverse : Inverse parse write Rules)
     (Q : List (List ℕ) → B → Type 0) (at : ℕ) (ps : List (List ℕ)) (f : A → ℕ → List (List ℕ) → Read B)
-    → ((a : A) → Ok a → (at : ℕ) (ps : List (List ℕ)) (b : B) (n : ℕ) → f a at ps ≡ got b n → Q (write a ∷ ps) b)
+    → ((a : A) → Rules a → (at : ℕ) (ps : List (List ℕ)) (b : B) (n : ℕ) → f a at ps ≡ got b n → Q (write a ∷ ps) b)
     → (b : B) (n : ℕ) → next_field parse at ps f ≡ got b n → Q ps b
 unfolding next_field
 next-exact inverse Q at [] f h b n e = absurd (let z : ◌≡◌ {A = ℕ} 0 1 = cc in omega arith)
@@ -52,7 +53,7 @@ next-exact {parse = parse} inverse Q at (p ∷ ps) f h b n e =
     subst (λ (x : List ℕ). Q (x ∷ ps) b) (sym k.1) (h i.0 k.0 (at + suc (length p)) ps b n i.2)
 
 next-passed : {A B : Type 0} (parse : List ℕ → Answer A) (at : ℕ) (p : List ℕ) (ps : List (List ℕ)) (f : A → ℕ → List (List ℕ) → Read B) {a : A}
-    → parse p ≡ accepted a → next_field parse at (p ∷ ps) f ≡ f a (at + suc (length p)) ps
+    → parse p ≡ Ok a → next_field parse at (p ∷ ps) f ≡ f a (at + suc (length p)) ps
 unfolding next_field
 next-passed parse at p ps f e = on_field-passed at (parse p) _ e
 
@@ -63,7 +64,7 @@ abbrev Ordered : Bool → List Printed → Type 0
 Ordered false es = TagsLast es
 Ordered true es = NoNumbers es
 
-elements-on : (tags : Bool) (at : ℕ) (p : List ℕ) (ps : List (List ℕ)) (e : Printed) (es : List Printed) (n : ℕ) → read_printed tags p ≡ accepted e
+elements-on : (tags : Bool) (at : ℕ) (p : List ℕ) (ps : List (List ℕ)) (e : Printed) (es : List Printed) (n : ℕ) → read_printed tags p ≡ Ok e
     → read_elements (is_tag e) (at + suc (length p)) ps ≡ got es n → read_elements tags at (p ∷ ps) ≡ got (e ∷ es) n
 unfolding read_elements
 elements-on tags at p ps e es n h k = on_field-passed at (read_printed tags p) _ h ∙ and_then-passed (read_elements (is_tag e) (at + suc (length p)) ps) _ k
@@ -189,7 +190,7 @@ pub line-pieces : (l : Line) → LineRules l → pieces (body (line_bytes l)) �
 unfolding line_fields
 line-pieces l h = ap pieces (line-body l) ∙ pieces-separated (line_fields l) (all-weaken field-comma (line_fields l) (fields-field l h)) (omega arith)
 
-line-undo : (l : Line) → LineRules l → read_line (line_bytes l) ≡ accepted l
+line-undo : (l : Line) → LineRules l → read_line (line_bytes l) ≡ Ok l
 unfolding read_line judge_line
 line-undo l h =
     let k = fields-undo l h in
@@ -208,11 +209,11 @@ pub line-inverse : Inverse read_line line_bytes LineRules
 unfolding read_line
 line-inverse = record { undo = line-undo; exact = λ s l e. let i = told-accepted _ (judge_line s) (unplaced-accepted _ e) in judged-exact s l i.0 i.1 }
 
-pub line-exact : (s : List ℕ) (l : Line) → (read_line s ≡ accepted l → LineRules l × (s ≡ line_bytes l)) × (LineRules l × (s ≡ line_bytes l) → read_line s ≡ accepted l)
+pub line-exact : (s : List ℕ) (l : Line) → (read_line s ≡ Ok l → LineRules l × (s ≡ line_bytes l)) × (LineRules l × (s ≡ line_bytes l) → read_line s ≡ Ok l)
 line-exact s l = (line-inverse.exact s l, λ h. ap read_line h.1 ∙ line-inverse.undo l h.0)
 
 pub lines-injective : (l m : Line) → LineRules l → LineRules m → line_bytes l ≡ line_bytes m → l ≡ m
 lines-injective l m h k e = cc (line-inverse.undo l h, line-inverse.undo m k)
 
-pub read-pieces : (s : List ℕ) (l : Line) → read_line s ≡ accepted l → pieces (body s) ≡ line_fields l
+pub read-pieces : (s : List ℕ) (l : Line) → read_line s ≡ Ok l → pieces (body s) ≡ line_fields l
 read-pieces s l e = let k = line-inverse.exact s l e in ap (λ (x : List ℕ). pieces (body x)) k.1 ∙ line-pieces l k.0

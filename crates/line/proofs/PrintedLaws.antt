@@ -1,4 +1,5 @@
 -- Elements are read exactly where they are written.
+use Rattle.std.specs.Prelude.{Ok}
 use Prim.Native.Nat.{ℕ, ◌-◌, ◌^◌, ◌≤◌, ◌<◌}
 use native.Mathlib.Omega.{arith}
 use mathlib.Core.Path.{◌≡◌, refl, ap, ap₂, ◌∙◌, subst}
@@ -9,7 +10,7 @@ use lib.Dec.{eqb, lit<}
 use borrow.Author.Tests.{eqb-true, ne_eqb, not-true}
 use Rattle.wire.specs.Numbers.{Bytes}
 use Rattle.wire.specs.Sequences.{All}
-use Rattle.wire.specs.Answers.{accepted, on_accepted, check_at}
+use Rattle.wire.specs.Answers.{on_accepted, check_at}
 use Rattle.wire.proofs.Widths.{all_append}
 use Rattle.wire.proofs.Accepting.{check-accepted, on_accepted-accepted, on_accepted-passed}
 use Rattle.text.specs.Decimal.{decimal}
@@ -32,19 +33,19 @@ front-undo tags id value h =
     (on_accepted-passed (read_decimal (2 ^ 16 - 1) (decimal id)) _ ((decimal-inverse (2 ^ 16 - 1) (lit< tt)).undo id (omega arith)))
 
 -- no quote begins a number
-number-front : (id : ℕ) (p : List ℕ) → 1 ≤ length p → All IsDigit p → read_value false id p ≡ on_accepted (read_decimal (2 ^ 64 - 1) p) (λ n. accepted (number id n))
+number-front : (id : ℕ) (p : List ℕ) → 1 ≤ length p → All IsDigit p → read_value false id p ≡ on_accepted (read_decimal (2 ^ 64 - 1) p) (λ n. Ok (number id n))
 unfolding read_value check_at
 number-front id [] h k = absurd (omega arith)
 number-front id (c ∷ p) h k = simp (ne_eqb c 34 (λ e. omega (arith, k.0.0)))
 
-number-undo : (id n : ℕ) → PrintedRules (number id n) → read_printed false (printed_text (number id n)) ≡ accepted (number id n)
+number-undo : (id n : ℕ) → PrintedRules (number id n) → read_printed false (printed_text (number id n)) ≡ Ok (number id n)
 unfolding printed_text
 number-undo id n h =
     front-undo false id (decimal n) h.0
     ∙ number-front id (decimal n) (decimal-some n) (decimal-digits n)
     ∙ on_accepted-passed (read_decimal (2 ^ 64 - 1) (decimal n)) _ ((decimal-inverse (2 ^ 64 - 1) (lit< tt)).undo n (omega (arith, h.1)))
 
-pub tagged-undo : (tags : Bool) (id : ℕ) (b : List ℕ) → PrintedRules (tag id b) → read_printed tags (printed_text (tag id b)) ≡ accepted (tag id b)
+pub tagged-undo : (tags : Bool) (id : ℕ) (b : List ℕ) → PrintedRules (tag id b) → read_printed tags (printed_text (tag id b)) ≡ Ok (tag id b)
 unfolding printed_text quoted read_value
 tagged-undo tags id b h =
     front-undo tags id (quoted b) h.0
@@ -52,7 +53,7 @@ tagged-undo tags id b h =
 
 -- ---- and nothing else is
 
-value-cases : (P : Printed → Type 0) (tags : Bool) (id : ℕ) (s : List ℕ) (e : Printed) → read_value tags id s ≡ accepted e
+value-cases : (P : Printed → Type 0) (tags : Bool) (id : ℕ) (s : List ℕ) (e : Printed) → read_value tags id s ≡ Ok e
     → ((n : ℕ) → tags ≡ false → n < 2 ^ 64 → s ≡ decimal n → P (number id n))
     → ((b : List ℕ) → Bytes b → s ≡ quoted b → P (tag id b))
     → P e
@@ -70,7 +71,7 @@ value-cases P tags id (c ∷ s) e h f g =
     let is : number id j.0 ≡ e = cc j.2 in
     subst P is (f j.0 (not-true tags i.0) (omega (arith, k.0)) k.1))
 
-pub printed-cases : (P : Printed → Type 0) (tags : Bool) (s : List ℕ) (e : Printed) → read_printed tags s ≡ accepted e
+pub printed-cases : (P : Printed → Type 0) (tags : Bool) (s : List ℕ) (e : Printed) → read_printed tags s ≡ Ok e
     → ((id n : ℕ) → tags ≡ false → PrintedRules (number id n) → s ≡ printed_text (number id n) → P (number id n))
     → ((id : ℕ) (b : List ℕ) → PrintedRules (tag id b) → s ≡ printed_text (tag id b) → P (tag id b))
     → P e
@@ -89,11 +90,11 @@ printed-cases P tags s e h f g =
 
 -- ---- the parsers
 
-printed-undo : (e : Printed) → PrintedRules e → read_printed false (printed_text e) ≡ accepted e
+printed-undo : (e : Printed) → PrintedRules e → read_printed false (printed_text e) ≡ Ok e
 printed-undo (number id n) h = number-undo id n h
 printed-undo (tag id b) h = tagged-undo false id b h
 
-pub printed-exact : (tags : Bool) (s : List ℕ) (e : Printed) → read_printed tags s ≡ accepted e → PrintedRules e × (s ≡ printed_text e)
+pub printed-exact : (tags : Bool) (s : List ℕ) (e : Printed) → read_printed tags s ≡ Ok e → PrintedRules e × (s ≡ printed_text e)
 printed-exact tags s e h =
     printed-cases (λ e. PrintedRules e × (s ≡ printed_text e)) tags s e h (λ id n t k is. (k, is)) (λ id b k is. (k, is))
 

@@ -1,4 +1,5 @@
 -- The line of a record keeps the rules of lines, so that a packet's line is read again; and what a line tells of a record.
+use Rattle.std.specs.Prelude.{Err, Ok}
 use Prim.Native.Nat.{ℕ, ◌+◌, ◌^◌, ◌≤◌, ◌<◌}
 use native.Mathlib.Nat.{pow-le-pow_right, le_trans}
 use native.Mathlib.Omega.{arith}
@@ -12,7 +13,7 @@ use borrow.Author.Tests.{ltb-true, ltb-false, eqb-false}
 use Rattle.wire.specs.declared.Limits.{Limits}
 use Rattle.wire.specs.Numbers.{Bytes, be, number_at, signed}
 use Rattle.wire.specs.Sequences.{All}
-use Rattle.wire.specs.Answers.{Answer, accepted, refused, on_accepted}
+use Rattle.wire.specs.Answers.{Answer, on_accepted}
 use Rattle.wire.proofs.Widths.{byte_pos, all_append, number_lt, be-number}
 use Rattle.wire.proofs.SignedLaws.{raw, raw-signed}
 use Rattle.wire.proofs.Accepting.{pick-either, by_length}
@@ -20,11 +21,11 @@ use Rattle.avl.specs.declared.Widths.{Widths}
 use Rattle.avl.specs.Codecs.{widths_of, kinds}
 use Rattle.avl.specs.Records.{Element, AvlRecord, element_bytes, group_bytes, ValueSize, ElementRules, GroupsRules, RecordRules}
 use Rattle.walk.proofs.KindLaws.{KindRange, kinds-range}
-use Rattle.walk.proofs.WalkLaws.{narrow}
 use Rattle.element.specs.Elements.{Located, locate_group, locate_groups, elements}
 use Rattle.lookup.specs.Places.{Placed}
 use Rattle.lookup.specs.Lookups.{Source, tcp_source, udp_source, placed_record, of_record}
-use Rattle.lookup.proofs.PlaceLaws.{Stored, tcp-stored, udp-stored, kept}
+use Rattle.lookup.specs.Carriers.{Stored}
+use Rattle.lookup.proofs.PlaceLaws.{tcp-stored, udp-stored, kept}
 use Rattle.line.specs.Lines.{Printed, number, tag, Line, FitsI32, PrintedRules, NoNumbers, TagsLast, LineRules, line_bytes}
 use Rattle.line.specs.LineReader.{read_line}
 use Rattle.line.specs.RecordLines.{printed_of, printed_all, record_line, line_of, line_of_packet, line_of_datagram, fields_of_record, fields_of_packet, fields_of_datagram}
@@ -152,16 +153,16 @@ record-rules longest w r thin h =
 -- ---- a packet's line read again
 
 module _ (longest : ℕ) (p : List ℕ) (n : ℕ) where
-  stored-again : (source : Answer Source) → ((x : Source) → source ≡ accepted x → Stored longest p x)
+  stored-again : (source : Answer Source) → ((x : Source) → source ≡ Ok x → Stored longest p x)
       → on_accepted (of_record line_of source n) read_line ≡ of_record fields_of_record source n
   unfolding on_accepted
-  stored-again (refused y) h = refl
-  stored-again (accepted x) h = one (placed_record x n) refl
+  stored-again (Err y) h = refl
+  stored-again (Ok x) h = one (placed_record x n) refl
     where
       one : (a : Answer Placed) → placed_record x n ≡ a → on_accepted (on_accepted a (line_of x.content.codec)) read_line ≡ on_accepted a (fields_of_record x.content.codec)
-      one (refused y) e = refl
-      one (accepted r) e =
-          line-inverse.undo _ (record-rules longest (widths_of x.content.codec) r.content (narrow x.content.codec).id (kept longest p x n r (h x refl) e).rules)
+      one (Err y) e = refl
+      one (Ok r) e =
+          line-inverse.undo _ (record-rules longest (widths_of x.content.codec) r.content (widths_of x.content.codec).id_fits (kept longest p x n r (h x refl) e).rules)
 
 module _ (limits : Limits) (p : List ℕ) (n : ℕ) (b : Bytes p) where
   pub line-again : on_accepted (line_of_packet limits p n) read_line ≡ fields_of_packet limits p n

@@ -1,4 +1,5 @@
 -- Tags are read exactly where they are written, and have only bytes that may stand in a field.
+use Rattle.std.specs.Prelude.{Ok}
 use Prim.Native.Nat.{ℕ, ◌+◌, ◌-◌, ◌*◌, ◌/◌, ◌%◌, ◌≤◌, ◌<◌}
 use native.Mathlib.Nat.{div-add-mod'}
 use native.Mathlib.Omega.{arith}
@@ -11,7 +12,7 @@ use lib.Arith.{digits_div, digits_mod}
 use borrow.Author.Tests.{ltb-true, ltb-false, lt-ltb, le-ltb, leb-true, le-leb, lt-leb, eqb-true, not-true, ne_eqb}
 use Rattle.wire.specs.Numbers.{Bytes, pick}
 use Rattle.wire.specs.Sequences.{joined, All}
-use Rattle.wire.specs.Answers.{accepted, on_accepted, check_at}
+use Rattle.wire.specs.Answers.{on_accepted, check_at}
 use Rattle.wire.proofs.Widths.{all_append}
 use Rattle.wire.proofs.Accepting.{both_true, check-accepted, check-passed, on_accepted-accepted, on_accepted-passed}
 use Rattle.text.specs.Hex.{among, glyph_of}
@@ -22,7 +23,7 @@ use Rattle.line.proofs.PieceLaws.{InField}
 
 -- ---- hex digits
 
-pub hex-glyph : (d : ℕ) → d < 16 → read_hex (glyph_of d) ≡ accepted d
+pub hex-glyph : (d : ℕ) → d < 16 → read_hex (glyph_of d) ≡ Ok d
 unfolding read_hex glyph_of check_at
 hex-glyph d h =
     by-test (ltb d 10)
@@ -39,7 +40,7 @@ hex-glyph d h =
     let most : 55 + d ≤ 70 = omega arith in
     simp (e, le-leb 48 (55 + d) low, lt-leb (55 + d) 57 past, le-leb 65 (55 + d) least, le-leb (55 + d) 70 most, same))
 
-pub glyph-hex : (c d : ℕ) → read_hex c ≡ accepted d → (d < 16) × (c ≡ glyph_of d)
+pub glyph-hex : (c d : ℕ) → read_hex c ≡ Ok d → (d < 16) × (c ≡ glyph_of d)
 unfolding read_hex glyph_of
 glyph-hex c d h =
     by-test (among 48 57 c)
@@ -92,12 +93,12 @@ text-escaped : (x : ℕ) (b : List ℕ) → is_plain x ≡ false → tag_text (x
 unfolding escaped
 text-escaped x b e = simp e
 
-read_plain : (x : ℕ) (s : List ℕ) → is_plain x ≡ true → read_tag none (x ∷ s) ≡ on_accepted (read_tag none s) (λ b. accepted (x ∷ b))
+read_plain : (x : ℕ) (s : List ℕ) → is_plain x ≡ true → read_tag none (x ∷ s) ≡ on_accepted (read_tag none s) (λ b. Ok (x ∷ b))
 unfolding read_tag
 read_plain x s e = let p = plain-is x e in simp (p.no_quote, p.no_slash) (check-passed (is_plain x) 20 _ _ e)
 
 read-escaped : (x : ℕ) (s : List ℕ) → x < 256 → is_plain x ≡ false
-    → read_tag none (92 ∷ glyph_of (x / 16) ∷ glyph_of (x % 16) ∷ s) ≡ on_accepted (read_tag none s) (λ b. accepted (x ∷ b))
+    → read_tag none (92 ∷ glyph_of (x / 16) ∷ glyph_of (x % 16) ∷ s) ≡ on_accepted (read_tag none s) (λ b. Ok (x ∷ b))
 unfolding read_tag
 read-escaped x s h e =
     let whole : x / 16 * 16 + x % 16 ≡ x = div-add-mod' x 16 in
@@ -105,7 +106,7 @@ read-escaped x s h e =
     ∙ on_accepted-passed (read_hex (glyph_of (x % 16))) _ (hex-glyph (x % 16) (omega arith))
     ∙ simp (whole, e) (check-passed true 20 _ _ refl)
 
-pub tag-undo : (b : List ℕ) → Bytes b → read_tag none (tag_text b) ≡ accepted b
+pub tag-undo : (b : List ℕ) → Bytes b → read_tag none (tag_text b) ≡ Ok b
 unfolding read_tag check_at
 tag-undo [] h = refl
 tag-undo (x ∷ b) h =
@@ -132,7 +133,7 @@ nothing : (s : List ℕ) → length s ≡ 0 → s ≡ []
 nothing [] h = refl
 nothing (c ∷ s) h = absurd (omega arith)
 
-tag-from : (e : Escape) (s b : List ℕ) → Half e → read_tag e s ≡ accepted b → Is (held e ++ s) b
+tag-from : (e : Escape) (s b : List ℕ) → Half e → read_tag e s ≡ Ok b → Is (held e ++ s) b
 unfolding read_tag
 tag-from e [] b h k = absurd (let z : ◌≡◌ {A = ℕ} 0 1 = cc in omega arith)
 tag-from none (c ∷ s) b h k =
@@ -167,7 +168,7 @@ tag-from (high d) (c ∷ s) b h k =
     subst (Is (92 ∷ glyph_of d ∷ c ∷ s)) is
     ((omega (arith, g.0), more.0), sym (text-escaped (d * 16 + l) m.0 other ∙ simp (up, low, ← g.1, ← more.1)))
 
-pub tag-exact : (s b : List ℕ) → read_tag none s ≡ accepted b → Bytes b × (s ≡ tag_text b)
+pub tag-exact : (s b : List ℕ) → read_tag none s ≡ Ok b → Bytes b × (s ≡ tag_text b)
 tag-exact s b e = tag-from none s b tt e
 
 -- ---- its bytes

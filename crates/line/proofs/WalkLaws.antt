@@ -1,4 +1,5 @@
 -- Where the fields of a line start, and an element by its number and by its place.
+use Rattle.std.specs.Prelude.{Ok}
 use Prim.Native.Nat.{ℕ, zero, suc, ◌+◌, ◌<◌}
 use native.Mathlib.Omega.{arith}
 use mathlib.Core.Path.{◌≡◌, refl, sym, ap, ap₂, ◌∙◌}
@@ -6,7 +7,6 @@ use mathlib.Core.Bool.{false}
 use mathlib.Core.List.{List, [], ◌∷◌, ◌++◌}
 use lib.ListN.{length, drop, get_or}
 use lib.Seq.{drop-cons, drop-append-add}
-use Rattle.wire.specs.Answers.{accepted}
 use Rattle.wire.proofs.Accepting.{on_accepted-passed}
 use Rattle.element.specs.Elements.{nth}
 use Rattle.lookup.proofs.PlaceLaws.{nth-member}
@@ -62,13 +62,13 @@ field_of t n h =
 
 -- ---- elements
 
-nth-text : (k : ℕ) (es : List Printed) (e : Printed) → nth k es ≡ accepted e → (k < length (texts es)) × (get_or (texts es) k [] ≡ printed_text e)
+nth-text : (k : ℕ) (es : List Printed) (e : Printed) → nth k es ≡ Ok e → (k < length (texts es)) × (get_or (texts es) k [] ≡ printed_text e)
 unfolding nth texts
 nth-text k [] e h = absurd (let z : ◌≡◌ {A = ℕ} 0 1 = cc in omega arith)
 nth-text zero (a ∷ es) e h = let same : a ≡ e = cc in (omega arith, ap printed_text same)
 nth-text (suc k) (a ∷ es) e h = let i = nth-text k es e h in (omega (arith, i.0), i.1)
 
-module _ (s : List ℕ) (l : Line) (read : read_line s ≡ accepted l) (k : ℕ) (e : Printed) (there : nth k l.elements ≡ accepted e) where
+module _ (s : List ℕ) (l : Line) (read : read_line s ≡ Ok l) (k : ℕ) (e : Printed) (there : nth k l.elements ≡ Ok e) where
   element-field : (4 + k < length (pieces (body s))) × (get_or (pieces (body s)) (4 + k) [] ≡ printed_text e)
   unfolding line_fields
   element-field =
@@ -82,7 +82,7 @@ module _ (s : List ℕ) (l : Line) (read : read_line s ≡ accepted l) (k : ℕ)
   element-is : field_at s (field_start s (4 + k)) ≡ printed_text e
   element-is = field_of (body s) (4 + k) element-field.0 ∙ element-field.1
 
-  pub element-stands : (read_printed false (field_at s (field_start s (4 + k))) ≡ accepted e)
+  pub element-stands : (read_printed false (field_at s (field_start s (4 + k))) ≡ Ok e)
       × (field_start s (5 + k) ≡ field_start s (4 + k) + suc (length (field_at s (field_start s (4 + k)))))
   element-stands =
       let five : 5 + k ≡ suc (4 + k) = omega arith in
@@ -97,5 +97,5 @@ module _ (s : List ℕ) (l : Line) (read : read_line s ≡ accepted l) (k : ℕ)
   element-cursor =
       on_accepted-passed (read_line s) _ read
       ∙ on_accepted-passed (nth k l.elements) _ there
-      ∙ ap (λ (n : ℕ). accepted (record { content = e; next = n })) element-stands.1
+      ∙ ap (λ (n : ℕ). Ok (record { content = e; next = n })) element-stands.1
       ∙ sym (on_accepted-passed (read_printed false (field_at s (field_start s (4 + k)))) _ element-stands.0)

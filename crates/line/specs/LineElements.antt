@@ -1,6 +1,6 @@
 -- The elements of a line one by one: by number, and by the byte at which a field starts.
-use Rattle.std.specs.Prelude.{ℕ, zero, suc, ◌+◌, false, List, [], ◌∷◌, length, drop}
-use Rattle.wire.specs.Answers.{Answer, accepted, on_accepted}
+use Rattle.std.specs.Prelude.{Ok, ℕ, zero, suc, ◌+◌, false, List, [], ◌∷◌, length, drop}
+use Rattle.wire.specs.Answers.{Answer, on_accepted}
 use Rattle.element.specs.Elements.{nth}
 use Rattle.line.specs.Pieces.{before, pieces}
 use Rattle.line.specs.Lines.{Printed}
@@ -33,8 +33,8 @@ unfoldable pub element_of : List ℕ → ℕ → Answer Standing
 element_of s k =
     on_accepted (read_line s)
     (λ l. on_accepted (nth k l.elements)
-    (λ e. accepted (record { content = e; next = field_start s (5 + k) })))
+    (λ e. Ok (record { content = e; next = field_start s (5 + k) })))
 
 -- by the byte at which its field starts, the rest of the line unread
 unfoldable pub element_at : List ℕ → ℕ → Answer Standing
-element_at s at = on_accepted (read_printed false (field_at s at)) (λ e. accepted (record { content = e; next = at + suc (length (field_at s at)) }))
+element_at s at = on_accepted (read_printed false (field_at s at)) (λ e. Ok (record { content = e; next = at + suc (length (field_at s at)) }))

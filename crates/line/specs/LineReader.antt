@@ -1,9 +1,9 @@
 -- How a line is read: taken apart at its commas, each field read whole. Whatever is wrong is 20.
-use Rattle.std.specs.Prelude.{ℕ, suc, ◌+◌, ◌-◌, ◌*◌, ◌^◌, Bool, true, false, not, List, [], ◌∷◌, length, take, get_or, eqb, leb, ℤ, pos, negsuc}
+use Rattle.std.specs.Prelude.{Err, Ok, ℕ, suc, ◌+◌, ◌-◌, ◌*◌, ◌^◌, Bool, true, false, not, List, [], ◌∷◌, length, take, get_or, eqb, leb, ℤ, pos, negsuc}
 use Rattle.wire.specs.declared.Refusal.{Refusal}
 use Rattle.wire.specs.Numbers.{value_from, pick}
 use Rattle.wire.specs.Reading.{Read, got, bad, and_then}
-use Rattle.wire.specs.Answers.{Answer, accepted, refused, refusal, refusal_at, on_accepted, check, told, unplaced}
+use Rattle.wire.specs.Answers.{Answer, refusal, refusal_at, on_accepted, check, told, unplaced}
 use Rattle.text.specs.Hex.{among}
 use Rattle.line.specs.Pieces.{before, behind, pieces}
 use Rattle.line.specs.Lines.{Printed, number, tag, Line, is_plain}
@@ -29,7 +29,7 @@ no_spare_zero (c ∷ s) = pick (eqb c 48) (eqb (length s) 0) true
 
 -- a number up to `most`
 unfoldable pub read_decimal : ℕ → List ℕ → Answer ℕ
-read_decimal most s = check (no_spare_zero s) 20 (check (all_digits s) 20 (check (leb (said s) most) 20 (accepted (said s))))
+read_decimal most s = check (no_spare_zero s) 20 (check (all_digits s) 20 (check (leb (said s) most) 20 (Ok (said s))))
 
 -- ---- degrees
 
@@ -38,24 +38,24 @@ unfoldable pub read_unsigned : List ℕ → Answer ℕ
 read_unsigned s =
     on_accepted (read_decimal 214 (before 46 s))
     (λ whole. check (eqb (length (behind 46 s)) 7) 20
-    (check (all_digits (behind 46 s)) 20 (accepted (whole * 10 ^ 7 + said (behind 46 s)))))
+    (check (all_digits (behind 46 s)) 20 (Ok (whole * 10 ^ 7 + said (behind 46 s)))))
 
 abbrev pub positive : ℕ → Answer ℤ
-positive m = check (leb m (2 ^ 31 - 1)) 20 (accepted (pos m))
+positive m = check (leb m (2 ^ 31 - 1)) 20 (Ok (pos m))
 
 -- minus zero is not written
 abbrev pub negative : ℕ → Answer ℤ
-negative m = check (leb 1 m) 20 (check (leb m (2 ^ 31)) 20 (accepted (negsuc (m - 1))))
+negative m = check (leb 1 m) 20 (check (leb m (2 ^ 31)) 20 (Ok (negsuc (m - 1))))
 
 unfoldable pub read_degrees : List ℕ → Answer ℤ
-read_degrees [] = refused (refusal 20)
+read_degrees [] = Err (refusal 20)
 read_degrees (c ∷ s) = pick (eqb c 45) (on_accepted (read_unsigned s) negative) (on_accepted (read_unsigned (c ∷ s)) positive)
 
 -- ---- tags
 
 -- 0 to 9, A to F
 unfoldable pub read_hex : ℕ → Answer ℕ
-read_hex c = pick (among 48 57 c) (accepted (c - 48)) (check (among 65 70 c) 20 (accepted (c - 55)))
+read_hex c = pick (among 48 57 c) (Ok (c - 48)) (check (among 65 70 c) 20 (Ok (c - 55)))
 
 -- what came before in a tag: no backslash; a backslash; a backslash and a hex digit
 pub data Escape : Type 0 where
@@ -64,26 +64,26 @@ pub data Escape : Type 0 where
   high : ℕ → Escape
 
 unfoldable pub read_tag : Escape → List ℕ → Answer (List ℕ)
-read_tag e [] = refused (refusal 20)
+read_tag e [] = Err (refusal 20)
 -- the quote ends the field
 read_tag none (c ∷ s) =
-    pick (eqb c 34) (check (eqb (length s) 0) 20 (accepted []))
+    pick (eqb c 34) (check (eqb (length s) 0) 20 (Ok []))
     (pick (eqb c 92) (read_tag slash s)
-    (check (is_plain c) 20 (on_accepted (read_tag none s) (λ b. accepted (c ∷ b)))))
+    (check (is_plain c) 20 (on_accepted (read_tag none s) (λ b. Ok (c ∷ b)))))
 read_tag slash (c ∷ s) = on_accepted (read_hex c) (λ h. read_tag (high h) s)
 -- only what is not written as itself
 read_tag (high h) (c ∷ s) =
     on_accepted (read_hex c)
-    (λ l. check (not (is_plain (h * 16 + l))) 20 (on_accepted (read_tag none s) (λ b. accepted ((h * 16 + l) ∷ b))))
+    (λ l. check (not (is_plain (h * 16 + l))) 20 (on_accepted (read_tag none s) (λ b. Ok ((h * 16 + l) ∷ b))))
 
 -- ---- elements
 
 -- `tags` says that a tag came before, behind which there are no numbers
 unfoldable pub read_value : Bool → ℕ → List ℕ → Answer Printed
-read_value tags id [] = refused (refusal 20)
+read_value tags id [] = Err (refusal 20)
 read_value tags id (c ∷ s) =
-    pick (eqb c 34) (on_accepted (read_tag none s) (λ b. accepted (tag id b)))
-    (check (not tags) 20 (on_accepted (read_decimal (2 ^ 64 - 1) (c ∷ s)) (λ n. accepted (number id n))))
+    pick (eqb c 34) (on_accepted (read_tag none s) (λ b. Ok (tag id b)))
+    (check (not tags) 20 (on_accepted (read_decimal (2 ^ 64 - 1) (c ∷ s)) (λ n. Ok (number id n))))
 
 unfoldable pub read_printed : Bool → List ℕ → Answer Printed
 read_printed tags s = on_accepted (read_decimal (2 ^ 16 - 1) (before 61 s)) (λ id. read_value tags id (behind 61 s))
@@ -96,8 +96,8 @@ wrong place = refusal_at 20 place
 
 -- a field that starts at `at`
 unfoldable pub on_field : {A B : Type 0} → ℕ → Answer A → (A → Read B) → Read B
-on_field at (accepted a) f = f a
-on_field at (refused r) f = bad (wrong at)
+on_field at (Ok a) f = f a
+on_field at (Err r) f = bad (wrong at)
 
 -- the next of the fields, which starts at `at`; a line that ends before it is wrong at its end
 unfoldable pub next_field : {A B : Type 0} → (List ℕ → Answer A) → ℕ → List (List ℕ) → (A → ℕ → List (List ℕ) → Read B) → Read B

@@ -1,9 +1,9 @@
 -- The line of a record, and the lines of a packet.
-use Rattle.std.specs.Prelude.{ℕ, List, [], ◌∷◌, length, eqb}
+use Rattle.std.specs.Prelude.{Ok, ℕ, List, [], ◌∷◌, length, eqb}
 use Rattle.wire.specs.declared.Limits.{Limits}
 use Rattle.wire.specs.Numbers.{number_at, signed, pick}
 use Rattle.wire.specs.Sequences.{joined}
-use Rattle.wire.specs.Answers.{Answer, accepted, on_accepted}
+use Rattle.wire.specs.Answers.{Answer, on_accepted}
 use Rattle.avl.specs.declared.Widths.{Widths}
 use Rattle.avl.specs.Codecs.{widths_of}
 use Rattle.avl.specs.Records.{AvlRecord}
@@ -33,7 +33,7 @@ record_line w r =
 -- ---- by record number; the packet's refusals, and 16
 
 abbrev pub line_of : ℕ → Placed → Answer (List ℕ)
-line_of codec r = accepted (line_bytes (record_line (widths_of codec) r.content))
+line_of codec r = Ok (line_bytes (record_line (widths_of codec) r.content))
 
 unfoldable pub line_of_packet : Limits → List ℕ → ℕ → Answer (List ℕ)
 line_of_packet limits p n = of_record line_of (tcp_source limits p) n
@@ -47,15 +47,15 @@ abbrev pub lines_of : Source → List ℕ
 lines_of x = joined (λ r. line_bytes (record_line (widths_of x.content.codec) r)) x.content.records
 
 unfoldable pub lines_of_packet : Limits → List ℕ → Answer (List ℕ)
-lines_of_packet limits p = on_accepted (tcp_source limits p) (λ x. accepted (lines_of x))
+lines_of_packet limits p = on_accepted (tcp_source limits p) (λ x. Ok (lines_of x))
 
 unfoldable pub lines_of_datagram : Limits → List ℕ → Answer (List ℕ)
-lines_of_datagram limits p = on_accepted (udp_source limits p) (λ x. accepted (lines_of x))
+lines_of_datagram limits p = on_accepted (udp_source limits p) (λ x. Ok (lines_of x))
 
 -- ---- the printed fields, by record number
 
 abbrev pub fields_of_record : ℕ → Placed → Answer Line
-fields_of_record codec r = accepted (record_line (widths_of codec) r.content)
+fields_of_record codec r = Ok (record_line (widths_of codec) r.content)
 
 -- the fields of a record's line; the packet's refusals, and 16
 unfoldable pub fields_of_packet : Limits → List ℕ → ℕ → Answer Line

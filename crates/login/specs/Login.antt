@@ -1,9 +1,7 @@
 -- The TCP login, 17 bytes, and its answer, one byte.
 use Rattle.std.specs.Prelude.{ℕ, ◌^◌, ◌<◌, ◌≡◌, Bool, List, [], ◌∷◌, length, leb}
-use Rattle.login.specs.declared.LoginAnswer.{LoginAnswer}
-use Rattle.login.specs.declared.LoginAnswer.TheVariants.{Imei, Refused}
 use Rattle.wire.specs.Numbers.{pick}
-use Rattle.wire.specs.Answers.{Answer, accepted, refused, check, told, is_accepted}
+use Rattle.wire.specs.Answers.{Answer, check, told, is_accepted}
 use Rattle.wire.specs.Imei.{imei_text, read_imei}
 
 -- ---- the rules
@@ -24,7 +22,3 @@ unfoldable pub login_answer : Bool → List ℕ → List ℕ
 login_answer known p = pick known (pick (is_accepted (read_login p)) (1 ∷ []) (0 ∷ [])) (0 ∷ [])
 
 -- ---- what the code's answer says
-
-unfoldable pub login_as : LoginAnswer → Answer ℕ
-login_as (Imei imei) = accepted imei
-login_as (Refused r) = refused r

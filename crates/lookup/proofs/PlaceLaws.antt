@@ -1,5 +1,6 @@
 -- Records lie one behind another in an accepted input, a looked-up value lies within its record, and a record depends on
 -- its own bytes only.
+use Rattle.std.specs.Prelude.{Ok}
 use Prim.Native.Nat.{ℕ, zero, suc, ◌+◌, ◌-◌, ◌≤◌}
 use native.Mathlib.Nat.{add-zero}
 use native.Mathlib.Omega.{arith}
@@ -15,7 +16,7 @@ use Rattle.wire.specs.Numbers.{Bytes, digits, be, pick}
 use Rattle.wire.specs.Sequences.{joined, All}
 use Rattle.wire.specs.Envelope.{enclosed}
 use Rattle.wire.specs.Reading.{got}
-use Rattle.wire.specs.Answers.{Answer, accepted}
+use Rattle.wire.specs.Answers.{Answer}
 use Rattle.wire.proofs.Widths.{length_digits}
 use Rattle.wire.proofs.Placed.{Between, between_split, between-moved, between-bytes, between-whole, between-take, between_is}
 use Rattle.wire.proofs.Accepting.{on_accepted-accepted}
@@ -24,7 +25,7 @@ use Rattle.avl.specs.declared.Widths.{Widths}
 use Rattle.avl.specs.Codecs.{widths_of}
 use Rattle.avl.specs.Records.{AvlRecord, record_bytes, RecordRules}
 use Rattle.avl.specs.RecordReader.{avl_record}
-use Rattle.avl.specs.DataField.{AvlData, data_bytes, DataRules}
+use Rattle.avl.specs.DataField.{AvlData, data_bytes}
 use Rattle.avl.proofs.RecordLaws.{record-exact}
 use Rattle.checksum.specs.Crc.{crc}
 use Rattle.frame.specs.Frame.{framed}
@@ -35,6 +36,7 @@ use Rattle.datagram.proofs.DatagramLaws.{datagram-exact}
 use Rattle.element.specs.Elements.{Located, elements, nth, first_with}
 use Rattle.element.specs.Places.{part, Inside}
 use Rattle.lookup.specs.Places.{Placed, place_records, Tiles}
+use Rattle.lookup.specs.Carriers.{Stored}
 use Rattle.lookup.specs.Lookups.{Source, tcp_source, udp_source, placed_record, Found, found_in, value_in}
 use Rattle.element.proofs.ElementLaws.{elements-inside}
 
@@ -80,19 +82,14 @@ udp-tiles limits p g k =
 
 -- ---- what is looked in
 
--- the records of `x` keep the rules and stand in `p` one behind another
-pub record Stored (longest : ℕ) (p : List ℕ) (x : Source) : Type 0 where
-  pub rules : DataRules longest x.content
-  pub tiles : (to : ℕ) × Tiles (widths_of x.content.codec) p x.base to (place_records (widths_of x.content.codec) x.base x.content.records)
-
-pub tcp-stored : (limits : Limits) (p : List ℕ) (x : Source) → Bytes p → tcp_source limits p ≡ accepted x → Stored limits.longest p x
+pub tcp-stored : (limits : Limits) (p : List ℕ) (x : Source) → Bytes p → tcp_source limits p ≡ Ok x → Stored limits.longest p x
 unfolding tcp_source
 tcp-stored limits p x h e =
     let i = on_accepted-accepted (read_packet limits p) _ e in
     let k = (packet-exact limits p i.0 h).0 i.1 in
     subst (λ (y : Source). Stored limits.longest p y) (cc) (record { rules = k.rules; tiles = (_, tcp-tiles limits p i.0 k) })
 
-pub udp-stored : (limits : Limits) (p : List ℕ) (x : Source) → Bytes p → udp_source limits p ≡ accepted x → Stored limits.longest p x
+pub udp-stored : (limits : Limits) (p : List ℕ) (x : Source) → Bytes p → udp_source limits p ≡ Ok x → Stored limits.longest p x
 unfolding udp_source
 udp-stored limits p x h e =
     let i = on_accepted-accepted (read_datagram limits p) _ e in
@@ -101,24 +98,24 @@ udp-stored limits p x h e =
 
 -- ---- what is found is one of the list: what holds of each holds of it
 
-pub nth-member : {A : Type 0} (n : ℕ) (l : List A) (a : A) → nth n l ≡ accepted a → (P : A → Type 0) → All P l → P a
+pub nth-member : {A : Type 0} (n : ℕ) (l : List A) (a : A) → nth n l ≡ Ok a → (P : A → Type 0) → All P l → P a
 unfolding nth
 nth-member n [] a e P h = absurd (let z : ◌≡◌ {A = ℕ} 0 1 = cc in omega arith)
 nth-member zero (b ∷ l) a e P h = subst P (cc) h.0
 nth-member (suc n) (b ∷ l) a e P h = nth-member n l a e P h.1
 
-first-cases : {A C : Type 0} (test : Bool) (a b : A) (rest : Answer A) → pick test (accepted a) rest ≡ accepted b
-    → (test ≡ true → a ≡ b → C) → (rest ≡ accepted b → C) → C
+first-cases : {A C : Type 0} (test : Bool) (a b : A) (rest : Answer A) → pick test (Ok a) rest ≡ Ok b
+    → (test ≡ true → a ≡ b → C) → (rest ≡ Ok b → C) → C
 first-cases true a b rest e f g = f refl (cc)
 first-cases false a b rest e f g = g e
 
-pub first_member : (id : ℕ) (l : List Located) (e : Located) → first_with id l ≡ accepted e → (P : Located → Type 0) → All P l → P e
+pub first_member : (id : ℕ) (l : List Located) (e : Located) → first_with id l ≡ Ok e → (P : Located → Type 0) → All P l → P e
 unfolding first_with
 first_member id [] e h P k = absurd (let z : ◌≡◌ {A = ℕ} 0 1 = cc in omega arith)
 first_member id (a ∷ l) e h P k =
     first-cases (eqb a.id id) a e _ h (λ t same. subst P same k.0) (λ later. first_member id l e later P k.1)
 
-pub first-id : (id : ℕ) (l : List Located) (e : Located) → first_with id l ≡ accepted e → e.id ≡ id
+pub first-id : (id : ℕ) (l : List Located) (e : Located) → first_with id l ≡ Ok e → e.id ≡ id
 unfolding first_with
 first-id id [] e h = absurd (let z : ◌≡◌ {A = ℕ} 0 1 = cc in omega arith)
 first-id id (a ∷ l) e h = first-cases (eqb a.id id) a e _ h (λ t same. cc (eqb-true a.id id t)) (first-id id l e)
@@ -136,7 +133,7 @@ all-kept longest w p [] from to h k = tt
 all-kept longest w p (r ∷ rs) from to h k =
     (record { rules = h.0; stands = between-bytes k.2 (between-take p from _ k.1) }, all-kept longest w p rs _ to h.1 k.3)
 
-pub kept : (longest : ℕ) (p : List ℕ) (x : Source) (n : ℕ) (r : Placed) → Stored longest p x → placed_record x n ≡ accepted r
+pub kept : (longest : ℕ) (p : List ℕ) (x : Source) (n : ℕ) (r : Placed) → Stored longest p x → placed_record x n ≡ Ok r
     → Kept longest (widths_of x.content.codec) p r
 unfolding placed_record
 kept longest p x n r h e = nth-member n _ r e _ (all-kept longest _ p x.content.records x.base _ h.rules.each h.tiles.1)
@@ -149,10 +146,10 @@ part-within {p} {bs} {at} {next} place n f h =
     ∙ take-append-le n (drop place bs) (drop next p) (simp length-drop (omega arith))
 
 pub value-in-place : (longest : ℕ) (p : List ℕ) (x : Source) (n : ℕ) (choose : List Located → Answer Located) (f : Found) → Stored longest p x
-    → ((l : List Located) (e : Located) → choose l ≡ accepted e → (P : Located → Type 0) → All P l → P e)
-    → value_in choose x n ≡ accepted f
+    → ((l : List Located) (e : Located) → choose l ≡ Ok e → (P : Located → Type 0) → All P l → P e)
+    → value_in choose x n ≡ Ok f
     → (r : Placed)
-    × (placed_record x n ≡ accepted r)
+    × (placed_record x n ≡ Ok r)
     × (r.start ≤ f.offset)
     × (f.offset + length f.value ≤ r.start + length (record_bytes (widths_of x.content.codec) r.content))
     × (part p f.offset (length f.value) ≡ f.value)
@@ -179,7 +176,7 @@ same-record longest w r q x y h k e =
     let same : r ≡ q = cc in
     (same, cc (drop_at (record_bytes w r) x _ refl, drop_at (record_bytes w q) y _ refl))
 
-pub own-part : (longest : ℕ) (p : List ℕ) (x : Source) (n : ℕ) (r : Placed) → Stored longest p x → placed_record x n ≡ accepted r
+pub own-part : (longest : ℕ) (p : List ℕ) (x : Source) (n : ℕ) (r : Placed) → Stored longest p x → placed_record x n ≡ Ok r
     → avl_record longest (widths_of x.content.codec) (part p r.start (length (record_bytes (widths_of x.content.codec) r.content))) 0
     ≡ got r.content (length (record_bytes (widths_of x.content.codec) r.content))
 unfolding part
@@ -190,7 +187,7 @@ own-part longest p x n r h e =
     ∙ (record-exact longest w).complete _ 0 r.content _ k.rules (between-whole (record_bytes w r.content))
 
 pub local : (longest : ℕ) (p q : List ℕ) (x y : Source) (m n : ℕ) (r t : Placed) → Stored longest p x → Stored longest q y
-    → x.content.codec ≡ y.content.codec → placed_record x m ≡ accepted r → placed_record y n ≡ accepted t
+    → x.content.codec ≡ y.content.codec → placed_record x m ≡ Ok r → placed_record y n ≡ Ok t
     → part p r.start (length (record_bytes (widths_of x.content.codec) r.content))
     ≡ part q t.start (length (record_bytes (widths_of x.content.codec) r.content))
     → r.content ≡ t.content

@@ -1,3 +1,4 @@
 pub mod Places
 pub mod Lookups
+pub mod Carriers
 pub mod Answers

@@ -1,9 +1,9 @@
 -- Looking values up: by record and element number, by record and ID, and the last known value of an ID.
-use Rattle.std.specs.Prelude.{ℕ, ◌+◌, ◌-◌, Bool, true, false, List, [], length}
+use Rattle.std.specs.Prelude.{Err, Ok, ℕ, ◌+◌, ◌-◌, Bool, true, false, List, [], length}
 use Rattle.wire.specs.declared.Limits.{Limits}
 use Rattle.wire.specs.Numbers.{pick}
 use Rattle.wire.specs.Places.{behind}
-use Rattle.wire.specs.Answers.{Answer, accepted, refused, on_accepted}
+use Rattle.wire.specs.Answers.{Answer, on_accepted}
 use Rattle.avl.specs.Codecs.{widths_of}
 use Rattle.avl.specs.DataField.{AvlData}
 use Rattle.packet.specs.DataPackets.{read_packet}
@@ -20,10 +20,10 @@ pub record Source : Type 0 where
   pub base : ℕ
 
 unfoldable pub tcp_source : Limits → List ℕ → Answer Source
-tcp_source limits p = on_accepted (read_packet limits p) (λ a. accepted (record { content = a; base = 10 }))
+tcp_source limits p = on_accepted (read_packet limits p) (λ a. Ok (record { content = a; base = 10 }))
 
 unfoldable pub udp_source : Limits → List ℕ → Answer Source
-udp_source limits p = on_accepted (read_datagram limits p) (λ g. accepted (record { content = g.payload; base = 25 }))
+udp_source limits p = on_accepted (read_datagram limits p) (λ g. Ok (record { content = g.payload; base = 25 }))
 
 unfoldable pub placed_record : Source → ℕ → Answer Placed
 placed_record x n = nth n (place_records (widths_of x.content.codec) x.base x.content.records)
@@ -34,7 +34,7 @@ of_record f source n = on_accepted source (λ x. on_accepted (placed_record x n)
 
 -- its fields
 abbrev pub fields_of : ℕ → Placed → Answer RecordFields
-fields_of codec r = accepted (record_result r.content)
+fields_of codec r = Ok (record_result r.content)
 
 unfoldable pub record_by_number : Answer Source → ℕ → Answer RecordFields
 record_by_number source n = of_record fields_of source n
@@ -52,7 +52,7 @@ found_in r e = record { id = e.id; kind = e.kind; offset = r.start + e.place; va
 
 -- a value of a record, chosen from the record's elements
 abbrev pub chosen : (List Located → Answer Located) → ℕ → Placed → Answer Found
-chosen choose codec r = on_accepted (choose (elements (widths_of codec) r.content)) (λ e. accepted (found_in r e))
+chosen choose codec r = on_accepted (choose (elements (widths_of codec) r.content)) (λ e. Ok (found_in r e))
 
 unfoldable pub value_in : (List Located → Answer Located) → Source → ℕ → Answer Found
 value_in choose x n = on_accepted (placed_record x n) (chosen choose x.content.codec)
@@ -65,24 +65,24 @@ value_by_id source n id = on_accepted source (λ x. value_in (first_with id) x n
 
 -- the view: the value's bytes, empty on every refusal
 unfoldable pub view : Answer Found → List ℕ
-view (accepted f) = f.value
-view (refused r) = []
+view (Ok f) = f.value
+view (Err r) = []
 
 -- where the view begins, counted from the input's start: with its value; an empty one with the input
 unfoldable pub view_offset : Answer Found → ℕ
-view_offset (accepted f) = f.offset
-view_offset (refused r) = 0
+view_offset (Ok f) = f.offset
+view_offset (Err r) = 0
 
 -- ---- how many elements a look-up by ID passes
 
 -- in a record
 abbrev pub passed_in : ℕ → ℕ → Placed → Answer ℕ
-passed_in id codec r = accepted (passed_for id (elements (widths_of codec) r.content))
+passed_in id codec r = Ok (passed_for id (elements (widths_of codec) r.content))
 
 -- nothing is passed where there is no record to look in
 unfoldable pub or_none : Answer ℕ → ℕ
-or_none (accepted n) = n
-or_none (refused r) = 0
+or_none (Ok n) = n
+or_none (Err r) = 0
 
 unfoldable pub passed_by_id : Answer Source → ℕ → ℕ → ℕ
 passed_by_id source n id = or_none (of_record (passed_in id) source n)
@@ -97,30 +97,30 @@ unfoldable pub value_in_last : ℕ → Source → Answer Found
 value_in_last id x = value_in (first_with id) x (length x.content.records - 1)
 
 unfoldable pub in_older : ℕ → Answer Source → Answer LastKnown
-in_older id source = on_accepted source (λ x. on_accepted (value_in_last id x) (λ f. accepted (record { older = true; found = f })))
+in_older id source = on_accepted source (λ x. on_accepted (value_in_last id x) (λ f. Ok (record { older = true; found = f })))
 
 unfoldable pub or_else : {A : Type 0} → Answer A → Answer A → Answer A
-or_else (accepted a) b = accepted a
-or_else (refused r) b = b
+or_else (Ok a) b = Ok a
+or_else (Err r) b = b
 
 -- in the newer's last record, else in the older's, which is judged only then
 unfoldable pub last_known : ℕ → Answer Source → Answer Source → Answer LastKnown
 last_known id newer older =
-    on_accepted newer (λ x. or_else (on_accepted (value_in_last id x) (λ f. accepted (record { older = false; found = f }))) (in_older id older))
+    on_accepted newer (λ x. or_else (on_accepted (value_in_last id x) (λ f. Ok (record { older = false; found = f }))) (in_older id older))
 
 -- how many elements are passed: those of the newer's last record; and, where that is without the ID, of the older's
 unfoldable pub passed_in_last : ℕ → Answer Source → ℕ
 passed_in_last id source = or_none (on_accepted source (λ x. on_accepted (placed_record x (length x.content.records - 1)) (passed_in id x.content.codec)))
 
 unfoldable pub if_none : Answer Found → ℕ → ℕ
-if_none (accepted f) n = 0
-if_none (refused r) n = n
+if_none (Ok f) n = 0
+if_none (Err r) n = n
 
 unfoldable pub passed_by_last : ℕ → Answer Source → Answer Source → ℕ
 passed_by_last id newer older =
-    or_none (on_accepted newer (λ x. accepted (passed_in_last id (accepted x) + if_none (value_in_last id x) (passed_in_last id older))))
+    or_none (on_accepted newer (λ x. Ok (passed_in_last id (Ok x) + if_none (value_in_last id x) (passed_in_last id older))))
 
 -- the place of its view: in the packet that has the value; an empty one begins with the newer
 unfoldable pub known_place : Answer LastKnown → ℕ × ℕ → ℕ × ℕ → ℕ × ℕ
-known_place (accepted k) newer older = behind (pick k.older older newer) k.found.offset
-known_place (refused r) newer older = behind newer 0
+known_place (Ok k) newer older = behind (pick k.older older newer) k.found.offset
+known_place (Err r) newer older = behind newer 0

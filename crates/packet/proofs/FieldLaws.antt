@@ -1,4 +1,5 @@
 -- The data field of an accepted packet: the part behind the first eight bytes and before the last four.
+use Rattle.std.specs.Prelude.{Ok}
 use Prim.Native.Nat.{ℕ, ◌-◌, ◌≤◌}
 use native.Mathlib.Omega.{arith}
 use mathlib.Core.Path.{◌≡◌, ap, ◌∙◌, subst}
@@ -6,7 +7,6 @@ use mathlib.Core.List.{List}
 use lib.ListN.{length, take, drop, length-take}
 use Rattle.wire.specs.declared.Limits.{Limits}
 use Rattle.wire.specs.Numbers.{Bytes}
-use Rattle.wire.specs.Answers.{accepted}
 use Rattle.wire.proofs.Accepting.{on_accepted-accepted, from-accepted}
 use Rattle.frame.specs.Frame.{unframe, framing}
 use Rattle.frame.proofs.FrameLaws.{frame-exact}
@@ -15,7 +15,7 @@ use Rattle.avl.specs.DataField.{AvlData}
 use Rattle.avl.proofs.FieldLaws.{FieldOf}
 use Rattle.packet.specs.DataPackets.{read_packet}
 
-module _ (limits : Limits) (p : List ℕ) {a : AvlData} (e : read_packet limits p ≡ accepted a) (b : Bytes p) where
+module _ (limits : Limits) (p : List ℕ) {a : AvlData} (e : read_packet limits p ≡ Ok a) (b : Bytes p) where
   pub packet-field : FieldOf limits.longest (take (length p - 4 - 8) (drop 8 p)) a
   unfolding read_packet framing
   packet-field =

@@ -1,12 +1,11 @@
 -- TCP data packets: a frame around a data field, and its acknowledgement (the paper's receipt).
-use Rattle.std.specs.Prelude.{ℕ, ◌≡◌, List, length}
+use Rattle.std.specs.Prelude.{Err, Ok, ℕ, ◌≡◌, List, length}
 use Rattle.wire.specs.declared.Limits.{Limits}
 use Rattle.wire.specs.Limits.{is_known}
 use Rattle.wire.specs.Numbers.{be}
-use Rattle.wire.specs.Answers.{Answer, accepted, refused, check, from, on_accepted}
-use Rattle.avl.specs.DataField.{AvlData, data_bytes, DataRules, read_data, DataResult, data_result}
-use Rattle.packet.specs.declared.PacketAnswer.{PacketAnswer}
-use Rattle.packet.specs.declared.PacketAnswer.TheVariants.{Accepted, Refused}
+use Rattle.wire.specs.Answers.{Answer, check, from, on_accepted}
+use Rattle.avl.specs.DataField.{AvlData, data_bytes, DataRules, read_data, data_result}
+use Rattle.avl.specs.declared.DataResult.{DataResult}
 use Rattle.frame.specs.Frame.{framed, FrameRules, unframe}
 
 -- ---- the rules
@@ -26,19 +25,15 @@ unfoldable pub read_packet : Limits → List ℕ → Answer AvlData
 read_packet limits p = on_accepted (unframe limits.largest p) (λ d. from 8 (read_data limits.longest d))
 
 unfoldable pub answer_packet : Limits → List ℕ → Answer DataResult
-answer_packet limits p = on_accepted (read_packet limits p) (λ a. accepted (data_result a))
+answer_packet limits p = on_accepted (read_packet limits p) (λ a. Ok (data_result a))
 
 -- ---- the acknowledgement: the number of records in four bytes, 0 for a refused packet; of an unknown family none
 
 unfoldable pub acknowledged : Answer AvlData → ℕ
-acknowledged (accepted a) = length a.records
-acknowledged (refused r) = 0
+acknowledged (Ok a) = length a.records
+acknowledged (Err r) = 0
 
 unfoldable pub tcp_acknowledgement : Limits → List ℕ → Answer (List ℕ)
-tcp_acknowledgement limits p = check (is_known limits.largest) 21 (accepted (be 4 (acknowledged (read_packet limits p))))
+tcp_acknowledgement limits p = check (is_known limits.largest) 21 (Ok (be 4 (acknowledged (read_packet limits p))))
 
 -- ---- what the code's answer says
-
-unfoldable pub packet_as : PacketAnswer → Answer DataResult
-packet_as (Accepted codec count) = accepted (record { codec = codec; count = count })
-packet_as (Refused r) = refused r

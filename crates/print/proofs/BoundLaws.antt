@@ -1,4 +1,5 @@
 -- How long lines can be: four characters for each byte of the record, of the data field, of the packet.
+use Rattle.std.specs.Prelude.{Ok}
 use Prim.Native.Nat.{ℕ, zero, suc, ◌+◌, ◌-◌, ◌*◌, ◌≤◌}
 use native.Mathlib.Omega.{arith}
 use mathlib.Core.Path.{◌≡◌, refl, ap}
@@ -8,7 +9,7 @@ use Rattle.wire.specs.declared.Limits.{Limits}
 use Rattle.wire.specs.Numbers.{Bytes}
 use Rattle.wire.specs.Sequences.{joined}
 use Rattle.wire.specs.Reading.{got}
-use Rattle.wire.specs.Answers.{Answer, accepted, on_accepted}
+use Rattle.wire.specs.Answers.{Answer, on_accepted}
 use Rattle.wire.proofs.Widths.{bytes_take, bytes_drop}
 use Rattle.wire.proofs.Accepting.{on_accepted-accepted}
 use Rattle.avl.specs.declared.Widths.{Widths}
@@ -19,8 +20,6 @@ use Rattle.avl.specs.DataField.{AvlData, read_data}
 use Rattle.avl.proofs.Inversion.{record-read, plain_size}
 use Rattle.avl.proofs.RecordLaws.{groups-exact}
 use Rattle.avl.proofs.FieldLaws.{FieldOf}
-use Rattle.walk.specs.Walks.{Narrow}
-use Rattle.walk.proofs.WalkLaws.{narrow}
 use Rattle.packet.specs.DataPackets.{read_packet}
 use Rattle.packet.proofs.FieldLaws.{packet-field}
 use Rattle.datagram.specs.Datagrams.{read_datagram}
@@ -42,17 +41,17 @@ head-size : (w : Widths) (at : ℕ) (r : AvlRecord) → 1 * length (head_end at 
 unfolding fixed_size
 head-size w at r = omega (arith, leading-most r.fixed.timestamp r.fixed.longitude r.fixed.latitude r.fixed.speed)
 
-pub line-size : (w : Widths) → Narrow w → (at : ℕ) (r : AvlRecord) → GroupsRules w (kinds w) r.groups → length (line_text w at r) ≤ 4 * length (record_bytes w r)
-line-size w few at r h =
-    omega (arith, line-long w at r, record-size 1 4 printed w (element-size w few.named) head_end (head-size w) at r h)
+pub line-size : (w : Widths) (at : ℕ) (r : AvlRecord) → GroupsRules w (kinds w) r.groups → length (line_text w at r) ≤ 4 * length (record_bytes w r)
+line-size w at r h =
+    omega (arith, line-long w at r, record-size 1 4 printed w (element-size w w.id_named) head_end (head-size w) at r h)
 
 -- a line fits where the lent bytes are four times the record's
-pub line-fits : (w : Widths) → Narrow w → (s : List ℕ) → Bytes s → (x : AvlRecord) (n : ℕ) → plain_record w s 0 ≡ got x n → length (line_bytes (record_line w x)) ≤ 4 * length s
-line-fits w few s b x n e =
+pub line-fits : (w : Widths) (s : List ℕ) → Bytes s → (x : AvlRecord) (n : ℕ) → plain_record w s 0 ≡ got x n → length (line_bytes (record_line w x)) ≤ 4 * length s
+line-fits w s b x n e =
     let k = (record-read w s 0).if-got _ _ e in
     let keep = (((groups-exact w (kinds w)).sound s (k.start + w.count) b k.inside).if-got _ _ k.groups_read).1 in
     let size = plain_size w s 0 b (omega arith) e in
-    omega (arith, line-size w few 0 x keep, size.0, size.1)
+    omega (arith, line-size w 0 x keep, size.0, size.1)
 
 -- ---- the lines of a data field
 
@@ -74,10 +73,10 @@ lines_long w at (r ∷ rs) =
       length-append (record_text printed w head_end at r) (records_text (record_text printed w head_end) w next rs),
     )
 
-pub lines-size : (longest : ℕ) (d : List ℕ) (a : AvlData) → Bytes d → 3 ≤ length d → read_data longest d ≡ accepted a → length (lines_text a) ≤ 4 * length d
+pub lines-size : (longest : ℕ) (d : List ℕ) (a : AvlData) → Bytes d → 3 ≤ length d → read_data longest d ≡ Ok a → length (lines_text a) ≤ 4 * length d
 lines-size longest d a b l e =
     let w = widths_of a.codec in
-    let records = field-size 1 4 printed w (element-size w (narrow a.codec).named) head_end (head-size w) longest 0 d a refl b l e in
+    let records = field-size 1 4 printed w (element-size w (widths_of a.codec).id_named) head_end (head-size w) longest 0 d a refl b l e in
     omega (arith, records, lines_long w 0 a.records, ap length (lines-laid w 0 a.records))
 
 -- ---- the lines of a packet and of a datagram
@@ -86,7 +85,7 @@ field_room : {longest n : ℕ} {d : List ℕ} {a : AvlData} → Bytes d → Fiel
 field_room {longest} {n} {d} {a} b k room = omega (arith, room, lines-size longest d a b k.long k.accepts)
 
 module _ (limits : Limits) (p : List ℕ) (b : Bytes p) where
-  tcp-room : (x : Source) → tcp_source limits p ≡ accepted x → length (lines_of x) ≤ 4 * length p
+  tcp-room : (x : Source) → tcp_source limits p ≡ Ok x → length (lines_of x) ≤ 4 * length p
   unfolding tcp_source
   tcp-room x e =
       let i = on_accepted-accepted (read_packet limits p) _ e in
@@ -94,7 +93,7 @@ module _ (limits : Limits) (p : List ℕ) (b : Bytes p) where
       let room = field_room {n = length p} (bytes_take (length p - 4 - 8) (drop 8 p) (bytes_drop 8 p b)) (packet-field limits p i.1 b) (simp (length-take, length-drop) (omega arith)) in
       omega (arith, room, ap (λ (y : Source). length (lines_of y)) same)
 
-  udp-room : (x : Source) → udp_source limits p ≡ accepted x → length (lines_of x) ≤ 4 * length p
+  udp-room : (x : Source) → udp_source limits p ≡ Ok x → length (lines_of x) ≤ 4 * length p
   unfolding udp_source
   udp-room x e =
       let i = on_accepted-accepted (read_datagram limits p) _ e in
@@ -103,7 +102,7 @@ module _ (limits : Limits) (p : List ℕ) (b : Bytes p) where
       omega (arith, room, ap (λ (y : Source). length (lines_of y)) same)
 
 -- one line is no longer than all
-one_of_all : (w : Widths) (at n : ℕ) (rs : List AvlRecord) (r : Placed) → nth n (place_records w at rs) ≡ accepted r
+one_of_all : (w : Widths) (at n : ℕ) (rs : List AvlRecord) (r : Placed) → nth n (place_records w at rs) ≡ Ok r
     → length (line_bytes (record_line w r.content)) ≤ length (joined (λ r. line_bytes (record_line w r)) rs)
 unfolding nth place_records
 one_of_all w at n [] r e = absurd (let z : ◌≡◌ {A = ℕ} 0 1 = cc in omega arith)
@@ -118,13 +117,13 @@ one_of_all w at (suc n) (x ∷ rs) r e =
       length-append (line_bytes (record_line w x)) (joined (λ r. line_bytes (record_line w r)) rs),
     )
 
-lines-room : {n : ℕ} (source : Answer Source) {t : List ℕ} → ((x : Source) → source ≡ accepted x → length (lines_of x) ≤ n) → on_accepted source (λ x. accepted (lines_of x)) ≡ accepted t → length t ≤ n
+lines-room : {n : ℕ} (source : Answer Source) {t : List ℕ} → ((x : Source) → source ≡ Ok x → length (lines_of x) ≤ n) → on_accepted source (λ x. Ok (lines_of x)) ≡ Ok t → length t ≤ n
 lines-room source {t} room e =
     let i = on_accepted-accepted source _ e in
     let same : lines_of i.0 ≡ t = cc i.2 in
     omega (arith, room i.0 i.1, ap length same)
 
-line-room : {n : ℕ} (source : Answer Source) (k : ℕ) {t : List ℕ} → ((x : Source) → source ≡ accepted x → length (lines_of x) ≤ n) → of_record line_of source k ≡ accepted t → length t ≤ n
+line-room : {n : ℕ} (source : Answer Source) (k : ℕ) {t : List ℕ} → ((x : Source) → source ≡ Ok x → length (lines_of x) ≤ n) → of_record line_of source k ≡ Ok t → length t ≤ n
 unfolding placed_record
 line-room source k {t} room e =
     let i = on_accepted-accepted source _ e in
@@ -135,18 +134,18 @@ line-room source k {t} room e =
     omega (arith, room x i.1, ap length same, one_of_all w x.base k x.content.records j.0 j.1)
 
 module _ (limits : Limits) (p t : List ℕ) (b : Bytes p) where
-  pub packet-line-room : (n : ℕ) → line_of_packet limits p n ≡ accepted t → length t ≤ 4 * length p
+  pub packet-line-room : (n : ℕ) → line_of_packet limits p n ≡ Ok t → length t ≤ 4 * length p
   unfolding line_of_packet
   packet-line-room n e = line-room (tcp_source limits p) n (tcp-room limits p b) e
 
-  pub datagram-line-room : (n : ℕ) → line_of_datagram limits p n ≡ accepted t → length t ≤ 4 * length p
+  pub datagram-line-room : (n : ℕ) → line_of_datagram limits p n ≡ Ok t → length t ≤ 4 * length p
   unfolding line_of_datagram
   datagram-line-room n e = line-room (udp_source limits p) n (udp-room limits p b) e
 
-  pub packet-lines-room : lines_of_packet limits p ≡ accepted t → length t ≤ 4 * length p
+  pub packet-lines-room : lines_of_packet limits p ≡ Ok t → length t ≤ 4 * length p
   unfolding lines_of_packet
   packet-lines-room e = lines-room (tcp_source limits p) (tcp-room limits p b) e
 
-  pub datagram-lines-room : lines_of_datagram limits p ≡ accepted t → length t ≤ 4 * length p
+  pub datagram-lines-room : lines_of_datagram limits p ≡ Ok t → length t ≤ 4 * length p
   unfolding lines_of_datagram
   datagram-lines-room e = lines-room (udp_source limits p) (udp-room limits p b) e

@@ -18,7 +18,6 @@ use Rattle.avl.specs.Records.{Element, ElementRules, element_bytes}
 use Rattle.avl.specs.RecordReader.{element}
 use Rattle.avl.proofs.Inversion as Inversion
 use Rattle.avl.proofs.RecordLaws.{element-exact}
-use Rattle.walk.specs.Walks.{Narrow}
 use Rattle.element.specs.declared.Value.{Value}
 use Rattle.element.specs.Elements.{lead_size}
 use Rattle.element.specs.Search.{ReadableElement, value_at}
@@ -159,9 +158,9 @@ element-size w named kind at e h r =
     some true f k = absurd (let z : ◌≡◌ {A = ℕ} 0 1 = cc in omega arith)
     some false f k = omega (arith, h, k)
 
-pub paced-element : (w : Widths) → Narrow w → (kind : ℕ) → 1 ≤ kind → Paced (element w kind) (element_text printed w kind)
-paced-element w narrow kind h =
+pub paced-element : (w : Widths) (kind : ℕ) → 1 ≤ kind → Paced (element w kind) (element_text printed w kind)
+paced-element w kind h =
     record {
       pace = λ s at b i. meets-weaken ((element-exact w kind).sound s at b i) (λ e n k.
-          (k.0.inside, omega (arith, k.0.size, element-size w narrow.named kind at e h k.1)));
+          (k.0.inside, omega (arith, k.0.size, element-size w w.id_named kind at e h k.1)));
     }

@@ -1,4 +1,6 @@
 -- Writing lines: that of a record, and those of a packet or a datagram.
+use Rattle.std.specs.Prelude.{Err, Ok}
+use Rattle.lookup.specs.declared.Part.{Part}
 use Prim.Native.Nat.{ℕ, ◌+◌, ◌-◌, ◌*◌, ◌^◌, ◌<◌}
 use native.Mathlib.Omega.{arith}
 use mathlib.Core.Path.{◌≡◌, refl, sym, ap, ◌∙◌, subst}
@@ -8,10 +10,9 @@ use lib.Seq.{sets}
 use Rattle.wire.specs.declared.Limits.{Limits}
 use Rattle.wire.proofs.LimitLaws.{Most}
 use Rattle.wire.specs.declared.Refusal.{Refusal}
-use Rattle.wire.specs.declared.Written.{Written}
 use Rattle.wire.specs.Numbers.{Bytes}
 use Rattle.wire.specs.Reading.{got, Reader, pure, repeat, and_then, ◌>>=◌}
-use Rattle.wire.specs.Answers.{Answer, accepted, refused}
+use Rattle.wire.specs.Answers.{Answer}
 use Rattle.wire.specs.Buffers.{writing, leaving}
 use Rattle.wire.proofs.Widths.{bytes_take, bytes_drop}
 use Rattle.wire.proofs.Accepting.{on_accepted-accepted, on_accepted-passed, on_accepted-refused}
@@ -20,16 +21,14 @@ use Rattle.avl.specs.Codecs.{widths_of}
 use Rattle.avl.specs.Records.{AvlRecord}
 use Rattle.avl.specs.RecordReader.{plain_record}
 use Rattle.avl.specs.DataField.{AvlData}
-use Rattle.walk.proofs.WalkLaws.{narrow}
 use Rattle.packet.specs.DataPackets.{read_packet}
 use Rattle.packet.proofs.FieldLaws.{packet-field, packet-most}
 use Rattle.datagram.specs.Datagrams.{Datagram, read_datagram}
 use Rattle.datagram.proofs.FieldLaws.{datagram-field, datagram-most}
 use Rattle.element.specs.Places.{part}
-use Rattle.lookup.specs.declared.Part.{Part}
 use Rattle.lookup.specs.Lookups.{Source, tcp_source, udp_source}
-use Rattle.lookup.specs.Answers.{RecordAt, part_of, part_as}
-use Rattle.lookup.proofs.PartLaws.{part-narrow}
+use Rattle.lookup.specs.Answers.{RecordAt, part_of}
+use Rattle.lookup.proofs.PartLaws.{part-readable}
 use Rattle.traverse.specs.declared.Moved.{Moved}
 use Rattle.traverse.specs.Texts.{records_text}
 use Rattle.traverse.specs.Copying.{Ready, Copies}
@@ -81,18 +80,18 @@ module _ (codec : ℕ) (s : List ℕ) where
         arith,
         ap (λ (l : List AvlRecord). length (lines_text (record { codec = codec; records = l }))) same,
         ap length (append-nil line),
-        line-fits (widths_of codec) (narrow codec) s k.bytes k.content k.next k.reads,
+        line-fits (widths_of codec) s k.bytes k.content k.next k.reads,
       )
 
-  pub line-written : {before after : List ℕ} {r : Written} → WritesRecords codec 1 lines_text s before after r → WritesLine (widths_of codec) s before after r
+  pub line-written : {before after : List ℕ} {r : Answer ℕ} → WritesRecords codec 1 lines_text s before after r → WritesLine (widths_of codec) s before after r
   line-written {before} h =
       record {
         answer = λ x n e.
             h.answer (x ∷ []) n (one-read (plain_record (widths_of codec)) e)
-            ∙ ap (λ (l : List ℕ). writing (accepted l) before) (append-nil (line_bytes (record_line (widths_of codec) x)));
+            ∙ ap (λ (l : List ℕ). writing (Ok l) before) (append-nil (line_bytes (record_line (widths_of codec) x)));
         buffer = λ x n e.
             h.buffer (x ∷ []) n (one-read (plain_record (widths_of codec)) e)
-            ∙ ap (λ (l : List ℕ). leaving (accepted l) before) (append-nil (line_bytes (record_line (widths_of codec) x)));
+            ∙ ap (λ (l : List ℕ). leaving (Ok l) before) (append-nil (line_bytes (record_line (widths_of codec) x)));
       }
 
 -- ---- by record number
@@ -101,7 +100,7 @@ pub part-ready : {p : List ℕ} {codec start end elements : ℕ} → RecordAt p 
     → Ready (plain_record (widths_of codec)) (take (end - start) (drop start p)) 0 0
 unfolding part
 part-ready {p} {codec} {start} {end} h b few =
-    let r = (part-narrow h refl).1 in
+    let r = part-readable h refl in
     record {
       bytes = bytes_take (end - start) (drop start p) (bytes_drop start p b);
       small = omega (arith, few, length-take (end - start) (drop start p), length-drop start p);
@@ -112,21 +111,21 @@ part-ready {p} {codec} {start} {end} h b few =
       reads = r.reads;
     }
 
-part-source : (source : Answer Source) (n : ℕ) {q : Part} → part_as q ≡ part_of source n → (codec start end elements : ℕ) → q ≡ Part.Of codec start elements end → (x : Source) × (source ≡ accepted x)
-unfolding part_as part_of
+part-source : (source : Answer Source) (n : ℕ) {q : Answer Part} → q ≡ part_of source n → (codec start end elements : ℕ) → q ≡ Ok (record { codec = codec; start = start; elements = elements; end = end }) → (x : Source) × (source ≡ Ok x)
+unfolding part_of
 part-source source n e codec start end elements is =
-    let i = on_accepted-accepted source _ (sym (sym (ap part_as is) ∙ e)) in
+    let i = on_accepted-accepted source _ (sym (sym (is) ∙ e)) in
     (i.0, i.1)
 
-module _ (limits : Limits) (p : List ℕ) (b : Bytes p) (few : Most limits) (n : ℕ) {q : Part} where
-  pub packet-short : part_as q ≡ part_of (tcp_source limits p) n → ShortPart p q
+module _ (limits : Limits) (p : List ℕ) (b : Bytes p) (few : Most limits) (n : ℕ) {q : Answer Part} where
+  pub packet-short : q ≡ part_of (tcp_source limits p) n → ShortPart p q
   unfolding tcp_source
   packet-short e codec start end elements is =
       let i = part-source (tcp_source limits p) n e codec start end elements is in
       let j = on_accepted-accepted (read_packet limits p) _ i.1 in
       omega (arith, few.packets, packet-most limits p j.1 b)
 
-  pub datagram-short : part_as q ≡ part_of (udp_source limits p) n → ShortPart p q
+  pub datagram-short : q ≡ part_of (udp_source limits p) n → ShortPart p q
   unfolding udp_source
   datagram-short e codec start end elements is =
       let i = part-source (udp_source limits p) n e codec start end elements is in
@@ -136,20 +135,20 @@ module _ (limits : Limits) (p : List ℕ) (b : Bytes p) (few : Most limits) (n :
 -- ---- all lines
 
 module _ (limits : Limits) (p : List ℕ) where
-  pub packet-written : {a : AvlData} → read_packet limits p ≡ accepted a → Bytes p → {before after : List ℕ} {r : Written}
+  pub packet-written : {a : AvlData} → read_packet limits p ≡ Ok a → Bytes p → {before after : List ℕ} {r : Answer ℕ}
       → Writes lines_text (take (length p - 4 - 8) (drop 8 p)) before after r → Answers (lines_of_packet limits p) before after r
   unfolding lines_of_packet tcp_source
   packet-written e b w = written-field (packet-field limits p e b) (on_accepted-passed (tcp_source limits p) _ (on_accepted-passed (read_packet limits p) _ e)) w
 
-  pub packet-refused : {x : Refusal} {before : List ℕ} → read_packet limits p ≡ refused x → Answers (lines_of_packet limits p) before before (Written.Refused x)
+  pub packet-refused : {x : Refusal} {before : List ℕ} → read_packet limits p ≡ Err x → Answers (lines_of_packet limits p) before before (Err x)
   unfolding lines_of_packet tcp_source
   packet-refused e = refused-whole (on_accepted-refused (tcp_source limits p) _ (on_accepted-refused (read_packet limits p) _ e))
 
-  pub datagram-written : {g : Datagram} → read_datagram limits p ≡ accepted g → Bytes p → {before after : List ℕ} {r : Written}
+  pub datagram-written : {g : Datagram} → read_datagram limits p ≡ Ok g → Bytes p → {before after : List ℕ} {r : Answer ℕ}
       → Writes lines_text (take (length p - 23) (drop 23 p)) before after r → Answers (lines_of_datagram limits p) before after r
   unfolding lines_of_datagram udp_source
   datagram-written e b w = written-field (datagram-field limits p e b) (on_accepted-passed (udp_source limits p) _ (on_accepted-passed (read_datagram limits p) _ e)) w
 
-  pub datagram-refused : {x : Refusal} {before : List ℕ} → read_datagram limits p ≡ refused x → Answers (lines_of_datagram limits p) before before (Written.Refused x)
+  pub datagram-refused : {x : Refusal} {before : List ℕ} → read_datagram limits p ≡ Err x → Answers (lines_of_datagram limits p) before before (Err x)
   unfolding lines_of_datagram udp_source
   datagram-refused e = refused-whole (on_accepted-refused (udp_source limits p) _ (on_accepted-refused (read_datagram limits p) _ e))

@@ -1,18 +1,17 @@
 -- What is printed along a record: its leading fields, its elements, the end of its line.
-use Rattle.std.specs.Prelude.{ℕ, ◌^◌, ◌<◌, ◌≡◌, List, ◌∷◌, ◌++◌, length}
-use Rattle.wire.specs.declared.Written.{Written}
+use Rattle.std.specs.Prelude.{Ok, ℕ, ◌^◌, ◌<◌, ◌≡◌, List, ◌∷◌, ◌++◌, length}
+use Rattle.wire.specs.Answers.{Answer}
+use Rattle.lookup.specs.declared.Part.{Part}
 use Rattle.wire.specs.Numbers.{signed}
 use Rattle.wire.specs.Sequences.{joined}
 use Rattle.wire.specs.Reading.{got}
-use Rattle.wire.specs.Answers.{accepted}
-use Rattle.wire.specs.Buffers.{writing, leaving, written_as}
+use Rattle.wire.specs.Buffers.{writing, leaving}
 use Rattle.avl.specs.declared.Widths.{Widths}
 use Rattle.avl.specs.Codecs.{widths_of}
 use Rattle.avl.specs.Records.{Fixed, AvlRecord}
 use Rattle.avl.specs.RecordReader.{plain_record}
 use Rattle.avl.specs.DataField.{AvlData}
 use Rattle.element.specs.Elements.{Located}
-use Rattle.lookup.specs.declared.Part.{Part}
 use Rattle.lookup.specs.Answers.{OfPart}
 use Rattle.text.specs.Decimal.{decimal}
 use Rattle.line.specs.Lines.{degrees, printed_text, line_bytes}
@@ -42,14 +41,14 @@ abbrev pub lines_text : AvlData → List ℕ
 lines_text a = joined (λ r. line_bytes (record_line (widths_of a.codec) r)) a.records
 
 -- the line of the record that the bytes `s` begin with is written
-pub record WritesLine (w : Widths) (s before after : List ℕ) (r : Written) : Type 0 where
-  pub answer : (x : AvlRecord) (n : ℕ) → plain_record w s 0 ≡ got x n → written_as r ≡ writing (accepted (line_bytes (record_line w x))) before
-  pub buffer : (x : AvlRecord) (n : ℕ) → plain_record w s 0 ≡ got x n → after ≡ leaving (accepted (line_bytes (record_line w x))) before
+pub record WritesLine (w : Widths) (s before after : List ℕ) (r : Answer ℕ) : Type 0 where
+  pub answer : (x : AvlRecord) (n : ℕ) → plain_record w s 0 ≡ got x n → r ≡ writing (Ok (line_bytes (record_line w x))) before
+  pub buffer : (x : AvlRecord) (n : ℕ) → plain_record w s 0 ≡ got x n → after ≡ leaving (Ok (line_bytes (record_line w x))) before
 
 -- the input of a record is short
-abbrev pub ShortPart : List ℕ → Part → Type 0
-ShortPart p q = (codec start end elements : ℕ) → q ≡ Part.Of codec start elements end → length p < 2 ^ 32
+abbrev pub ShortPart : List ℕ → Answer Part → Type 0
+ShortPart p q = (codec start end elements : ℕ) → q ≡ Ok (record { codec = codec; start = start; elements = elements; end = end }) → length p < 2 ^ 32
 
 -- the line of the record that the part is, or the part's refusal
-abbrev pub LineIn : List ℕ → Part → List ℕ → List ℕ → Written → Type 0
-LineIn p q before after r = OfPart p q line_of (λ line. (written_as r ≡ writing line before) × (after ≡ leaving line before))
+abbrev pub LineIn : List ℕ → Answer Part → List ℕ → List ℕ → Answer ℕ → Type 0
+LineIn p q before after r = OfPart p q line_of (λ line. (r ≡ writing line before) × (after ≡ leaving line before))

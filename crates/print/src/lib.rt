@@ -7,7 +7,7 @@ ghost use Rattle.wire.specs.Limits.{limits_of};
 ghost use Rattle.wire.specs.Numbers.{number_at, digits};
 ghost use Rattle.wire.specs.Sequences.{joined};
 ghost use Rattle.wire.specs.Imei.{ascii_digit};
-ghost use Rattle.wire.specs.Buffers.{writing, leaving, written_as};
+ghost use Rattle.wire.specs.Buffers.{writing, leaving};
 ghost use Rattle.store.specs.Stores.{Stored};
 ghost use Rattle.text.specs.Decimal.{decimal};
 ghost use Rattle.avl.specs.Codecs.{widths_of};
@@ -20,10 +20,9 @@ ghost use Rattle.line.specs.RecordLines.{line_of_packet, line_of_datagram, lines
 ghost use Rattle.print.specs.Printing.{printed, leading, line_text, lines_text, WritesLine, ShortPart, LineIn};
 
 use avl::Widths;
-use lookup::Part;
+use lookup::{Part, TcpPacket, UdpDatagram};
 use traverse::{ElementWriter, FieldWriter, Moved, RecordWriter};
-use walk::DataWalk;
-use wire::Written;
+use wire::Refusal;
 
 // ---- decimal numbers
 
@@ -33,8 +32,9 @@ fn digit_count(n: u64) -> usize
 {
     let mut rest = n;
     let mut count: usize = 1;
+    // down the number, whose length is what is looked for
     while 10_000 <= rest {
-        rest = rest / 10_000;
+        rest /= 10_000;
         count += 4;
     }
     if rest < 10 {
@@ -56,12 +56,13 @@ fn put_decimal(out: &mut [u8], to: usize, count: usize, n: u64)
 {
     let mut rest = n;
     let mut next = to + count;
+    // down the number, as above: the digits that are left are no count
     while 100 <= rest {
         let pair = rest % 100;
         next -= 2;
         out[next + 1] = (48 + pair % 10) as u8;
         out[next] = (48 + pair / 10) as u8;
-        rest = rest / 100;
+        rest /= 100;
     }
     if 10 <= rest {
         out[to + 1] = (48 + rest % 10) as u8;
@@ -124,11 +125,9 @@ fn put_places(out: &mut [u8], to: usize, n: u64)
 {
     out[to] = 46;
     let mut rest = n;
-    let mut left: usize = 7;
-    while 0 < left {
-        out[to + left] = (48 + rest % 10) as u8;
-        rest = rest / 10;
-        left -= 1;
+    for i in (0..7).rev() {
+        out[to + 1 + i] = (48 + rest % 10) as u8;
+        rest /= 10;
     }
 }
 
@@ -215,10 +214,8 @@ fn store_quoted(out: &mut [u8], to: usize, src: &[u8]) -> usize
 {
     store::store_byte(out, to, 34);
     let mut next = to + 1;
-    let mut i: usize = 0;
-    while i < src.len() {
+    for i in 0..src.len() {
         next = store_escaped(out, next, src[i]);
-        i += 1;
     }
     store::store_byte(out, next, 34);
     next + 1
@@ -231,16 +228,12 @@ fn value_number(s: &[u8], at: usize, w: usize) -> u64
     requires { (at + w ≤ length s.now) × (w ≤ 8) }
     ensures { result ≡ number_at s.now at w }
 {
-    if w <= 2 {
-        return wire::short_number(s, at, w);
+    match w {
+        0..=2 => wire::short_number(s, at, w),
+        4 => u64::from(wire::be32(s, at)),
+        8 => wire::be64(s, at),
+        _ => wire::number(s, at, w),
     }
-    if w == 4 {
-        return wire::be32(s, at) as u64;
-    }
-    if w == 8 {
-        return wire::be64(s, at);
-    }
-    wire::number(s, at, w)
 }
 
 // Writes elements and lines.
@@ -327,7 +320,7 @@ impl FieldWriter for Lines {
 }
 
 // The lines of the data field `d`, which have at most four characters for each of its bytes.
-fn write_field(d: &[u8], out: &mut [u8]) -> Written
+fn write_field(d: &[u8], out: &mut [u8]) -> Result<usize, Refusal>
     requires { Field d.now }
     ensures { Writes lines_text d.now out.old out.new result }
 {
@@ -335,7 +328,7 @@ fn write_field(d: &[u8], out: &mut [u8]) -> Written
 }
 
 // The line of the record that `s` is, in the same way.
-fn write_line(codec: u8, s: &[u8], out: &mut [u8]) -> Written
+fn write_line(codec: u8, s: &[u8], out: &mut [u8]) -> Result<usize, Refusal>
     requires { Ready (plain_record (widths_of codec)) s.now 0 0 }
     ensures { WritesLine (widths_of codec) s.now out.old out.new result }
 {
@@ -343,69 +336,53 @@ fn write_line(codec: u8, s: &[u8], out: &mut [u8]) -> Written
 }
 
 // The line of the record that the part is.
-fn line_in(p: &[u8], part: Part, out: &mut [u8]) -> Written
+fn line_in(p: &[u8], part: Result<Part, Refusal>, out: &mut [u8]) -> Result<usize, Refusal>
     requires part_in { PartIn p.now part }
     requires short_part { ShortPart p.now part }
     ensures { LineIn p.now part out.old out.new result }
 {
-    match part {
-        Part::Refused(r) => Written::Refused(r),
-        Part::Of {
-            codec,
-            start,
-            end,
-            elements: _,
-        } => write_line(codec, &p[start..end], out),
-    }
+    let Part {
+        codec,
+        start,
+        elements: _,
+        end,
+    } = part?;
+    write_line(codec, &p[start..end], out)
 }
 
 // ---- the calls
 
 // The line of a record of a TCP data packet.
-pub fn line_of_packet(family: usize, p: &[u8], n: usize, out: &mut [u8]) -> Written
-    ensures answer { written_as result ≡ writing (line_of_packet (limits_of family) p.now n) out.old }
+pub fn line_of_packet(family: usize, p: &[u8], n: usize, out: &mut [u8]) -> Result<usize, Refusal>
+    ensures answer { result ≡ writing (line_of_packet (limits_of family) p.now n) out.old }
     ensures buffer { out.new ≡ leaving (line_of_packet (limits_of family) p.now n) out.old }
 {
-    line_in(p, lookup::packet_part(family, p, n), out)
+    line_in(p, lookup::part_in::<TcpPacket>(family, p, n), out)
 }
 
 // The line of a record of a UDP datagram.
-pub fn line_of_datagram(family: usize, p: &[u8], n: usize, out: &mut [u8]) -> Written
-    ensures answer { written_as result ≡ writing (line_of_datagram (limits_of family) p.now n) out.old }
+pub fn line_of_datagram(family: usize, p: &[u8], n: usize, out: &mut [u8]) -> Result<usize, Refusal>
+    ensures answer { result ≡ writing (line_of_datagram (limits_of family) p.now n) out.old }
     ensures buffer { out.new ≡ leaving (line_of_datagram (limits_of family) p.now n) out.old }
 {
-    line_in(p, lookup::datagram_part(family, p, n), out)
+    line_in(p, lookup::part_in::<UdpDatagram>(family, p, n), out)
 }
 
 // The lines of all records of a TCP data packet.
-pub fn lines_of_packet(family: usize, p: &[u8], out: &mut [u8]) -> Written
-    ensures answer { written_as result ≡ writing (lines_of_packet (limits_of family) p.now) out.old }
+pub fn lines_of_packet(family: usize, p: &[u8], out: &mut [u8]) -> Result<usize, Refusal>
+    ensures answer { result ≡ writing (lines_of_packet (limits_of family) p.now) out.old }
     ensures buffer { out.new ≡ leaving (lines_of_packet (limits_of family) p.now) out.old }
 {
-    match packet::judge_packet(wire::limits_of(family), p, 0) {
-        DataWalk::Refused(r) => Written::Refused(r),
-        DataWalk::Taken {
-            codec: _,
-            count: _,
-            span: _,
-        } => {
-            let end = p.len() - 4;
-            write_field(&p[8..end], out)
-        }
-    }
+    packet::judge_packet(wire::limits_of(family), p, 0)?;
+    let end = p.len() - 4;
+    write_field(&p[8..end], out)
 }
 
-// The lines of all records of a UDP datagram.
-pub fn lines_of_datagram(family: usize, p: &[u8], out: &mut [u8]) -> Written
-    ensures answer { written_as result ≡ writing (lines_of_datagram (limits_of family) p.now) out.old }
+// The lines of all records of a UDP datagram: by itself, as a form is.
+pub fn lines_of_datagram(family: usize, p: &[u8], out: &mut [u8]) -> Result<usize, Refusal>
+    ensures answer { result ≡ writing (lines_of_datagram (limits_of family) p.now) out.old }
     ensures buffer { out.new ≡ leaving (lines_of_datagram (limits_of family) p.now) out.old }
 {
-    match datagram::judge_datagram(family, p, 0) {
-        DataWalk::Refused(r) => Written::Refused(r),
-        DataWalk::Taken {
-            codec: _,
-            count: _,
-            span: _,
-        } => write_field(&p[23..], out),
-    }
+    datagram::judge_datagram(family, p, 0)?;
+    write_field(&p[23..], out)
 }

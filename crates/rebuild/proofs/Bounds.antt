@@ -12,7 +12,6 @@ use Rattle.wire.proofs.Accepting.{pick-either}
 use Rattle.avl.specs.declared.Widths.{Widths}
 use Rattle.avl.specs.Codecs.{kinds}
 use Rattle.avl.specs.Records.{AvlRecord, element_count, length_bytes, element_bytes, group_bytes, groups_bytes, record_bytes}
-use Rattle.walk.specs.Walks.{Narrow}
 use Rattle.walk.proofs.KindLaws.{kinds-few}
 use Rattle.store.specs.Entries.{Entry, entries_from, entries_of, entries_at}
 use Rattle.tlv.specs.Decoding.{entry_element, run, behind, groups_of, fixed_of, records_of}
@@ -63,14 +62,14 @@ few ks f at h = omega (arith, count-groups ks (entries_at f at), weight-at f at 
 
 -- ---- how long they are
 
-module _ (w : Widths) (narrow : Narrow w) where
+module _ (w : Widths) where
   length-length_bytes : (k : ℕ) (v : List ℕ) → length (length_bytes k v) ≤ 2
   unfolding length_bytes digits
   length-length_bytes k v = pick-either (λ l. length l ≤ 2) (eqb k 9) (be 2 (length v)) [] (omega arith) (omega arith)
 
   length-element : (k : ℕ) (e : Entry) → length (element_bytes w k (entry_element e)) ≤ 4 + length e.body
   unfolding element_bytes entry_element
-  length-element k e = simp (length-append, length_digits) (omega (arith, narrow.id, length-length_bytes k (drop 2 e.body), length-drop 2 e.body))
+  length-element k e = simp (length-append, length_digits) (omega (arith, w.id_fits, length-length_bytes k (drop 2 e.body), length-drop 2 e.body))
 
   length_run : (k : ℕ) (es : List Entry) → length (joined (element_bytes w k) (run k es)) + weight (behind k es) ≤ weight es
   unfolding run behind
@@ -85,7 +84,7 @@ module _ (w : Widths) (narrow : Narrow w) where
   length-groups : (ks : List ℕ) (es : List Entry) → length (groups_bytes w ks (groups_of ks es)) ≤ 2 * length ks + weight es
   unfolding groups_bytes groups_of group_bytes
   length-groups [] es = omega arith
-  length-groups (k ∷ ks) es = simp (length-append, length_digits) (omega (arith, narrow.count, length_run k es, length-groups ks (behind k es)))
+  length-groups (k ∷ ks) es = simp (length-append, length_digits) (omega (arith, w.count_fits, length_run k es, length-groups ks (behind k es)))
 
   length-records : (es : List Entry) → weight es ≤ 262144 → length (joined (record_bytes w) (records_of (kinds w) es)) ≤ 300000 * length es
   unfolding records_of fixed_size
@@ -95,7 +94,7 @@ module _ (w : Widths) (narrow : Narrow w) where
       let rs = records_of (kinds w) es in
       let rest = length-records es (omega (arith, h)) in
       pick-either (λ l. length (joined (record_bytes w) l) ≤ 300000 * length (e ∷ es)) (eqb e.kind 101) (r ∷ rs) rs
-      (omega (arith, h, length-append (record_bytes w r) (joined (record_bytes w) rs), narrow.event, narrow.generation, narrow.count, length-record w r, length-groups (kinds w) es, kinds-few w)) (omega arith)
+      (omega (arith, h, length-append (record_bytes w r) (joined (record_bytes w) rs), w.event_fits, w.generation_fits, w.count_fits, length-record w r, length-groups (kinds w) es, kinds-few w)) (omega arith)
 
   pub records-room : (f : List ℕ) (at : ℕ) → length f ≤ 65536 → length (joined (record_bytes w) (records_of (kinds w) (entries_at f at))) ≤ 2 ^ 39
   records-room f at h = let es = entries_at f at in omega (arith, length-records es (weight-at f at h), length-weight es, weight-at f at h)

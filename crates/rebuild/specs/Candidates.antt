@@ -1,8 +1,8 @@
 -- The candidate's data field: its form within limits, and whether that is the given one.
-use Rattle.std.specs.Prelude.{ℕ, ◌+◌, ◌^◌, ◌≤◌, ◌<◌, Bool, false, List, length, leb}
+use Rattle.std.specs.Prelude.{Err, Ok, ℕ, ◌+◌, ◌^◌, ◌≤◌, ◌<◌, Bool, false, List, length, leb}
 use Rattle.wire.specs.declared.Limits.{Limits}
 use Rattle.wire.specs.Limits.{largest_of_all}
-use Rattle.wire.specs.Answers.{Answer, accepted, refused, check}
+use Rattle.wire.specs.Answers.{Answer, check}
 use Rattle.form.specs.Moves.{form_of_field}
 use Rattle.tlv.specs.PacketOf.{same}
 
@@ -15,5 +15,5 @@ unfoldable pub form_within : Limits → List ℕ → Answer (List ℕ)
 form_within limits d = check (leb (length d + 12) limits.largest) 17 (form_of_field limits.longest d)
 
 unfoldable pub has_form : Answer (List ℕ) → List ℕ → Bool
-has_form (accepted g) f = same g f
-has_form (refused r) f = false
+has_form (Ok g) f = same g f
+has_form (Err r) f = false

@@ -1,17 +1,15 @@
 // The TCP data packet of a TLV form: entries are read leniently, bytes are stored as far as the buffer goes, and what comes of it is judged.
 #![tactic(auto)]
 
-ghost use Rattle.std.specs.Prelude.{◌≡◌, ◌+◌, ◌*◌, ◌^◌, ◌≤◌, ◌<◌, [], length, MatchOption};
+ghost use Rattle.std.specs.Prelude.{◌≡◌, ◌+◌, ◌*◌, ◌^◌, ◌≤◌, ◌<◌, [], length, MatchOption, Ok};
 ghost use Rattle.std.proofs.lemmas.List.Edits.{sets};
 ghost use Rattle.wire.specs.Numbers.{be, little_at};
 ghost use Rattle.wire.specs.Sequences.{joined};
-ghost use Rattle.wire.specs.Answers.{accepted};
-ghost use Rattle.wire.specs.Buffers.{writing, leaving, written_as};
+ghost use Rattle.wire.specs.Buffers.{writing, leaving};
 ghost use Rattle.avl.specs.Codecs.{kinds};
 ghost use Rattle.avl.specs.Records.{element_bytes, group_bytes, groups_bytes, fixed_bytes, record_bytes, element_count};
 ghost use Rattle.avl.specs.DataField.{data_bytes};
 ghost use Rattle.frame.specs.Frame.{framed};
-ghost use Rattle.walk.specs.Walks.{Narrow};
 ghost use Rattle.tlv.specs.Decoding.{entry_element, run, behind, fixed_of, groups_of, records_of, decoded};
 ghost use Rattle.tlv.specs.PacketOf.{packet_within, packet_of_form};
 ghost use Rattle.rebuild.specs.Candidates.{Roomy, form_within, has_form};
@@ -21,7 +19,7 @@ ghost use Rattle.store.specs.Entries.{next_at, entry_at, entries_at};
 ghost use Rattle.rebuild.specs.FormPlaces.{record_at, behind_all, Goes, RecordFrom};
 
 use avl::Widths;
-use wire::{LARGEST_FORM, Limits, Refusal, Written};
+use wire::{LARGEST_FORM, Limits, Refusal};
 
 // Where reading and storing go on, and how many elements or records were stored.
 #[derive(Clone, Copy)]
@@ -45,7 +43,6 @@ fn turned(b: &[u8], at: usize, n: usize, out: &mut [u8], to: usize, w: usize) ->
 
 // The fixed fields of a record, from the body of its entry.
 fn put_fixed(w: Widths, b: &[u8], out: &mut [u8], to: usize) -> usize
-    requires narrow { Narrow w }
     requires to_bound { to ≤ 2 ^ 40 }
     ensures { Stored (fixed_bytes w (fixed_of b.now)) out.old out.new to result }
 {
@@ -63,7 +60,6 @@ fn put_fixed(w: Widths, b: &[u8], out: &mut [u8], to: usize) -> usize
 
 // An element of a kind, from the body of its entry.
 fn put_element(w: Widths, kind: usize, b: &[u8], out: &mut [u8], to: usize) -> usize
-    requires narrow { Narrow w }
     requires b_len_bound { length b.now ≤ 65536 }
     requires to_bound { to ≤ 2 ^ 40 }
     ensures { Stored (element_bytes w kind (entry_element (record { kind = kind; body = b.now }))) out.old out.new to result }
@@ -80,7 +76,6 @@ fn put_element(w: Widths, kind: usize, b: &[u8], out: &mut [u8], to: usize) -> u
 
 // The element of a kind whose entry is at `at`.
 fn put_entry(w: Widths, kind: usize, f: &[u8], at: usize, out: &mut [u8], to: usize) -> usize
-    requires narrow { Narrow w }
     requires f_len_bound { (length f.now ≤ 65536) × (at ≤ 65536) }
     requires to_bound { to ≤ 2 ^ 40 }
     ensures { Stored (element_bytes w kind (entry_element (entry_at f.now at))) out.old out.new to result }
@@ -90,7 +85,6 @@ fn put_entry(w: Widths, kind: usize, f: &[u8], at: usize, out: &mut [u8], to: us
 
 // The elements of a kind from `from` on.
 fn put_run(w: Widths, kind: usize, f: &[u8], mut from: usize, out: &mut [u8], mut to: usize) -> Run
-    requires narrow { Narrow w }
     requires f_len_bound { length f.now ≤ 65536 }
     requires from_bound { to + length (joined (element_bytes w kind) (run kind (entries_at f.now from))) ≤ 2 ^ 40 }
     ensures { Goes f.now from (behind kind (entries_at f.now from)) (joined (element_bytes w kind) (run kind (entries_at f.now from))) out.old out.new to (length (run kind (entries_at f.now from))) result }
@@ -107,7 +101,6 @@ fn put_run(w: Widths, kind: usize, f: &[u8], mut from: usize, out: &mut [u8], mu
 
 // A group: its elements, and their count in front of them.
 fn put_group(w: Widths, kind: usize, f: &[u8], from: usize, out: &mut [u8], to: usize) -> Run
-    requires narrow { Narrow w }
     requires f_len_bound { length f.now ≤ 65536 }
     requires from_bound { to + length (group_bytes w kind (run kind (entries_at f.now from))) ≤ 2 ^ 40 }
     ensures { Goes f.now from (behind kind (entries_at f.now from)) (group_bytes w kind (run kind (entries_at f.now from))) out.old out.new to (length (run kind (entries_at f.now from))) result }
@@ -120,7 +113,6 @@ fn put_group(w: Widths, kind: usize, f: &[u8], from: usize, out: &mut [u8], to: 
 
 // The groups from `from` on, in the order of their kinds, and how many elements they have.
 fn put_groups(w: Widths, f: &[u8], mut from: usize, out: &mut [u8], mut to: usize) -> Run
-    requires narrow { Narrow w }
     requires f_len_bound { length f.now ≤ 65536 }
     requires from_bound { to + length (groups_bytes w (kinds w) (groups_of (kinds w) (entries_at f.now from))) ≤ 2 ^ 40 }
     ensures { Goes f.now from (behind_all (kinds w) (entries_at f.now from)) (groups_bytes w (kinds w) (groups_of (kinds w) (entries_at f.now from))) out.old out.new to (element_count (groups_of (kinds w) (entries_at f.now from))) result }
@@ -137,7 +129,6 @@ fn put_groups(w: Widths, f: &[u8], mut from: usize, out: &mut [u8], mut to: usiz
 
 // The record whose entry 101 is at `at`: its fixed fields, its groups, and the total in front of these.
 fn put_record(w: Widths, f: &[u8], at: usize, out: &mut [u8], to: usize) -> Run
-    requires narrow { Narrow w }
     requires f_len_bound { (length f.now ≤ 65536) × (at ≤ 65536) }
     requires at_bound { to + length (record_bytes w (record_at (kinds w) f.now at)) ≤ 2 ^ 40 }
     ensures { Goes f.now (next_at f.now at) (behind_all (kinds w) (entries_at f.now (next_at f.now at))) (record_bytes w (record_at (kinds w) f.now at)) out.old out.new to (element_count (groups_of (kinds w) (entries_at f.now (next_at f.now at)))) result }
@@ -163,7 +154,6 @@ fn next_record(f: &[u8], mut from: usize) -> usize
 
 // The records from `from` on.
 fn put_records(w: Widths, f: &[u8], mut from: usize, out: &mut [u8], mut to: usize) -> Run
-    requires narrow { Narrow w }
     requires f_len_bound { length f.now ≤ 65536 }
     requires from_bound { to + length (joined (record_bytes w) (records_of (kinds w) (entries_at f.now from))) ≤ 2 ^ 40 }
     ensures { Goes f.now from [] (joined (record_bytes w) (records_of (kinds w) (entries_at f.now from))) out.old out.new to (length (records_of (kinds w) (entries_at f.now from))) result }
@@ -203,34 +193,24 @@ fn same_form(limits: Limits, d: &[u8], f: &[u8], g: &mut [u8]) -> bool
         return false;
     }
     match form::form_of_field(limits.longest, d, g) {
-        Written::Refused(_) => false,
-        Written::Bytes(n) => &g[..n] == f,
+        Err(_) => false,
+        Ok(n) => &g[..n] == f,
     }
-}
-
-fn refused(number: usize) -> Written
-    ensures { result ≡ Written.Refused (record { number = number; index = 0; place = 0 }) }
-{
-    Written::Refused(Refusal {
-        number,
-        index: 0,
-        place: 0,
-    })
 }
 
 // Writes the packet around a data field.
-fn put_packet(d: &[u8], out: &mut [u8]) -> Written
+fn put_packet(d: &[u8], out: &mut [u8]) -> Result<usize, Refusal>
     requires { length d.now < 2 ^ 32 }
-    ensures answer { written_as result ≡ writing (accepted (framed d.now)) out.old }
-    ensures buffer { out.new ≡ leaving (accepted (framed d.now)) out.old }
+    ensures answer { result ≡ writing (Ok (framed d.now)) out.old }
+    ensures buffer { out.new ≡ leaving (Ok (framed d.now)) out.old }
 {
     let n = d.len();
     if out.len() < n + 12 {
-        return refused(18);
+        return Err(Refusal::of(18));
     }
     wire::put_bytes(out, 8, d);
     frame::put_frame(out, n);
-    Written::Bytes(n + 12)
+    Ok(n + 12)
 }
 
 // The packet of a form, of which the data field takes at most `FIELD` bytes; none where it takes more.
@@ -238,11 +218,11 @@ fn packet_in<const FIELD: usize, const FORM: usize>(
     limits: Limits,
     f: &[u8],
     out: &mut [u8],
-) -> Option<Written>
+) -> Option<Result<usize, Refusal>>
     requires room { (4 * FIELD ≤ FORM) × (FORM < 2 ^ 32) }
     requires roomy { Roomy limits }
     requires f_len_bound { length f.now ≤ 65536 }
-    ensures answer { MatchOption result (FIELD < length (data_bytes (decoded f.now))) (λ r. written_as r ≡ writing (packet_within limits f.now) out.old) }
+    ensures answer { MatchOption result (FIELD < length (data_bytes (decoded f.now))) (λ r. r ≡ writing (packet_within limits f.now) out.old) }
     ensures buffer { MatchOption result (out.new ≡ out.old) (λ r. out.new ≡ leaving (packet_within limits f.now) out.old) }
 {
     let mut d = [0u8; FIELD];
@@ -254,14 +234,14 @@ fn packet_in<const FIELD: usize, const FORM: usize>(
     if same_form(limits, &d[..n], f, &mut g) {
         return Some(put_packet(&d[..n], out));
     }
-    Some(refused(17))
+    Some(Err(Refusal::of(17)))
 }
 
 // The packet of a form, in short arrays where they are enough: clearing long ones costs time.
-fn packet_within(limits: Limits, f: &[u8], out: &mut [u8]) -> Written
+fn packet_within(limits: Limits, f: &[u8], out: &mut [u8]) -> Result<usize, Refusal>
     requires roomy { Roomy limits }
     requires f_len_bound { length f.now ≤ 65536 }
-    ensures answer { written_as result ≡ writing (packet_within limits f.now) out.old }
+    ensures answer { result ≡ writing (packet_within limits f.now) out.old }
     ensures buffer { out.new ≡ leaving (packet_within limits f.now) out.old }
 {
     if f.len() <= 96 {
@@ -271,21 +251,21 @@ fn packet_within(limits: Limits, f: &[u8], out: &mut [u8]) -> Written
     }
     match packet_in::<FIELD, LARGEST_FORM>(limits, f, out) {
         Some(written) => written,
-        None => refused(17),
+        None => Err(Refusal::of(17)),
     }
 }
 
 // The TCP data packet of a form; 17 where no acceptable packet has it.
-pub fn packet_of_form(family: usize, f: &[u8], out: &mut [u8]) -> Written
-    ensures answer { written_as result ≡ writing (packet_of_form (limits_of family) f.now) out.old }
+pub fn packet_of_form(family: usize, f: &[u8], out: &mut [u8]) -> Result<usize, Refusal>
+    ensures answer { result ≡ writing (packet_of_form (limits_of family) f.now) out.old }
     ensures buffer { out.new ≡ leaving (packet_of_form (limits_of family) f.now) out.old }
 {
     let limits = wire::limits_of(family);
     if limits.largest < 1 {
-        return refused(21);
+        return Err(Refusal::of(21));
     }
     if LARGEST_FORM < f.len() {
-        return refused(17);
+        return Err(Refusal::of(17));
     }
     packet_within(limits, f, out)
 }

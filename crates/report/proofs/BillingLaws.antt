@@ -1,4 +1,5 @@
 -- Billing lines that are read back: where one is wrong, and the lines of a text one by one.
+use Rattle.std.specs.Prelude.{Err, Ok}
 use Prim.Native.Nat.{ℕ, suc, ◌+◌, ◌-◌, ◌≤◌, ◌<◌}
 use native.Mathlib.Omega.{arith}
 use mathlib.Core.Path.{◌≡◌, refl, sym, ap, ◌∙◌}
@@ -11,14 +12,13 @@ use borrow.Author.Tests.{eqb-true}
 use Rattle.wire.specs.declared.Refusal.{Refusal}
 use Rattle.wire.specs.Numbers.{pick}
 use Rattle.wire.specs.Reading.{Read, got, bad, and_then}
-use Rattle.wire.specs.Answers.{Answer, accepted, refused, on_accepted}
+use Rattle.wire.specs.Answers.{Answer, on_accepted}
 use Rattle.line.specs.Pieces.{onto, pieces}
 use Rattle.line.specs.Lines.{Line}
 use Rattle.line.specs.LineReader.{on_field, next_field, is_tag, read_printed, read_elements, read_fields, wrong, body, judge_line, read_line, place_in, wrong_at}
 use Rattle.line.proofs.Cases.{by-test}
 use Rattle.scan.specs.declared.LineFields.{LineFields}
-use Rattle.scan.specs.declared.LineAnswer.{LineAnswer}
-use Rattle.scan.specs.Answers.{answer_line, line_as}
+use Rattle.scan.specs.Answers.{answer_line}
 use Rattle.say.specs.Lines.{line_length}
 use Rattle.say.proofs.LineLaws.{line-fits}
 use Rattle.connection.proofs.PaddedLaws.{rest_part}
@@ -37,8 +37,8 @@ width (p ∷ ps) = suc (length p + width ps)
 
 field-within : {A B : Type 0} (most at : ℕ) (r : Answer A) (f : A → Read B) → at ≤ most → ((a : A) → Within most (f a)) → Within most (on_field at r f)
 unfolding on_field
-field-within most at (accepted a) f h k = k a
-field-within most at (refused r) f h k = h
+field-within most at (Ok a) f h k = k a
+field-within most at (Err r) f h k = h
 
 then-within : {A B : Type 0} (most : ℕ) (r : Read A) (f : A → ℕ → Read B) → Within most r → ((a : A) (n : ℕ) → Within most (f a n)) → Within most (and_then r f)
 unfolding and_then
@@ -108,23 +108,23 @@ line_first (c ∷ d ∷ s) h = by-test (eqb c 10) (λ e. simp e) (λ e. simp e (
 
 -- ---- one line after another
 
-same-refusal : {A B : Type 0} (r : Answer A) (f : A → B) → refusal_number (on_accepted r (λ a. accepted (f a))) ≡ refusal_number r
+same-refusal : {A B : Type 0} (r : Answer A) (f : A → B) → refusal_number (on_accepted r (λ a. Ok (f a))) ≡ refusal_number r
 unfolding refusal_number on_accepted
-same-refusal (accepted a) f = refl
-same-refusal (refused r) f = refl
+same-refusal (Ok a) f = refl
+same-refusal (Err r) f = refl
 
 line-refusal : (s : List ℕ) → refusal_number (answer_line s) ≡ line_refusal s
 unfolding answer_line line_refusal
 line-refusal s = same-refusal (read_line s) _
 
-module _ (s : List ℕ) {a : LineAnswer} (e : line_as a ≡ answer_line s) where
-  pub line_refused : {x : Refusal} {n : ℕ} → a ≡ LineAnswer.Refused x → n ≡ x.number → n ≡ line_refusal s
-  unfolding line_as refusal_number
-  line_refused is said = said ∙ ap (λ (y : LineAnswer). refusal_number (line_as y)) (sym is) ∙ ap refusal_number e ∙ line-refusal s
+module _ (s : List ℕ) {a : Answer LineFields} (e : a ≡ answer_line s) where
+  pub line_refused : {x : Refusal} {n : ℕ} → a ≡ Err x → n ≡ x.number → n ≡ line_refusal s
+  unfolding refusal_number
+  line_refused is said = said ∙ ap (λ (y : Answer LineFields). refusal_number y) (sym is) ∙ ap refusal_number e ∙ line-refusal s
 
-  pub line_taken : {f : LineFields} → a ≡ LineAnswer.Fields f → 0 ≡ line_refusal s
-  unfolding line_as refusal_number
-  line_taken is = ap (λ (y : LineAnswer). refusal_number (line_as y)) (sym is) ∙ ap refusal_number e ∙ line-refusal s
+  pub line_taken : {f : LineFields} → a ≡ Ok f → 0 ≡ line_refusal s
+  unfolding refusal_number
+  line_taken is = ap (λ (y : Answer LineFields). refusal_number y) (sym is) ∙ ap refusal_number e ∙ line-refusal s
 
 earlier-none : (a : ℕ) → earlier a 0 ≡ a
 unfolding earlier

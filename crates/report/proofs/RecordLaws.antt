@@ -1,4 +1,5 @@
 -- What the table of contents tells of the records that are said.
+use Rattle.std.specs.Prelude.{Err, Ok}
 use Prim.Native.Nat.{ℕ, suc, ◌+◌, ◌-◌, ◌≤◌, ◌<◌}
 use native.Mathlib.Omega.{arith}
 use mathlib.Core.Path.{◌≡◌, refl, sym, ap, ◌∙◌, subst}
@@ -8,7 +9,7 @@ use lib.ListN.{length, drop}
 use Rattle.wire.specs.declared.Refusal.{Refusal}
 use Rattle.wire.specs.Numbers.{Bytes}
 use Rattle.wire.specs.Limits.{limits_of}
-use Rattle.wire.specs.Answers.{Answer, accepted, refused, on_accepted}
+use Rattle.wire.specs.Answers.{Answer, on_accepted}
 use Rattle.wire.specs.Buffers.{writing, leaving}
 use Rattle.wire.proofs.LimitLaws.{limits-most}
 use Rattle.wire.proofs.BufferLaws.{written-fits, writing-done, leaving-done}
@@ -30,13 +31,13 @@ use Rattle.report.specs.Shown.{contents_here, records_said}
 
 module _ (family : ℕ) (p : List ℕ) (b : Bytes p) where
   -- what is in the buffer, of either kind of input
-  ahead : (udp : Bool) (t more : List ℕ) → contents_here family udp p ≡ accepted t
+  ahead : (udp : Bool) (t more : List ℕ) → contents_here family udp p ≡ Ok t
       → ((title_result (t ++ more)).count ≡ records_said family udp p) × RowsAhead p (t ++ more) 2 (title_result (t ++ more)).count
   unfolding contents_here records_said
   ahead true t more e = datagram-ahead (limits_of family) (limits-most family) p t b more e
   ahead false t more e = packet-ahead (limits_of family) (limits-most family) p t b more e
 
-  pub rows-listed : (udp : Bool) (before : List ℕ) {after : List ℕ} {n : ℕ} → accepted n ≡ writing (contents_here family udp p) before → after ≡ leaving (contents_here family udp p) before
+  pub rows-listed : (udp : Bool) (before : List ℕ) {after : List ℕ} {n : ℕ} → Ok n ≡ writing (contents_here family udp p) before → after ≡ leaving (contents_here family udp p) before
       → ((title_result after).count ≡ records_said family udp p) × RowsAhead p after 2 (title_result after).count
   rows-listed udp before {after} e f =
       let g = written-fits (contents_here family udp p) before e in
@@ -45,7 +46,7 @@ module _ (family : ℕ) (p : List ℕ) (b : Bytes p) where
 
   -- ---- a refused input: the buffer is long enough for every table
 
-  accepted-room : (udp : Bool) (t : List ℕ) → contents_here family udp p ≡ accepted t → length t ≤ 640
+  accepted-room : (udp : Bool) (t : List ℕ) → contents_here family udp p ≡ Ok t → length t ≤ 640
   unfolding contents_here contents_of_packet contents_of_datagram tcp_source
   accepted-room true t e =
       let i = on_accepted-accepted (read_datagram (limits_of family) p) _ e in
@@ -61,28 +62,28 @@ module _ (family : ℕ) (p : List ℕ) (b : Bytes p) where
   abbrev in_datagram : Datagram → Source
   in_datagram g = record { content = g.payload; base = 25 }
 
-  none_said : (udp : Bool) {x : Refusal} → contents_here family udp p ≡ refused x → 0 ≡ records_said family udp p
+  none_said : (udp : Bool) {x : Refusal} → contents_here family udp p ≡ Err x → 0 ≡ records_said family udp p
   unfolding contents_here records_said contents_of_packet contents_of_datagram tcp_source payload_of acknowledged on_accepted
   none_said true {x} e = go (read_datagram (limits_of family) p) e
     where
-      go : (r : Answer Datagram) → on_accepted r (λ g. accepted (contents g.header (in_datagram g))) ≡ refused x
-          → 0 ≡ acknowledged (on_accepted r (λ g. accepted g.payload))
-      go (accepted g) e = absurd (let z : ◌≡◌ {A = ℕ} 0 1 = cc in omega arith)
-      go (refused y) e = refl
+      go : (r : Answer Datagram) → on_accepted r (λ g. Ok (contents g.header (in_datagram g))) ≡ Err x
+          → 0 ≡ acknowledged (on_accepted r (λ g. Ok g.payload))
+      go (Ok g) e = absurd (let z : ◌≡◌ {A = ℕ} 0 1 = cc in omega arith)
+      go (Err y) e = refl
   none_said false {x} e = go (read_packet (limits_of family) p) e
     where
-      go : (r : Answer AvlData) → on_accepted (on_accepted r (λ a. accepted (in_packet a))) (λ y. accepted (contents no_header y)) ≡ refused x → 0 ≡ acknowledged r
-      go (accepted a) e = absurd (let z : ◌≡◌ {A = ℕ} 0 1 = cc in omega arith)
-      go (refused y) e = refl
+      go : (r : Answer AvlData) → on_accepted (on_accepted r (λ a. Ok (in_packet a))) (λ y. Ok (contents no_header y)) ≡ Err x → 0 ≡ acknowledged r
+      go (Ok a) e = absurd (let z : ◌≡◌ {A = ℕ} 0 1 = cc in omega arith)
+      go (Err y) e = refl
 
-  pub none-listed : (udp : Bool) (before : List ℕ) {x : Refusal} → length before ≡ 640 → refused x ≡ writing (contents_here family udp p) before → 0 ≡ records_said family udp p
+  pub none-listed : (udp : Bool) (before : List ℕ) {x : Refusal} → length before ≡ 640 → Err x ≡ writing (contents_here family udp p) before → 0 ≡ records_said family udp p
   none-listed udp before {x} long e = go (contents_here family udp p) refl
     where
       go : (r : Answer (List ℕ)) → contents_here family udp p ≡ r → 0 ≡ records_said family udp p
-      go (accepted t) is =
+      go (Ok t) is =
           let done = writing-done t before (omega (arith, long, accepted-room udp t is)) in
-          absurd (let same : refused x ≡ accepted (length t) = e ∙ ap (λ r. writing r before) is ∙ done in let z : ◌≡◌ {A = ℕ} 0 1 = cc in omega arith)
-      go (refused y) is = none_said udp is
+          absurd (let same : Err x ≡ Ok (length t) = e ∙ ap (λ r. writing r before) is ∙ done in let z : ◌≡◌ {A = ℕ} 0 1 = cc in omega arith)
+      go (Err y) is = none_said udp is
 
 -- ---- one record after another
 

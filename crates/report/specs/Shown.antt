@@ -1,8 +1,8 @@
 -- What the functions that say something answer: the number of the refusal that is said, 0 where the input is accepted.
-use Rattle.std.specs.Prelude.{ℕ, ◌*◌, Bool, List, [], ◌∷◌, replicate, eqb}
+use Rattle.std.specs.Prelude.{Err, Ok, ℕ, ◌*◌, Bool, List, [], ◌∷◌, replicate, eqb}
 use Rattle.wire.specs.Numbers.{pick}
 use Rattle.wire.specs.Limits.{largest_of_all, limits_of, is_known}
-use Rattle.wire.specs.Answers.{Answer, accepted, refused}
+use Rattle.wire.specs.Answers.{Answer}
 use Rattle.wire.specs.Buffers.{writing}
 use Rattle.packet.specs.DataPackets.{read_packet, answer_packet, acknowledged}
 use Rattle.datagram.specs.Datagrams.{read_datagram, payload_of, answer_datagram}
@@ -17,8 +17,8 @@ use Rattle.line.specs.RecordLines.{lines_of_packet, lines_of_datagram}
 use Rattle.stream.specs.Stream.{for_login, Item, login, packet, refusing, waiting, stream}
 
 unfoldable pub refusal_number : {A : Type 0} → Answer A → ℕ
-refusal_number (accepted a) = 0
-refusal_number (refused r) = r.number
+refusal_number (Ok a) = 0
+refusal_number (Err r) = r.number
 
 -- ---- an input of each kind
 

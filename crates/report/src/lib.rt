@@ -7,17 +7,15 @@ mod records;
 
 ghost use Rattle.std.specs.Prelude.{◌≡◌, ◌≤◌};
 ghost use Rattle.wire.specs.Limits.{limits_of};
-ghost use Rattle.wire.specs.Buffers.{written_as};
 ghost use Rattle.report.specs.Shown.{refusal_number, packet_refusal, datagram_refusal, login_refusal, command_refusal, packet_of_form_refusal, form_of_packet_refusal, form_of_datagram_refusal, write_refusal, feeds_refusal, connection_refusal, lines_of_packet_refusal, lines_of_datagram_refusal, earlier, lines_refusal};
 
-use command::{CommandAnswer, CommandFields};
-use datagram::{DatagramAnswer, Header};
+use avl::DataResult;
+use command::CommandFields;
+use datagram::{DatagramResult, Header};
 use items::say_item;
-use login::LoginAnswer;
-use packet::PacketAnswer;
 use records::{say_records, show_line};
 use say::{say, say_around, say_bytes, say_hex, say_line, say_quoted};
-use wire::{Refusal, Written};
+use wire::Refusal;
 
 // The meanings of the refusals, in the paper's words; the first line is 0's, which is none.
 fn say_meaning(rt: &(impl Print + Eprint), number: usize) {
@@ -132,10 +130,10 @@ pub fn show_packet(rt: &(impl Print + Eprint), family: usize, p: &[u8]) -> usize
     ensures { result ≡ packet_refusal family p.now }
 {
     match packet::read_packet(family, p) {
-        PacketAnswer::Refused(r) => refuse(rt, Judged::Packet, p, r),
-        PacketAnswer::Accepted { codec, count } => {
+        Err(r) => refuse(rt, Judged::Packet, p, r),
+        Ok(DataResult { codec, count }) => {
             let mut answer = [0u8; 4];
-            packet::acknowledge_packet(family, p, &mut answer);
+            let _ = packet::acknowledge_packet(family, p, &mut answer);
             say(rt, b"TCP data packet", &[]);
             say_counts(rt, codec, count, p.len(), &answer);
             say_records(rt, family, false, codec, p);
@@ -148,18 +146,14 @@ pub fn show_datagram(rt: &(impl Print + Eprint), family: usize, p: &[u8]) -> usi
     ensures { result ≡ datagram_refusal family p.now }
 {
     match datagram::read_datagram(family, p) {
-        DatagramAnswer::Refused(r) => refuse(rt, Judged::Datagram, p, r),
-        DatagramAnswer::Accepted {
-            codec,
-            count,
-            header,
-        } => {
+        Err(r) => refuse(rt, Judged::Datagram, p, r),
+        Ok(DatagramResult { payload, header }) => {
             let mut answer = [0u8; 7];
-            datagram::acknowledge_datagram(family, p, &mut answer);
+            let _ = datagram::acknowledge_datagram(family, p, &mut answer);
             say(rt, b"UDP datagram", &[]);
-            say_counts(rt, codec, count, p.len(), &answer);
+            say_counts(rt, payload.codec, payload.count, p.len(), &answer);
             say_header(rt, header);
-            say_records(rt, family, true, codec, p);
+            say_records(rt, family, true, payload.codec, p);
             0
         }
     }
@@ -178,8 +172,8 @@ pub fn show_login(rt: &(impl Print + Eprint), p: &[u8]) -> usize
     ensures { result ≡ login_refusal p.now }
 {
     match login::read_login(p) {
-        LoginAnswer::Refused(r) => refuse(rt, Judged::Login, p, r),
-        LoginAnswer::Imei(imei) => {
+        Err(r) => refuse(rt, Judged::Login, p, r),
+        Ok(imei) => {
             say_imei(rt, imei);
             0
         }
@@ -198,8 +192,8 @@ pub fn show_command(rt: &(impl Print + Eprint), family: usize, p: &[u8]) -> usiz
     ensures { result ≡ command_refusal family p.now }
 {
     match command::read_command(family, p) {
-        CommandAnswer::Refused(r) => refuse(rt, Judged::Command, p, r),
-        CommandAnswer::Accepted(f) => {
+        Err(r) => refuse(rt, Judged::Command, p, r),
+        Ok(f) => {
             say(rt, b"TCP command packet, %1 bytes", &[p.len() as u64]);
             say_message(rt, f);
             say(rt, b"text ", &[]);
@@ -304,11 +298,7 @@ pub fn show_connection(rt: &(impl Print + Eprint), family: usize, p: &[u8]) -> u
     ensures { result ≡ connection_refusal family p.now }
 {
     if wire::limits_of(family).largest < 1 {
-        let unknown = Refusal {
-            number: 21,
-            index: 0,
-            place: 0,
-        };
+        let unknown = Refusal::of(21);
         return refuse(rt, Judged::Other, p, unknown);
     }
     show_feeds(rt, family, p)
@@ -348,8 +338,8 @@ pub fn show_form(rt: &(impl Print + Eprint), family: usize, f: &[u8]) -> usize
 {
     let mut p = [0u8; wire::LARGEST];
     match rebuild::packet_of_form(family, f, &mut p) {
-        Written::Refused(r) => refuse(rt, Judged::Other, f, r),
-        Written::Bytes(n) => {
+        Err(r) => refuse(rt, Judged::Other, f, r),
+        Ok(n) => {
             if let Some(packet) = p.get(..n) {
                 say(
                     rt,
@@ -376,14 +366,14 @@ fn say_written(
     what: Judged,
     spelling: Spelling,
     p: &[u8],
-    answer: Written,
+    answer: Result<usize, Refusal>,
     out: &[u8],
 ) -> usize
-    ensures { result ≡ refusal_number (written_as answer) }
+    ensures { result ≡ refusal_number answer }
 {
     match answer {
-        Written::Refused(r) => refuse(rt, what, p, r),
-        Written::Bytes(n) => {
+        Err(r) => refuse(rt, what, p, r),
+        Ok(n) => {
             if let Some(bytes) = out.get(..n) {
                 say_spelled(rt, spelling, bytes);
             }

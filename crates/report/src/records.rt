@@ -1,6 +1,6 @@
 // The records of a TCP data packet or a datagram, by its table of contents; and billing lines that are read back.
 ghost use Rattle.std.specs.Prelude.{◌≡◌, ℕ, ◌+◌, ◌^◌, ◌≤◌, ◌<◌, length, drop, get_or};
-ghost use Rattle.wire.specs.Buffers.{writing, leaving, written_as};
+ghost use Rattle.wire.specs.Buffers.{writing, leaving};
 ghost use Rattle.contents.specs.Words.{title_result, record_of, value_of};
 ghost use Rattle.contents.specs.Rows.{RowsAhead};
 ghost use Rattle.report.specs.Shown.{contents_here, records_said, line_refusal};
@@ -8,8 +8,8 @@ ghost use Rattle.report.specs.Shown.{contents_here, records_said, line_refusal};
 use crate::{Judged, refuse, say_meaning};
 use element::{RecordFields, Value};
 use say::{say, say_hex, say_quoted};
-use scan::{LineAnswer, LineElementAnswer, LineFields};
-use wire::{Refusal, Written};
+use scan::LineFields;
+use wire::Refusal;
 
 // All records; how many they are.
 pub fn say_records(
@@ -23,13 +23,13 @@ pub fn say_records(
 {
     let mut table = [0u64; wire::LARGEST_CONTENTS];
     match contents_at(family, udp, p, &mut table) {
-        Written::Refused(_) => 0,
-        Written::Bytes(_) => say_rows(rt, codec, p, &table),
+        Err(_) => 0,
+        Ok(_) => say_rows(rt, codec, p, &table),
     }
 }
 
-fn contents_at(family: usize, udp: bool, p: &[u8], table: &mut [u64]) -> Written
-    ensures answer { written_as result ≡ writing (contents_here family udp p.now) table.old }
+fn contents_at(family: usize, udp: bool, p: &[u8], table: &mut [u64]) -> Result<usize, Refusal>
+    ensures answer { result ≡ writing (contents_here family udp p.now) table.old }
     ensures buffer { table.new ≡ leaving (contents_here family udp p.now) table.old }
 {
     if udp {
@@ -197,8 +197,8 @@ pub fn show_line(
     ensures { result ≡ line_refusal s.now }
 {
     match scan::read_line(s) {
-        LineAnswer::Refused(r) => refuse_line(rt, r, k, start, s),
-        LineAnswer::Fields(f) => {
+        Err(r) => refuse_line(rt, r, k, start, s),
+        Ok(f) => {
             say(rt, b"line %1", &[k as u64]);
             say_fields(rt, f);
             say_elements(rt, s, f.start, f.elements, bytes);
@@ -251,12 +251,12 @@ fn say_elements(
 // The element whose field starts at `at`: its ID, and its number or its tag; where the next field starts.
 fn say_element(rt: &(impl Print + Eprint), s: &[u8], at: usize, bytes: &mut [u8]) -> usize {
     match scan::element_at(s, at, bytes) {
-        LineElementAnswer::Refused(r) => {
+        Err(r) => {
             say(rt, b"    not shown  ", &[]);
             refuse(rt, Judged::Other, s, r);
             s.len()
         }
-        LineElementAnswer::Found(e) => {
+        Ok(e) => {
             say(rt, b"    id ~5  ", &[e.id as u64]);
             if e.tag {
                 say_tag(rt, bytes, e.size);

@@ -1,4 +1,5 @@
 -- From the walk to the answers: a line's fields, where it is wrong, and its elements one by one.
+use Rattle.scan.specs.declared.LineElement.{LineElement}
 use Rattle.std.specs.Prelude.{Some, None, Ok, Err}
 use Prim.Native.Nat.{ℕ, zero, suc, ◌+◌, ◌-◌, ◌*◌, ◌^◌, ◌≤◌, ◌<◌}
 use native.Mathlib.Nat.{not-suc-le-zero, le_of_suc-le-suc}
@@ -12,7 +13,7 @@ use lib.Dec.{eqb, leb}
 use borrow.Author.Tests.{le-leb, lt-leb, ne_eqb}
 use Rattle.wire.specs.Sequences.{joined}
 use Rattle.wire.specs.declared.Refusal.{Refusal}
-use Rattle.wire.specs.Answers.{Answer, accepted, refused, refusal, on_accepted, told, unplaced, check, check_at}
+use Rattle.wire.specs.Answers.{Answer, refusal, on_accepted, told, unplaced, check, check_at}
 use Rattle.wire.specs.Reading.{Read, got, bad, and_then}
 use Rattle.wire.specs.Buffers.{leaving}
 use Rattle.wire.proofs.Accepting.{by_length, pick-either, on_accepted-passed, on_accepted-refused}
@@ -33,10 +34,9 @@ use Rattle.line.proofs.LineLaws.{line-inverse, read-pieces}
 use Rattle.line.proofs.WalkLaws.{element-stands, element-cursor}
 use Rattle.scan.specs.declared.Item.{Item}
 use Rattle.scan.specs.declared.LineFields.{LineFields}
-use Rattle.scan.specs.declared.LineElementAnswer.{LineElementAnswer}
 use Rattle.scan.specs.Fields.{field_from, field_end, tag_start, item_as}
 use Rattle.scan.specs.Walking.{pieces_from, judged_as, line_result, standing}
-use Rattle.scan.specs.Answers.{tag_bytes, element_result, answer_element, leaving_element, element_as}
+use Rattle.scan.specs.Answers.{tag_bytes, element_result, answer_element, leaving_element}
 use Rattle.scan.proofs.FieldLaws.{field-behind, field-comma, field-byte}
 use Rattle.scan.proofs.WalkLaws.{pieces_none, pieces-some, start-on}
 
@@ -48,8 +48,8 @@ Twenty (bad x) = refusal x.number ≡ refusal 20
 
 twenty-field : {A B : Type 0} (at : ℕ) (r : Answer A) (f : A → Read B) → ((a : A) → Twenty (f a)) → Twenty (on_field at r f)
 unfolding on_field
-twenty-field at (accepted a) f h = h a
-twenty-field at (refused x) f h = refl
+twenty-field at (Ok a) f h = h a
+twenty-field at (Err x) f h = refl
 
 twenty-next : {A B : Type 0} (parse : List ℕ → Answer A) (at : ℕ) (ps : List (List ℕ)) (f : A → ℕ → List (List ℕ) → Read B) → ((a : A) (n : ℕ) (qs : List (List ℕ)) → Twenty (f a n qs))
     → Twenty (next_field parse at ps f)
@@ -81,21 +81,21 @@ twenty-line s =
 -- ---- the line
 
 module _ (s : List ℕ) (start : ℕ) where
-  pub line_taken : {f : LineFields} → Ok f ≡ judged_as start (judge_line s) → (l : Line) × (read_line s ≡ accepted l) × (f ≡ line_result start l) × (f.elements ≡ length l.elements)
+  pub line_taken : {f : LineFields} → Ok f ≡ judged_as start (judge_line s) → (l : Line) × (read_line s ≡ Ok l) × (f ≡ line_result start l) × (f.elements ≡ length l.elements)
   unfolding read_line told unplaced judged_as line_result
   line_taken {f} e = go (judge_line s) e
     where
-      go : (r : Read Line) → Ok f ≡ judged_as start r → (l : Line) × (unplaced (told 0 r) ≡ accepted l) × (f ≡ line_result start l) × (f.elements ≡ length l.elements)
+      go : (r : Read Line) → Ok f ≡ judged_as start r → (l : Line) × (unplaced (told 0 r) ≡ Ok l) × (f ≡ line_result start l) × (f.elements ≡ length l.elements)
       go (got l n) e = let same : f ≡ line_result start l = cc in (l, refl, same, ap (λ (x : LineFields). x.elements) same)
       go (bad x) e = absurd (let z : ◌≡◌ {A = ℕ} 0 1 = cc in omega arith)
 
-  pub line-wrong : {place : ℕ} → Err place ≡ judged_as start (judge_line s) → (read_line s ≡ refused (refusal 20)) × (place ≡ wrong_at s)
+  pub line-wrong : {place : ℕ} → Err place ≡ judged_as start (judge_line s) → (read_line s ≡ Err (refusal 20)) × (place ≡ wrong_at s)
   unfolding read_line told unplaced judged_as wrong_at place_in
   line-wrong {place} e = go (judge_line s) (twenty-line s) e
     where
-      go : (r : Read Line) → Twenty r → Err place ≡ judged_as start r → (unplaced (told 0 r) ≡ refused (refusal 20)) × (place ≡ place_in (length s) r)
+      go : (r : Read Line) → Twenty r → Err place ≡ judged_as start r → (unplaced (told 0 r) ≡ Err (refusal 20)) × (place ≡ place_in (length s) r)
       go (got l n) h e = absurd (let z : ◌≡◌ {A = ℕ} 0 1 = cc in omega arith)
-      go (bad x) h e = (ap refused h, cc)
+      go (bad x) h e = (ap Err h, cc)
 
   pub line-right : {f : LineFields} → Ok f ≡ judged_as start (judge_line s) → length s ≡ wrong_at s
   unfolding judged_as wrong_at place_in
@@ -160,7 +160,7 @@ before-drop c (suc n) (b ∷ s) h =
 sign-free : (id : ℕ) (s : List ℕ) → before 61 (decimal id ++ (61 ∷ s)) ≡ decimal id
 sign-free id s = before-free 61 (decimal id) s (decimal-free 61 id (λ (h : IsDigit 61). omega (arith, h)))
 
-module _ (t : List ℕ) (at id : ℕ) (b : List ℕ) (e : read_printed false (field_from t at) ≡ accepted (tag id b)) where
+module _ (t : List ℕ) (at id : ℕ) (b : List ℕ) (e : read_printed false (field_from t at) ≡ Ok (tag id b)) where
   text-is : field_from t at ≡ decimal id ++ (61 ∷ quoted b)
   unfolding printed_text
   text-is = (printed-exact false (field_from t at) (tag id b) e).1
@@ -176,7 +176,7 @@ module _ (t : List ℕ) (at id : ℕ) (b : List ℕ) (e : read_printed false (fi
   unfolding quoted
   inside = omega (arith, ap length text-is, length-append (decimal id) (61 ∷ quoted b))
 
-  pub tag-stands : read_tag none (field_from t (tag_start t at)) ≡ accepted b
+  pub tag-stands : read_tag none (field_from t (tag_start t at)) ≡ Ok b
   tag-stands =
       ap (read_tag none)
       (ap (λ (n : ℕ). before 44 (drop n t)) lead
@@ -191,42 +191,42 @@ module _ (t : List ℕ) (at id : ℕ) (b : List ℕ) (e : read_printed false (fi
 
 -- what an element tells
 module _ (start end : ℕ) where
-  pub number-item : (r : Answer Printed) {id n last : ℕ} → Some (Item.Number id n last) ≡ item_as start end r → (r ≡ accepted (number id n)) × (last ≡ end)
+  pub number-item : (r : Answer Printed) {id n last : ℕ} → Some (Item.Number id n last) ≡ item_as start end r → (r ≡ Ok (number id n)) × (last ≡ end)
   unfolding item_as
-  number-item (accepted (number i m)) {id} {n} e =
+  number-item (Ok (number i m)) {id} {n} e =
       let a : i ≡ id = cc in
       let b : m ≡ n = cc in
-      ((λ j. accepted (number (a j) (b j))), cc)
-  number-item (accepted (tag i b)) e = absurd (let z : ◌≡◌ {A = ℕ} 0 1 = cc in omega arith)
-  number-item (refused x) e = absurd (let z : ◌≡◌ {A = ℕ} 0 1 = cc in omega arith)
+      ((λ j. Ok (number (a j) (b j))), cc)
+  number-item (Ok (tag i b)) e = absurd (let z : ◌≡◌ {A = ℕ} 0 1 = cc in omega arith)
+  number-item (Err x) e = absurd (let z : ◌≡◌ {A = ℕ} 0 1 = cc in omega arith)
 
   pub tag-item : (r : Answer Printed) {id from size last : ℕ} → Some (Item.Tag id from size last) ≡ item_as start end r
-      → (b : List ℕ) × (r ≡ accepted (tag id b)) × (from ≡ start) × (size ≡ length b) × (last ≡ end)
+      → (b : List ℕ) × (r ≡ Ok (tag id b)) × (from ≡ start) × (size ≡ length b) × (last ≡ end)
   unfolding item_as
-  tag-item (accepted (number i m)) e = absurd (let z : ◌≡◌ {A = ℕ} 0 1 = cc in omega arith)
-  tag-item (accepted (tag i b)) {id} e = let a : i ≡ id = cc in (b, (λ j. accepted (tag (a j) b)), cc, cc, cc)
-  tag-item (refused x) e = absurd (let z : ◌≡◌ {A = ℕ} 0 1 = cc in omega arith)
+  tag-item (Ok (number i m)) e = absurd (let z : ◌≡◌ {A = ℕ} 0 1 = cc in omega arith)
+  tag-item (Ok (tag i b)) {id} e = let a : i ≡ id = cc in (b, (λ j. Ok (tag (a j) b)), cc, cc, cc)
+  tag-item (Err x) e = absurd (let z : ◌≡◌ {A = ℕ} 0 1 = cc in omega arith)
 
-  pub no_item : (r : Answer Printed) → None ≡ item_as start end r → (x : Refusal) × (r ≡ refused x)
+  pub no_item : (r : Answer Printed) → None ≡ item_as start end r → (x : Refusal) × (r ≡ Err x)
   unfolding item_as
-  no_item (accepted (number i m)) e = absurd (let z : ◌≡◌ {A = ℕ} 0 1 = cc in omega arith)
-  no_item (accepted (tag i b)) e = absurd (let z : ◌≡◌ {A = ℕ} 0 1 = cc in omega arith)
-  no_item (refused x) e = (x, refl)
+  no_item (Ok (number i m)) e = absurd (let z : ◌≡◌ {A = ℕ} 0 1 = cc in omega arith)
+  no_item (Ok (tag i b)) e = absurd (let z : ◌≡◌ {A = ℕ} 0 1 = cc in omega arith)
+  no_item (Err x) e = (x, refl)
 
 -- ---- an element that is none is refused with 20
 
 abbrev Sole : {A : Type 0} → Answer A → Type 0
-Sole (accepted a) = Unit {0}
-Sole (refused x) = x ≡ refusal 20
+Sole (Ok a) = Unit {0}
+Sole (Err x) = x ≡ refusal 20
 
 sole-check : {A : Type 0} (test : Bool) (r : Answer A) → Sole r → Sole (check test 20 r)
 unfolding check_at
-sole-check test r h = pick-either Sole test r (refused (refusal 20)) h refl
+sole-check test r h = pick-either Sole test r (Err (refusal 20)) h refl
 
 sole-on : {A B : Type 0} (r : Answer A) (f : A → Answer B) → Sole r → ((a : A) → Sole (f a)) → Sole (on_accepted r f)
 unfolding on_accepted
-sole-on (accepted a) f h k = k a
-sole-on (refused x) f h k = h
+sole-on (Ok a) f h k = k a
+sole-on (Err x) f h k = h
 
 sole-decimal : (most : ℕ) (s : List ℕ) → Sole (read_decimal most s)
 unfolding read_decimal
@@ -234,7 +234,7 @@ sole-decimal most s = sole-check (no_spare_zero s) _ (sole-check (all_digits s) 
 
 sole-hex : (c : ℕ) → Sole (read_hex c)
 unfolding read_hex
-sole-hex c = pick-either Sole (among 48 57 c) (accepted (c - 48)) _ tt (sole-check (among 65 70 c) _ tt)
+sole-hex c = pick-either Sole (among 48 57 c) (Ok (c - 48)) _ tt (sole-check (among 65 70 c) _ tt)
 
 sole-tag : (e : Escape) (s : List ℕ) → Sole (read_tag e s)
 unfolding read_tag
@@ -257,65 +257,65 @@ sole-printed : (tags : Bool) (s : List ℕ) → Sole (read_printed tags s)
 unfolding read_printed
 sole-printed tags s = sole-on (read_decimal (2 ^ 16 - 1) (before 61 s)) _ (sole-decimal (2 ^ 16 - 1) (before 61 s)) (λ id. sole-value tags id (behind 61 s))
 
-pub printed-refused : (tags : Bool) (s : List ℕ) {x : Refusal} → read_printed tags s ≡ refused x → read_printed tags s ≡ refused (refusal 20)
-printed-refused tags s {x} e = e ∙ ap refused (subst Sole e (sole-printed tags s))
+pub printed-refused : (tags : Bool) (s : List ℕ) {x : Refusal} → read_printed tags s ≡ Err x → read_printed tags s ≡ Err (refusal 20)
+printed-refused tags s {x} e = e ∙ ap Err (subst Sole e (sole-printed tags s))
 
 -- ---- what is answered of it, and what is left in the buffer
 
 module _ (found : Answer Standing) (out : List ℕ) where
-  abbrev pub Answers : List ℕ → LineElementAnswer → Type 0
-  Answers after r = (element_as r ≡ answer_element found out) × (after ≡ leaving_element found out)
+  abbrev pub Answers : List ℕ → Answer LineElement → Type 0
+  Answers after r = (r ≡ answer_element found out) × (after ≡ leaving_element found out)
 
-  pub answers-refused : {x : Refusal} → found ≡ refused x → Answers out (LineElementAnswer.Refused x)
-  unfolding element_as answer_element leaving_element leaving
+  pub answers-refused : {x : Refusal} → found ≡ Err x → Answers out (Err x)
+  unfolding answer_element leaving_element leaving
   answers-refused {x} e =
-      (sym (on_accepted-refused found _ e), sym (ap (λ r. leaving r out) (on_accepted-refused found (λ x. accepted (tag_bytes x.content)) e)))
+      (sym (on_accepted-refused found _ e), sym (ap (λ r. leaving r out) (on_accepted-refused found (λ x. Ok (tag_bytes x.content)) e)))
 
-  pub answers_number : {id n next : ℕ} → found ≡ accepted (record { content = number id n; next = next })
-      → Answers out (LineElementAnswer.Found (record { id = id; tag = false; value = n; size = 0; next = next }))
-  unfolding element_as answer_element leaving_element leaving tag_bytes element_result on_accepted check_at
+  pub answers_number : {id n next : ℕ} → found ≡ Ok (record { content = number id n; next = next })
+      → Answers out (Ok (record { id = id; tag = false; value = n; size = 0; next = next }))
+  unfolding answer_element leaving_element leaving tag_bytes element_result on_accepted check_at
   answers_number {id} {n} {next} e = (
     sym (ap (λ (r : Answer Standing). answer_element r out) e ∙ simp (le-leb 0 (length out) (omega arith))),
     sym (ap (λ (r : Answer Standing). leaving_element r out) e ∙ simp (le-leb 0 (length out) (omega arith))),
   )
 
-  module _ {id next : ℕ} (b : List ℕ) (e : found ≡ accepted (record { content = tag id b; next = next })) where
-    pub answers-short : length out < length b → Answers out (LineElementAnswer.Refused (refusal 18))
-    unfolding element_as answer_element leaving_element leaving tag_bytes element_result on_accepted check_at
+  module _ {id next : ℕ} (b : List ℕ) (e : found ≡ Ok (record { content = tag id b; next = next })) where
+    pub answers-short : length out < length b → Answers out (Err (refusal 18))
+    unfolding answer_element leaving_element leaving tag_bytes element_result on_accepted check_at
     answers-short h = (
       sym (ap (λ (r : Answer Standing). answer_element r out) e ∙ simp (lt-leb (length b) (length out) h)),
       sym (ap (λ (r : Answer Standing). leaving_element r out) e ∙ simp (lt-leb (length b) (length out) h)),
     )
 
     pub answers-tag : {after : List ℕ} {size : ℕ} → size ≡ length b → length b ≤ length out → after ≡ b ++ drop (length b) out
-        → Answers after (LineElementAnswer.Found (record { id = id; tag = true; value = 0; size = size; next = next }))
-    unfolding element_as answer_element leaving_element leaving tag_bytes element_result on_accepted check_at
+        → Answers after (Ok (record { id = id; tag = true; value = 0; size = size; next = next }))
+    unfolding answer_element leaving_element leaving tag_bytes element_result on_accepted check_at
     answers-tag {after} {size} is h k = (
-      ap (λ (n : ℕ). accepted (record { id = id; tag = true; value = 0; size = n; next = next })) is
+      ap (λ (n : ℕ). Ok (record { id = id; tag = true; value = 0; size = n; next = next })) is
           ∙ sym (ap (λ (r : Answer Standing). answer_element r out) e ∙ simp (le-leb (length b) (length out) h)),
       k ∙ sym (ap (λ (r : Answer Standing). leaving_element r out) e ∙ simp (le-leb (length b) (length out) h)),
     )
 
 -- the same of what is found elsewhere
-pub answers-as : {found other : Answer Standing} (out : List ℕ) {after : List ℕ} (r : LineElementAnswer) → found ≡ other → Answers found out after r → Answers other out after r
+pub answers-as : {found other : Answer Standing} (out : List ℕ) {after : List ℕ} (r : Answer LineElement) → found ≡ other → Answers found out after r → Answers other out after r
 answers-as out {after} r e h = subst (λ (f : Answer Standing). Answers f out after r) e h
 
 -- ---- by its place
 
 module _ (t : List ℕ) (at : ℕ) where
-  pub standing-is : {e : Printed} {end : ℕ} → read_printed false (field_from t at) ≡ accepted e → end ≡ field_end t at → standing t at ≡ accepted (record { content = e; next = end + 1 })
+  pub standing-is : {e : Printed} {end : ℕ} → read_printed false (field_from t at) ≡ Ok e → end ≡ field_end t at → standing t at ≡ Ok (record { content = e; next = end + 1 })
   standing-is {e} k is =
-      on_accepted-passed (read_printed false (field_from t at)) _ k ∙ ap (λ (n : ℕ). accepted (record { content = e; next = n + 1 })) (sym is)
+      on_accepted-passed (read_printed false (field_from t at)) _ k ∙ ap (λ (n : ℕ). Ok (record { content = e; next = n + 1 })) (sym is)
 
-  pub standing-none : None ≡ item_as (tag_start t at) (field_end t at) (read_printed false (field_from t at)) → standing t at ≡ refused (refusal 20)
+  pub standing-none : None ≡ item_as (tag_start t at) (field_end t at) (read_printed false (field_from t at)) → standing t at ≡ Err (refusal 20)
   standing-none e =
       on_accepted-refused (read_printed false (field_from t at)) _ (printed-refused false (field_from t at) (no_item (tag_start t at) (field_end t at) (read_printed false (field_from t at)) e).1)
 
   module _ {id from size last : ℕ} (e : Some (Item.Tag id from size last) ≡ item_as (tag_start t at) (field_end t at) (read_printed false (field_from t at))) where
     pub record Tagged : Type 0 where
       pub bytes : List ℕ
-      pub standing : standing t at ≡ accepted (record { content = tag id bytes; next = last + 1 })
-      pub reads : read_tag none (field_from t from) ≡ accepted bytes
+      pub standing : standing t at ≡ Ok (record { content = tag id bytes; next = last + 1 })
+      pub reads : read_tag none (field_from t from) ≡ Ok bytes
       pub sized : size ≡ length bytes
       pub placed : at ≤ length t → from ≤ length t
       pub ends : last ≡ field_end t at
@@ -352,13 +352,13 @@ start-least (suc n) at (p ∷ ps) h = omega (arith, start-least n (at + suc (len
 pub start_is : (s : List ℕ) (n : ℕ) {t : List ℕ} {at : ℕ} → t ≡ body s → at ≡ start_from n 0 (pieces_from t 0) → at ≡ field_start s n
 start_is s n is e = e ∙ ap (λ (x : List ℕ). start_from n 0 (pieces_from x 0)) is ∙ ap (start_from n 0) (pieces-some (body s) 0 (omega arith))
 
-nth-none : {A : Type 0} (k : ℕ) (l : List A) → length l ≤ k → nth k l ≡ refused (refusal 16)
+nth-none : {A : Type 0} (k : ℕ) (l : List A) → length l ≤ k → nth k l ≡ Err (refusal 16)
 unfolding nth
 nth-none k [] h = refl
 nth-none zero (a ∷ l) h = absurd (not-suc-le-zero h)
 nth-none (suc k) (a ∷ l) h = nth-none k l (le_of_suc-le-suc h)
 
-nth-some : {A : Type 0} (k : ℕ) (l : List A) → k < length l → (a : A) × (nth k l ≡ accepted a)
+nth-some : {A : Type 0} (k : ℕ) (l : List A) → k < length l → (a : A) × (nth k l ≡ Ok a)
 unfolding nth
 nth-some k [] h = absurd (not-suc-le-zero h)
 nth-some zero (a ∷ l) h = (a, refl)
@@ -370,25 +370,25 @@ module _ (s : List ℕ) where
   standing-at at {t} is =
       let place : field_end (body s) at + 1 ≡ at + suc (length (field_at s at)) = omega arith in
       ap (λ (x : List ℕ). standing x at) is
-      ∙ ap (λ (n : ℕ). on_accepted (read_printed false (field_at s at)) (λ e. accepted (record { content = e; next = n }))) place
+      ∙ ap (λ (n : ℕ). on_accepted (read_printed false (field_at s at)) (λ e. Ok (record { content = e; next = n }))) place
 
-  pub at-behind : (at : ℕ) → length s ≤ at → element_at s at ≡ refused (refusal 20)
+  pub at-behind : (at : ℕ) → length s ≤ at → element_at s at ≡ Err (refusal 20)
   unfolding element_at before read_printed read_decimal no_spare_zero check_at on_accepted
   at-behind at h =
       let none : drop at (body s) ≡ [] = drop_of_length-le (body s) {i = at} (omega (arith, length-take (length s - 1) s)) in
-      ap (λ (x : List ℕ). on_accepted (read_printed false (before 44 x)) (λ e. accepted (record { content = e; next = at + suc (length (before 44 x)) }))) none
+      ap (λ (x : List ℕ). on_accepted (read_printed false (before 44 x)) (λ e. Ok (record { content = e; next = at + suc (length (before 44 x)) }))) none
 
-  pub no_line : (k : ℕ) → read_line s ≡ refused (refusal 20) → element_of s k ≡ refused (refusal 20)
+  pub no_line : (k : ℕ) → read_line s ≡ Err (refusal 20) → element_of s k ≡ Err (refusal 20)
   unfolding element_of
   no_line k e = on_accepted-refused (read_line s) _ e
 
-  module _ (l : Line) (e : read_line s ≡ accepted l) (k : ℕ) where
-    pub no-element : length l.elements ≤ k → element_of s k ≡ refused (refusal 16)
+  module _ (l : Line) (e : read_line s ≡ Ok l) (k : ℕ) where
+    pub no-element : length l.elements ≤ k → element_of s k ≡ Err (refusal 16)
     unfolding element_of
     no-element h = on_accepted-passed (read_line s) _ e ∙ on_accepted-refused (nth k l.elements) _ (nth-none k l.elements h)
 
     module _ (h : k < length l.elements) where
-      there : (x : Printed) × (nth k l.elements ≡ accepted x)
+      there : (x : Printed) × (nth k l.elements ≡ Ok x)
       there = nth-some k l.elements h
 
       -- its number fits a word, as its place does
@@ -409,5 +409,5 @@ module _ (s : List ℕ) where
           (λ i. (i, some))
           (λ i.
           let none : field_at s (field_start s (4 + k)) ≡ [] = ap (before 44) (drop_of_length-le (body s) {i = field_start s (4 + k)} (omega arith)) in
-          let z : read_printed false [] ≡ accepted there.0 = ap (read_printed false) (sym none) ∙ reads in
+          let z : read_printed false [] ≡ Ok there.0 = ap (read_printed false) (sym none) ∙ reads in
           absurd (let y : ◌≡◌ {A = ℕ} 0 1 = cc (z) in omega arith))

@@ -1,11 +1,10 @@
 -- Degrees from a text's digits: whole degrees, the point, seven places, the sign.
-use Rattle.std.specs.Prelude.{Result, Ok, Err, OkIff, ◌-ℤ◌}
+use Rattle.std.specs.Prelude.{Result, Ok, Err, OkIff, ◌-ℤ◌, Option, Some, None}
 use Rattle.std.specs.Result.{result_ok}
 use Rattle.std.proofs.lemmas.Option.{same_Some, none-some}
 use mir.Syntax.{w32, w64}
 use mir.Val.{to_z, of_z, SFits}
 use mir.Facts.{to_z-of_z, to_z_pos}
-use Rattle.std.specs.Prelude.{Option, Some, None}
 use Prim.Native.Nat.{ℕ, zero, suc, ◌+◌, ◌-◌, ◌*◌, ◌^◌, ◌≤◌, ◌<◌}
 use native.Mathlib.Omega.{arith}
 use mathlib.Core.Path.{◌≡◌, refl, sym, ap, ◌∙◌, subst}
@@ -16,7 +15,7 @@ use lib.IntN.{ℤ, pos, negsuc}
 use lib.Dec.{eqb, leb}
 use borrow.Author.Tests.{leb-true, le-leb, lt-leb, lt-ltb, ne_eqb, eq-eqb}
 use Rattle.wire.specs.Numbers.{pick}
-use Rattle.wire.specs.Answers.{Answer, accepted, refused, refusal, on_accepted, check, check_at}
+use Rattle.wire.specs.Answers.{Answer, refusal, on_accepted, check, check_at}
 use Rattle.wire.proofs.Accepting.{check-failed, check-passed, pick-false}
 use Rattle.line.specs.Pieces.{before, behind}
 use Rattle.line.specs.LineReader.{all_digits, said, no_spare_zero, read_decimal, read_unsigned, read_degrees, positive, negative}
@@ -27,15 +26,15 @@ use Rattle.scan.proofs.FieldLaws.{stands-yes, stands-no, FirstNot, first-not, fi
 -- ---- the places
 
 module _ (whole : ℕ) (s : List ℕ) where
-  places-size : (length s ≡ 7 → ⊥) → places_of whole s ≡ refused (refusal 20)
+  places-size : (length s ≡ 7 → ⊥) → places_of whole s ≡ Err (refusal 20)
   unfolding places_of
   places-size h = check-failed (eqb (length s) 7) 20 _ _ (ne_eqb (length s) 7 h)
 
-  places-other : all_digits s ≡ false → places_of whole s ≡ refused (refusal 20)
+  places-other : all_digits s ≡ false → places_of whole s ≡ Err (refusal 20)
   unfolding places_of
   places-other e = ap (λ (r : Answer ℕ). check (eqb (length s) 7) 20 r) (check-failed (all_digits s) 20 _ _ e) ∙ check-refused (eqb (length s) 7)
 
-  places-good : length s ≡ 7 → all_digits s ≡ true → places_of whole s ≡ accepted (whole * 10 ^ 7 + said s)
+  places-good : length s ≡ 7 → all_digits s ≡ true → places_of whole s ≡ Ok (whole * 10 ^ 7 + said s)
   unfolding places_of
   places-good e d = check-passed (eqb (length s) 7) 20 _ _ (eq-eqb (length s) 7 e) ∙ check-passed (all_digits s) 20 _ _ d
 
@@ -43,7 +42,7 @@ module _ (t : List ℕ) (at whole : ℕ) (inside : at ≤ length t) where
   abbrev field_places : Option (ℕ × ℕ)
   field_places = number_as (field_end t at) (places_of whole (field_from t at))
 
-  no-places : places_of whole (field_from t at) ≡ refused (refusal 20) → None ≡ field_places
+  no-places : places_of whole (field_from t at) ≡ Err (refusal 20) → None ≡ field_places
   unfolding number_as
   no-places e = ap (number_as (field_end t at)) (sym e)
 
@@ -93,10 +92,10 @@ module _ (t : List ℕ) (at : ℕ) (inside : at ≤ length t) where
   abbrev field_unsigned : Option (ℕ × ℕ)
   field_unsigned = number_as (field_end t at) (read_unsigned (field_from t at))
 
-  no_number : (n : ℕ) → places_of n [] ≡ refused (refusal 20)
+  no_number : (n : ℕ) → places_of n [] ≡ Err (refusal 20)
   no_number n = places-size n [] (λ e. omega (arith, e))
 
-  not-unsigned : read_unsigned (field_from t at) ≡ refused (refusal 20) → None ≡ field_unsigned
+  not-unsigned : read_unsigned (field_from t at) ≡ Err (refusal 20) → None ≡ field_unsigned
   unfolding number_as
   not-unsigned e = ap (number_as (field_end t at)) (sym e)
 
@@ -137,7 +136,7 @@ module _ {E : Type 0} (n end : ℕ) where
   positive-over (Ok x) k e = absurd (none-some _ (sym e))
   positive-over (Err x) k e = go (leb n (2 ^ 31 - 1)) refl
     where
-      go : (b : Bool) → leb n (2 ^ 31 - 1) ≡ b → None ≡ degrees_as end (pick b (accepted (pos n)) (refused (refusal 20)))
+      go : (b : Bool) → leb n (2 ^ 31 - 1) ≡ b → None ≡ degrees_as end (pick b (Ok (pos n)) (Err (refusal 20)))
       go true h = absurd (k (record { sfits = omega (arith, leb-true n (2 ^ 31 - 1) h) }))
       go false h = refl
 
@@ -174,8 +173,8 @@ no_sign (c ∷ s) h = sym (pick-false (eqb c 45) _ _ h)
 -- what is read behind the sign, with its sign
 signed-read : (end : ℕ) (r : Answer ℕ) (f : ℕ → Answer ℤ) → signed_as f (number_as end r) ≡ degrees_as end (on_accepted r f)
 unfolding signed_as number_as on_accepted degrees_as
-signed-read end (accepted n) f = refl
-signed-read end (refused x) f = refl
+signed-read end (Ok n) f = refl
+signed-read end (Err x) f = refl
 
 module _ (t : List ℕ) (at : ℕ) (inside : at ≤ length t) where
   abbrev field_degrees : Option (ℤ × ℕ)

@@ -1,6 +1,6 @@
 -- An element from its field: the ID, the sign, the value.
+use Rattle.std.specs.Prelude.{Err, Ok, Option, Some, None}
 use Rattle.std.proofs.lemmas.Option.{some_pair_parts}
-use Rattle.std.specs.Prelude.{Option, Some, None}
 use Prim.Native.Nat.{ℕ, ◌+◌, ◌-◌, ◌^◌, ◌≤◌, ◌<◌}
 use native.Mathlib.Omega.{arith}
 use mathlib.Core.Path.{◌≡◌, refl, sym, ap, ◌∙◌, subst}
@@ -8,7 +8,7 @@ use mathlib.Core.Bool.{Bool, true, false}
 use mathlib.Core.List.{List, [], ◌∷◌}
 use lib.ListN.{length, drop, get_or}
 use lib.Dec.{eqb}
-use Rattle.wire.specs.Answers.{Answer, accepted, refused, refusal, on_accepted, check_at}
+use Rattle.wire.specs.Answers.{Answer, refusal, on_accepted, check_at}
 use Rattle.wire.proofs.Accepting.{pick-false}
 use Rattle.line.specs.Lines.{number, tag}
 use Rattle.line.specs.LineReader.{no_spare_zero, read_decimal, read_tag, none, read_value, read_printed}
@@ -21,38 +21,38 @@ use Rattle.scan.proofs.FieldLaws.{stands-yes, stands-no, FirstNot, first-not, fi
 
 -- what a tag's text tells of its element
 tag-item : (start end id : ℕ) (r : Answer (List ℕ)) {size last : ℕ} → Some (size, last) ≡ tag_as end r
-    → Some (Item.Tag id start size last) ≡ item_as start end (on_accepted r (λ b. accepted (tag id b)))
+    → Some (Item.Tag id start size last) ≡ item_as start end (on_accepted r (λ b. Ok (tag id b)))
 unfolding tag_as on_accepted item_as
-tag-item start end id (accepted b) {size} {last} e =
+tag-item start end id (Ok b) {size} {last} e =
     let k = some_pair_parts _ _ _ _ e in
     λ i. Some (Item.Tag id start (k.0 i) (k.1 i))
-tag-item start end id (refused x) e = absurd (let z : ◌≡◌ {A = ℕ} 0 1 = cc in omega arith)
+tag-item start end id (Err x) e = absurd (let z : ◌≡◌ {A = ℕ} 0 1 = cc in omega arith)
 
-tag-none : (start end id : ℕ) (r : Answer (List ℕ)) → None ≡ tag_as end r → None ≡ item_as start end (on_accepted r (λ b. accepted (tag id b)))
+tag-none : (start end id : ℕ) (r : Answer (List ℕ)) → None ≡ tag_as end r → None ≡ item_as start end (on_accepted r (λ b. Ok (tag id b)))
 unfolding tag_as on_accepted item_as
-tag-none start end id (accepted b) e = absurd (let z : ◌≡◌ {A = ℕ} 0 1 = cc in omega arith)
-tag-none start end id (refused x) e = refl
+tag-none start end id (Ok b) e = absurd (let z : ◌≡◌ {A = ℕ} 0 1 = cc in omega arith)
+tag-none start end id (Err x) e = refl
 
 number-item : (start end id : ℕ) (r : Answer ℕ) {n last : ℕ} → Some (n, last) ≡ number_as end r
-    → Some (Item.Number id n last) ≡ item_as start end (on_accepted r (λ n. accepted (number id n)))
+    → Some (Item.Number id n last) ≡ item_as start end (on_accepted r (λ n. Ok (number id n)))
 unfolding number_as on_accepted item_as
-number-item start end id (accepted m) {n} {last} e =
+number-item start end id (Ok m) {n} {last} e =
     let k = some_pair_parts _ _ _ _ e in
     λ i. Some (Item.Number id (k.0 i) (k.1 i))
-number-item start end id (refused x) e = absurd (let z : ◌≡◌ {A = ℕ} 0 1 = cc in omega arith)
+number-item start end id (Err x) e = absurd (let z : ◌≡◌ {A = ℕ} 0 1 = cc in omega arith)
 
-number-none : (start end id : ℕ) (r : Answer ℕ) → None ≡ number_as end r → None ≡ item_as start end (on_accepted r (λ n. accepted (number id n)))
+number-none : (start end id : ℕ) (r : Answer ℕ) → None ≡ number_as end r → None ≡ item_as start end (on_accepted r (λ n. Ok (number id n)))
 unfolding number_as on_accepted item_as
-number-none start end id (accepted m) e = absurd (let z : ◌≡◌ {A = ℕ} 0 1 = cc in omega arith)
-number-none start end id (refused x) e = refl
+number-none start end id (Ok m) e = absurd (let z : ◌≡◌ {A = ℕ} 0 1 = cc in omega arith)
+number-none start end id (Err x) e = refl
 
 -- a value that does not begin with a quote is a number, and behind a tag there is none
-value-number : (id : ℕ) (s : List ℕ) → FirstNot 34 s → on_accepted (read_decimal (2 ^ 64 - 1) s) (λ n. accepted (number id n)) ≡ read_value false id s
+value-number : (id : ℕ) (s : List ℕ) → FirstNot 34 s → on_accepted (read_decimal (2 ^ 64 - 1) s) (λ n. Ok (number id n)) ≡ read_value false id s
 unfolding read_value on_accepted read_decimal no_spare_zero check_at
 value-number id [] h = refl
 value-number id (c ∷ s) h = sym (pick-false (eqb c 34) _ _ h)
 
-value-late : (id : ℕ) (s : List ℕ) → FirstNot 34 s → read_value true id s ≡ refused (refusal 20)
+value-late : (id : ℕ) (s : List ℕ) → FirstNot 34 s → read_value true id s ≡ Err (refusal 20)
 unfolding read_value check_at
 value-late id [] h = refl
 value-late id (c ∷ s) h = pick-false (eqb c 34) _ _ h
@@ -62,11 +62,11 @@ module _ (t : List ℕ) (at id : ℕ) (tags : Bool) where
   field_value = item_as (at + 1) (field_end t at) (read_value tags id (field_from t at))
 
   module _ (q : stands_at t at 34 ≡ true) where
-    quoted-value : item_as (at + 1) (field_end t (at + 1)) (on_accepted (read_tag none (field_from t (at + 1))) (λ b. accepted (tag id b))) ≡ field_value
+    quoted-value : item_as (at + 1) (field_end t (at + 1)) (on_accepted (read_tag none (field_from t (at + 1))) (λ b. Ok (tag id b))) ≡ field_value
     unfolding read_value
     quoted-value =
         let f = field-first t at 34 refl q in
-        ap (λ (n : ℕ). item_as (at + 1) n (on_accepted (read_tag none (field_from t (at + 1))) (λ b. accepted (tag id b)))) f.1
+        ap (λ (n : ℕ). item_as (at + 1) n (on_accepted (read_tag none (field_from t (at + 1))) (λ b. Ok (tag id b)))) f.1
         ∙ ap (λ (s : List ℕ). item_as (at + 1) (field_end t at) (read_value tags id s)) (sym f.0)
 
     pub value-tag : {size end : ℕ} → Some (size, end) ≡ tag_as (field_end t (at + 1)) (read_tag none (field_from t (at + 1))) → Some (Item.Tag id (at + 1) size end) ≡ field_value
@@ -81,7 +81,7 @@ module _ (t : List ℕ) (at id : ℕ) (tags : Bool) where
     value-behind e =
         ap (item_as (at + 1) (field_end t at)) (sym (ap (λ (b : Bool). read_value b id (field_from t at)) e ∙ value-late id (field_from t at) (first-not t at inside 34 q)))
 
-    plain_value : tags ≡ false → item_as (at + 1) (field_end t at) (on_accepted (read_decimal (2 ^ 64 - 1) (field_from t at)) (λ n. accepted (number id n))) ≡ field_value
+    plain_value : tags ≡ false → item_as (at + 1) (field_end t at) (on_accepted (read_decimal (2 ^ 64 - 1) (field_from t at)) (λ n. Ok (number id n))) ≡ field_value
     plain_value e =
         ap (item_as (at + 1) (field_end t at)) (value-number id (field_from t at) (first-not t at inside 34 q) ∙ ap (λ (b : Bool). read_value b id (field_from t at)) (sym e))
 
@@ -97,11 +97,11 @@ module _ (t : List ℕ) (at : ℕ) (tags : Bool) (inside : at ≤ length t) wher
   abbrev field_element : Option Item
   field_element = item_as (tag_start t at) (field_end t at) (read_printed tags (field_from t at))
 
-  nothing : (n : ℕ) → read_value tags n [] ≡ refused (refusal 20)
+  nothing : (n : ℕ) → read_value tags n [] ≡ Err (refusal 20)
   unfolding read_value
   nothing n = refl
 
-  not-element : read_printed tags (field_from t at) ≡ refused (refusal 20) → None ≡ field_element
+  not-element : read_printed tags (field_from t at) ≡ Err (refusal 20) → None ≡ field_element
   unfolding item_as
   not-element e = ap (item_as (tag_start t at) (field_end t at)) (sym e)
 

@@ -1,8 +1,8 @@
 -- Fields that begin with digits: the digits up to the byte that stops them.
+use Rattle.std.specs.Prelude.{Err, Ok, Option, Some, None}
 use Rattle.std.proofs.lemmas.Option.{some_pair_parts}
 use Rattle.std.specs.Option.{option_eq, option_map, unwrap_or, is_some}
 use denote.Bor.{Bor}
-use Rattle.std.specs.Prelude.{Option, Some, None}
 use Prim.Native.Nat.{ℕ, suc, ◌+◌, ◌^◌, ◌≤◌, ◌<◌}
 use native.Mathlib.Nat.{add-zero, not-suc-le-zero, le_of_suc-le-suc}
 use native.Mathlib.Omega.{arith}
@@ -14,7 +14,7 @@ use lib.Seq.{get_or-drop, drop-drop, drop-cons}
 use lib.Dec.{eqb, leb, ltb}
 use borrow.Author.Tests.{ltb-true, lt-ltb, leb-true, leb-false, ne_eqb, eq-eqb, eqb-true, eqb-false}
 use Rattle.wire.specs.Numbers.{pick}
-use Rattle.wire.specs.Answers.{Answer, accepted, refused, refusal, on_accepted, check_at}
+use Rattle.wire.specs.Answers.{Answer, refusal, on_accepted, check_at}
 use Rattle.wire.proofs.Accepting.{on_accepted-passed, on_accepted-refused, check-accepted, both_true, pick_true}
 use Rattle.text.specs.Hex.{among}
 use Rattle.line.specs.Pieces.{before, behind}
@@ -238,7 +238,7 @@ module _ (t : List ℕ) (at most : ℕ) where
   abbrev pub run_decimal : Option (ℕ × ℕ)
   run_decimal = number_as (at + length (run (drop at t))) (read_decimal most (run (drop at t)))
 
-  not-read : read_decimal most (run (drop at t)) ≡ refused (refusal 20) → None ≡ run_decimal
+  not-read : read_decimal most (run (drop at t)) ≡ Err (refusal 20) → None ≡ run_decimal
   unfolding number_as
   not-read e = ap (number_as (at + length (run (drop at t)))) (sym e)
 
@@ -296,7 +296,7 @@ module _ (t : List ℕ) (at most : ℕ) (inside : at ≤ length t) where
   abbrev field_decimal : Option (ℕ × ℕ)
   field_decimal = number_as (field_end t at) (read_decimal most (field_from t at))
 
-  unread : read_decimal most (field_from t at) ≡ refused (refusal 20) → None ≡ field_decimal
+  unread : read_decimal most (field_from t at) ≡ Err (refusal 20) → None ≡ field_decimal
   unfolding number_as
   unread e = ap (number_as (field_end t at)) (sym e)
 
@@ -316,13 +316,13 @@ module _ (t : List ℕ) (at most : ℕ) (inside : at ≤ length t) where
     field_open k = unread (decimal-other most (field_from t at) (field-other t at inside (ap (ends_at t) (sym is) ∙ k)))
 
 -- what was read, and where it ends
-pub number-told : (end : ℕ) (r : Answer ℕ) {n next : ℕ} → Some (n, next) ≡ number_as end r → (r ≡ accepted n) × (next ≡ end)
+pub number-told : (end : ℕ) (r : Answer ℕ) {n next : ℕ} → Some (n, next) ≡ number_as end r → (r ≡ Ok n) × (next ≡ end)
 unfolding number_as
-number-told end (accepted m) e = let k = some_pair_parts _ _ _ _ e in (ap accepted (sym k.0), k.1)
-number-told end (refused x) e = absurd (let z : ◌≡◌ {A = ℕ} 0 1 = cc in omega arith)
+number-told end (Ok m) e = let k = some_pair_parts _ _ _ _ e in (ap Ok (sym k.0), k.1)
+number-told end (Err x) e = absurd (let z : ◌≡◌ {A = ℕ} 0 1 = cc in omega arith)
 
 -- no number is above its limit
-pub decimal-most : (most : ℕ) (s : List ℕ) {n : ℕ} → read_decimal most s ≡ accepted n → n ≤ most
+pub decimal-most : (most : ℕ) (s : List ℕ) {n : ℕ} → read_decimal most s ≡ Ok n → n ≤ most
 unfolding read_decimal
 decimal-most most s {n} e =
     let a = check-accepted (no_spare_zero s) 20 _ _ e in
@@ -334,12 +334,12 @@ decimal-most most s {n} e =
 -- ---- a field that is digits, a byte that stops them, and more
 
 -- no number, so 20
-pub number-wrong : (end most : ℕ) (s : List ℕ) → None ≡ number_as end (read_decimal most s) → read_decimal most s ≡ refused (refusal 20)
+pub number-wrong : (end most : ℕ) (s : List ℕ) → None ≡ number_as end (read_decimal most s) → read_decimal most s ≡ Err (refusal 20)
 unfolding number_as read_decimal check_at
 number-wrong end most s e = go (no_spare_zero s) (all_digits s) (leb (said s) most) e
   where
-    go : (a b c : Bool) → None ≡ number_as end (pick a (pick b (pick c (accepted (said s)) (refused (refusal 20))) (refused (refusal 20))) (refused (refusal 20)))
-        → pick a (pick b (pick c (accepted (said s)) (refused (refusal 20))) (refused (refusal 20))) (refused (refusal 20)) ≡ refused (refusal 20)
+    go : (a b c : Bool) → None ≡ number_as end (pick a (pick b (pick c (Ok (said s)) (Err (refusal 20))) (Err (refusal 20))) (Err (refusal 20)))
+        → pick a (pick b (pick c (Ok (said s)) (Err (refusal 20))) (Err (refusal 20))) (Err (refusal 20)) ≡ Err (refusal 20)
     go true true true e = absurd (let z : ◌≡◌ {A = ℕ} 0 1 = cc in omega arith)
     go true true false e = refl
     go true false c e = refl
@@ -358,26 +358,26 @@ module _ (t : List ℕ) (at : ℕ) (inside : at ≤ length t) (c : ℕ) (no : am
       go false true l e = f (leb-false (length t) run_end l) (eqb-true (get_or t run_end 0) c e)
       go false false l e = g (λ h k. eqb-false (get_or t run_end 0) c e k)
 
-  module _ {B : Type 0} (most : ℕ) (f : ℕ → List ℕ → Answer B) (nothing : (n : ℕ) → f n [] ≡ refused (refusal 20)) where
+  module _ {B : Type 0} (most : ℕ) (f : ℕ → List ℕ → Answer B) (nothing : (n : ℕ) → f n [] ≡ Err (refusal 20)) where
     abbrev split_field : Answer B
     split_field = on_accepted (read_decimal most (before c (field_from t at))) (λ n. f n (behind c (field_from t at)))
 
     -- nothing behind it
-    behind-none : behind c (field_from t at) ≡ [] → split_field ≡ refused (refusal 20)
+    behind-none : behind c (field_from t at) ≡ [] → split_field ≡ Err (refusal 20)
     unfolding on_accepted read_decimal check_at
     behind-none e = go (no_spare_zero s) (all_digits s) (leb (said s) most)
       where
         s : List ℕ
         s = before c (field_from t at)
 
-        go : (a b d : Bool) → on_accepted (pick a (pick b (pick d (accepted (said s)) (refused (refusal 20))) (refused (refusal 20))) (refused (refusal 20))) (λ n. f n (behind c (field_from t at)))
-            ≡ refused (refusal 20)
+        go : (a b d : Bool) → on_accepted (pick a (pick b (pick d (Ok (said s)) (Err (refusal 20))) (Err (refusal 20))) (Err (refusal 20))) (λ n. f n (behind c (field_from t at)))
+            ≡ Err (refusal 20)
         go true true true = ap (f (said s)) e ∙ nothing (said s)
         go true true false = refl
         go true false d = refl
         go false b d = refl
 
-    pub split-open : (run_end < length t → get_or t run_end 0 ≡ c → ⊥) → split_field ≡ refused (refusal 20)
+    pub split-open : (run_end < length t → get_or t run_end 0 ≡ c → ⊥) → split_field ≡ Err (refusal 20)
     split-open h =
         run-passes c no other (drop at t) (λ i k. h (omega (arith, i, length-drop at t)) (sym (get_or-drop at t (length (run (drop at t))) 0) ∙ k))
         (λ e. on_accepted-refused (read_decimal most (before c (field_from t at))) _ (decimal-other most (before c (field_from t at)) e))
@@ -404,10 +404,10 @@ module _ (t : List ℕ) (at : ℕ) (inside : at ≤ length t) (c : ℕ) (no : am
           ∙ on_accepted-passed (read_decimal most (run (drop at t))) _ (number-told _ _ e).0
           ∙ ap (f n) (stops.second ∙ next)
 
-      split-refused : None ≡ run_decimal t at most → split_field ≡ refused (refusal 20)
+      split-refused : None ≡ run_decimal t at most → split_field ≡ Err (refusal 20)
       split-refused e =
           ap (λ (s : List ℕ). on_accepted (read_decimal most s) (λ n. f n (behind c (field_from t at)))) stops.first
           ∙ on_accepted-refused (read_decimal most (run (drop at t))) _ (number-wrong _ most _ e)
 
-    pub split-wrong : None ≡ run_decimal t at most → split_field ≡ refused (refusal 20)
+    pub split-wrong : None ≡ run_decimal t at most → split_field ≡ Err (refusal 20)
     split-wrong e = by-stop (λ h k. split-refused h k e) split-open

@@ -1,7 +1,7 @@
 -- The digits that text begins with, one by one, and what a field that begins with them is.
+use Rattle.std.specs.Prelude.{Err, Ok, ◌&&◌, Some, None}
 use Rattle.std.proofs.lemmas.Option.{some_pair_parts}
 use Rattle.std.specs.Char.{is_ascii_digit}
-use Rattle.std.specs.Prelude.{◌&&◌, Some, None}
 use Prim.Native.Nat.{ℕ, suc, ◌+◌, ◌-◌, ◌*◌, ◌^◌, ◌≤◌, ◌<◌}
 use native.Mathlib.Nat.{le_refl}
 use native.Mathlib.Omega.{arith}
@@ -15,7 +15,7 @@ use borrow.Author.Tests.{le-leb, lt-leb, leb-true, leb-false}
 use Rattle.wire.specs.Numbers.{value_from, pick}
 use Rattle.wire.specs.Sequences.{All}
 use Rattle.wire.proofs.Widths.{value-lt}
-use Rattle.wire.specs.Answers.{Answer, accepted, refused, refusal, check, check_at}
+use Rattle.wire.specs.Answers.{Answer, refusal, check, check_at}
 use Rattle.wire.proofs.Accepting.{both_true, check-failed, check-passed}
 use Rattle.text.specs.Hex.{among}
 use Rattle.line.proofs.DecimalLaws.{value_grows}
@@ -100,28 +100,28 @@ module _ (t : List ℕ) (at : ℕ) where
 
 -- ---- a number without spare zeros
 
-pub check-refused : {A : Type 0} (test : Bool) → check {A = A} test 20 (refused (refusal 20)) ≡ refused (refusal 20)
+pub check-refused : {A : Type 0} (test : Bool) → check {A = A} test 20 (Err (refusal 20)) ≡ Err (refusal 20)
 unfolding check_at
 check-refused true = refl
 check-refused false = refl
 
 module _ (most : ℕ) (s : List ℕ) where
-  pub decimal-over : most < said s → read_decimal most s ≡ refused (refusal 20)
+  pub decimal-over : most < said s → read_decimal most s ≡ Err (refusal 20)
   unfolding read_decimal
   decimal-over h =
       ap (λ (r : Answer ℕ). check (no_spare_zero s) 20 (check (all_digits s) 20 r)) (check-failed (leb (said s) most) 20 _ _ (lt-leb (said s) most h))
       ∙ ap (λ (r : Answer ℕ). check (no_spare_zero s) 20 r) (check-refused (all_digits s))
       ∙ check-refused (no_spare_zero s)
 
-  pub decimal-spare : no_spare_zero s ≡ false → read_decimal most s ≡ refused (refusal 20)
+  pub decimal-spare : no_spare_zero s ≡ false → read_decimal most s ≡ Err (refusal 20)
   unfolding read_decimal
   decimal-spare e = check-failed (no_spare_zero s) 20 _ _ e
 
-  pub decimal-other : all_digits s ≡ false → read_decimal most s ≡ refused (refusal 20)
+  pub decimal-other : all_digits s ≡ false → read_decimal most s ≡ Err (refusal 20)
   unfolding read_decimal
   decimal-other e = ap (λ (r : Answer ℕ). check (no_spare_zero s) 20 r) (check-failed (all_digits s) 20 _ _ e) ∙ check-refused (no_spare_zero s)
 
-  pub decimal-good : no_spare_zero s ≡ true → all_digits s ≡ true → said s ≤ most → read_decimal most s ≡ accepted (said s)
+  pub decimal-good : no_spare_zero s ≡ true → all_digits s ≡ true → said s ≤ most → read_decimal most s ≡ Ok (said s)
   unfolding read_decimal
   decimal-good e d h = check-passed (no_spare_zero s) 20 _ _ e ∙ check-passed (all_digits s) 20 _ _ d ∙ check-passed (leb (said s) most) 20 _ _ (le-leb (said s) most h)
 
@@ -142,7 +142,7 @@ module _ (t : List ℕ) (at : ℕ) where
   run-wrong e = go (leb (said (run (drop at t))) (2 ^ 64 - 1)) refl (e)
     where
       go : (b : Bool) → leb (said (run (drop at t))) (2 ^ 64 - 1) ≡ b
-          → None ≡ number_as (at + length (run (drop at t))) (check b 20 (accepted (said (run (drop at t))))) → 2 ^ 64 ≤ said (run (drop at t))
+          → None ≡ number_as (at + length (run (drop at t))) (check b 20 (Ok (said (run (drop at t))))) → 2 ^ 64 ≤ said (run (drop at t))
       go true e h = absurd (let z : ◌≡◌ {A = ℕ} 0 1 = cc in omega arith)
       go false e h = omega (arith, leb-false (said (run (drop at t))) (2 ^ 64 - 1) e)
 
@@ -150,7 +150,7 @@ module _ (t : List ℕ) (at : ℕ) where
   unfolding run_as number_as check_at
   run-right {n} {end} e = go (leb (said (run (drop at t))) (2 ^ 64 - 1)) e
     where
-      go : (b : Bool) → Some (n, end) ≡ number_as (at + length (run (drop at t))) (check b 20 (accepted (said (run (drop at t)))))
+      go : (b : Bool) → Some (n, end) ≡ number_as (at + length (run (drop at t))) (check b 20 (Ok (said (run (drop at t)))))
           → (n ≡ said (run (drop at t))) × (end ≡ at + length (run (drop at t)))
       go true h = some_pair_parts _ _ _ _ h
       go false h = absurd (let z : ◌≡◌ {A = ℕ} 0 1 = cc in omega arith)

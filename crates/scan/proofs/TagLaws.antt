@@ -1,6 +1,6 @@
 -- Reading a tag byte by byte: what stands at an offset, and what that makes of the whole.
+use Rattle.std.specs.Prelude.{Err, Ok, Some, None}
 use Rattle.std.proofs.lemmas.Option.{some_pair_parts}
-use Rattle.std.specs.Prelude.{Some, None}
 use Prim.Native.Nat.{ℕ, suc, ◌+◌, ◌-◌, ◌*◌, ◌≤◌, ◌<◌}
 use native.Mathlib.Numerals.{add-one}
 use native.Mathlib.Omega.{arith}
@@ -12,7 +12,7 @@ use lib.Seq.{sets, drop-cons, length-sets}
 use lib.Dec.{eqb, leb}
 use borrow.Author.Tests.{leb-true, ne_eqb}
 use Rattle.wire.specs.Numbers.{pick}
-use Rattle.wire.specs.Answers.{Answer, accepted, refused, refusal, on_accepted, check_at}
+use Rattle.wire.specs.Answers.{Answer, refusal, on_accepted, check_at}
 use Rattle.wire.proofs.Accepting.{both_true, pick-either}
 use Rattle.wire.proofs.Storing.{sets-append}
 use Rattle.wire.proofs.BufferLaws.{sets-front}
@@ -39,8 +39,8 @@ among-high a b c e = leb-true c b (both_true (leb a c) (leb c b) e).1
 
 -- a digit is below 16, and no comma
 abbrev DigitOf : ℕ → Answer ℕ → Type 0
-DigitOf c (accepted d) = (d < 16) × (eqb c 44 ≡ false)
-DigitOf c (refused r) = r ≡ refusal 20
+DigitOf c (Ok d) = (d < 16) × (eqb c 44 ≡ false)
+DigitOf c (Err r) = r ≡ refusal 20
 
 digit-of : (c : ℕ) → DigitOf c (read_hex c)
 unfolding read_hex check_at
@@ -49,15 +49,15 @@ digit-of c =
     (λ _. either (DigitOf c) (among 65 70 c) (λ e. (omega (arith, among-low 65 70 c e, among-high 65 70 c e), ne_eqb c 44 (λ z. omega (arith, among-low 65 70 c e))))
     (λ _. refl))
 
-is_digit : (c : ℕ) (a : Answer ℕ) {d : ℕ} → DigitOf c a → hex_as a ≡ Some d → (a ≡ accepted d) × (d < 16) × (eqb c 44 ≡ false)
+is_digit : (c : ℕ) (a : Answer ℕ) {d : ℕ} → DigitOf c a → hex_as a ≡ Some d → (a ≡ Ok d) × (d < 16) × (eqb c 44 ≡ false)
 unfolding hex_as
-is_digit c (accepted x) {d} h e = let same : x ≡ d = cc in (ap accepted same, omega (arith, h.0, same), h.1)
-is_digit c (refused r) h e = absurd (let z : ◌≡◌ {A = ℕ} 0 1 = cc in omega arith)
+is_digit c (Ok x) {d} h e = let same : x ≡ d = cc in (ap Ok same, omega (arith, h.0, same), h.1)
+is_digit c (Err r) h e = absurd (let z : ◌≡◌ {A = ℕ} 0 1 = cc in omega arith)
 
-no_digit : (c : ℕ) (a : Answer ℕ) → DigitOf c a → hex_as a ≡ None → a ≡ refused (refusal 20)
+no_digit : (c : ℕ) (a : Answer ℕ) → DigitOf c a → hex_as a ≡ None → a ≡ Err (refusal 20)
 unfolding hex_as
-no_digit c (accepted x) h e = absurd (let z : ◌≡◌ {A = ℕ} 0 1 = cc in omega arith)
-no_digit c (refused r) h e = ap refused h
+no_digit c (Ok x) h e = absurd (let z : ◌≡◌ {A = ℕ} 0 1 = cc in omega arith)
+no_digit c (Err r) h e = ap Err h
 
 pub digit-small : (c : ℕ) {d : ℕ} → hex_as (read_hex c) ≡ Some d → d < 16
 digit-small c e = (is_digit c (read_hex c) (digit-of c) e).1
@@ -74,14 +74,14 @@ module _ (t : List ℕ) (i : ℕ) (inside : i < length t) where
   rest-either P h k = rw next (pick-either P (eqb (get_or t i 0) 44) [] (get_or t i 0 ∷ field_from t (i + 1)) h k)
 
 abbrev Wrong : Escape → List ℕ → Type 0
-Wrong e s = read_tag e s ≡ refused (refusal 20)
+Wrong e s = read_tag e s ≡ Err (refusal 20)
 
 -- ---- an escape
 
-both-wrong : (c : ℕ) (a : Answer ℕ) → DigitOf c a → on_accepted {B = List ℕ} a (λ h. refused (refusal 20)) ≡ refused (refusal 20)
+both-wrong : (c : ℕ) (a : Answer ℕ) → DigitOf c a → on_accepted {B = List ℕ} a (λ h. Err (refusal 20)) ≡ Err (refusal 20)
 unfolding on_accepted
-both-wrong c (accepted d) h = refl
-both-wrong c (refused r) h = ap refused h
+both-wrong c (Ok d) h = refl
+both-wrong c (Err r) h = ap Err h
 
 short-wrong : (s : List ℕ) → length s < 2 → Wrong slash s
 unfolding read_tag
@@ -145,7 +145,7 @@ piece-none t i e = rw (field-behind t i (omega arith)) refl
 
 module _ (t : List ℕ) (i : ℕ) (inside : i < length t) where
   -- the field ends behind the quote
-  pub piece-end : get_or t i 0 ≡ 34 → ends_at t (i + 1) ≡ true → (read_tag none (field_from t i) ≡ accepted []) × (length (field_from t i) ≡ 1)
+  pub piece-end : get_or t i 0 ≡ 34 → ends_at t (i + 1) ≡ true → (read_tag none (field_from t i) ≡ Ok []) × (length (field_from t i) ≡ 1)
   unfolding read_tag check_at
   piece-end q k =
       let e = ends-nothing t (i + 1) k in
@@ -201,37 +201,37 @@ gives_less g = omega (arith, g.forward, g.inside)
 
 -- from `at` to `i` the text gives the bytes `front`
 pub record Come (front t : List ℕ) (at i : ℕ) : Type 0 where
-  pub reads : read_tag none (field_from t at) ≡ on_accepted (read_tag none (field_from t i)) (λ more. accepted (front ++ more))
+  pub reads : read_tag none (field_from t at) ≡ on_accepted (read_tag none (field_from t i)) (λ more. Ok (front ++ more))
   pub place : i + length (field_from t i) ≡ at + length (field_from t at)
   pub behind : length front ≤ i
   pub inside : i ≤ length t
 
-all-front : (r : Answer (List ℕ)) → r ≡ on_accepted r (λ more. accepted ([] ++ more))
+all-front : (r : Answer (List ℕ)) → r ≡ on_accepted r (λ more. Ok ([] ++ more))
 unfolding on_accepted
-all-front (accepted b) = refl
-all-front (refused x) = refl
+all-front (Ok b) = refl
+all-front (Err x) = refl
 
 come-first : (t : List ℕ) (at : ℕ) → at ≤ length t → Come [] t at at
 come-first t at h = record { reads = all-front (read_tag none (field_from t at)); place = refl; behind = omega arith; inside = h }
 
 one_more : (front : List ℕ) (b : ℕ) (r : Answer (List ℕ))
-    → on_accepted (on_accepted r (λ more. accepted (b ∷ more))) (λ more. accepted (front ++ more)) ≡ on_accepted r (λ more. accepted ((front ++ (b ∷ [])) ++ more))
+    → on_accepted (on_accepted r (λ more. Ok (b ∷ more))) (λ more. Ok (front ++ more)) ≡ on_accepted r (λ more. Ok ((front ++ (b ∷ [])) ++ more))
 unfolding on_accepted
-one_more front b (accepted more) = ap accepted (sym (append_assoc front (b ∷ []) more))
-one_more front b (refused x) = refl
+one_more front b (Ok more) = ap Ok (sym (append_assoc front (b ∷ []) more))
+one_more front b (Err x) = refl
 
 module _ {front t : List ℕ} {at i : ℕ} (come : Come front t at i) where
   come-on : {b next : ℕ} → Gives none t i b next → Come (front ++ (b ∷ [])) t at next
   come-on {b} {next} g = record {
-    reads = come.reads ∙ ap (λ (r : Answer (List ℕ)). on_accepted r (λ more. accepted (front ++ more))) g.reads ∙ one_more front b (read_tag none (field_from t next));
+    reads = come.reads ∙ ap (λ (r : Answer (List ℕ)). on_accepted r (λ more. Ok (front ++ more))) g.reads ∙ one_more front b (read_tag none (field_from t next));
     place = g.place ∙ come.place;
     behind = omega (arith, g.forward, come.behind, length-append front (b ∷ []));
     inside = g.inside;
   }
 
-  come-end : read_tag none (field_from t i) ≡ accepted [] → read_tag none (field_from t at) ≡ accepted front
+  come-end : read_tag none (field_from t i) ≡ Ok [] → read_tag none (field_from t at) ≡ Ok front
   unfolding on_accepted
-  come-end e = come.reads ∙ rw e (ap accepted (append-nil front))
+  come-end e = come.reads ∙ rw e (ap Ok (append-nil front))
 
   come-wrong : Wrong none (field_from t i) → Wrong none (field_from t at)
   unfolding on_accepted
@@ -257,7 +257,7 @@ module _ {t : List ℕ} {at size i : ℕ} (c : CountedTo t at size i) where
   pub counted-behind : size ≤ i
   counted-behind = omega (arith, c.come.behind, c.count)
 
-  pub counted-done : (read_tag none (field_from t i) ≡ accepted []) × (length (field_from t i) ≡ 1) → Some (size, i + 1) ≡ tag_as (at + length (field_from t at)) (read_tag none (field_from t at))
+  pub counted-done : (read_tag none (field_from t i) ≡ Ok []) × (length (field_from t i) ≡ 1) → Some (size, i + 1) ≡ tag_as (at + length (field_from t at)) (read_tag none (field_from t at))
   unfolding tag_as
   counted-done e =
       let end : at + length (field_from t at) ≡ i + 1 = omega (arith, c.come.place, e.1) in
@@ -291,7 +291,7 @@ module _ {t out₀ out : List ℕ} {at to i : ℕ} (s : StoredTo t out₀ out at
   pub stored-length : length out ≡ length out₀
   stored-length = ap length s.buffer ∙ length-sets out₀ 0 s.counted.front
 
-  pub stored-done : read_tag none (field_from t i) ≡ accepted [] → TagStored t at out₀ out
+  pub stored-done : read_tag none (field_from t i) ≡ Ok [] → TagStored t at out₀ out
   stored-done e = record {
     stored = λ b h fits. let both = sym (come-end s.counted.come e) ∙ h in let same : s.counted.front ≡ b = cc in s.buffer ∙ ap (sets out₀ 0) same ∙ sets-front b out₀ fits;
   }
@@ -301,10 +301,10 @@ module _ {t out₀ out : List ℕ} {at to i : ℕ} (s : StoredTo t out₀ out at
 
 -- ---- for whoever reads a tag and stores it then
 
-tag_of : (end : ℕ) (r : Answer (List ℕ)) {size end' : ℕ} → tag_as end r ≡ Some (size, end') → (b : List ℕ) × (r ≡ accepted b) × (length b ≡ size) × (end ≡ end')
+tag_of : (end : ℕ) (r : Answer (List ℕ)) {size end' : ℕ} → tag_as end r ≡ Some (size, end') → (b : List ℕ) × (r ≡ Ok b) × (length b ≡ size) × (end ≡ end')
 unfolding tag_as
-tag_of end (accepted b) e = let k = some_pair_parts _ _ _ _ e in (b, refl, k.0, k.1)
-tag_of end (refused x) e = absurd (let z : ◌≡◌ {A = ℕ} 0 1 = cc in omega arith)
+tag_of end (Ok b) e = let k = some_pair_parts _ _ _ _ e in (b, refl, k.0, k.1)
+tag_of end (Err x) e = absurd (let z : ◌≡◌ {A = ℕ} 0 1 = cc in omega arith)
 
 pub tag-text : (t : List ℕ) (at end : ℕ) {size end' : ℕ} → tag_as end (read_tag none (before 44 (drop at t))) ≡ Some (size, end')
     → (x : TagText t at) × (length x.bytes ≡ size) × (end ≡ end')

@@ -19,7 +19,7 @@ use mir.Val.{to_z, of_z, SFits}
 use mir.Facts.{to_z-of_z}
 use lib.Dec.{eqb, leb}
 use borrow.Author.Tests.{le-leb, lt-leb, eq-eqb, ne_eqb}
-use Rattle.wire.specs.Answers.{Answer, accepted, refused}
+use Rattle.wire.specs.Answers.{Answer}
 use Rattle.wire.specs.declared.Refusal.{Refusal}
 use Rattle.wire.specs.Reading.{Read, got, bad, and_then}
 use Rattle.wire.proofs.Accepting.{pick_true, pick-false, by_length}
@@ -71,27 +71,27 @@ module _ (start end : ℕ) (r : Answer Printed) where
   pass-number = go r
     where
       go : (r : Answer Printed) {id n last : ℕ} → Some (Item.Number id n last) ≡ item_as start end r → Some (last + 1, false) ≡ passed_as (end + 1) r
-      go (accepted (number i m)) {last = last} e = let l : last ≡ end = cc in ap (λ (k : ℕ). Some (k + 1, false)) l
-      go (accepted (tag i b)) e = absurd (let z : ◌≡◌ {A = ℕ} 0 1 = cc in omega arith)
-      go (refused x) e = absurd (let z : ◌≡◌ {A = ℕ} 0 1 = cc in omega arith)
+      go (Ok (number i m)) {last = last} e = let l : last ≡ end = cc in ap (λ (k : ℕ). Some (k + 1, false)) l
+      go (Ok (tag i b)) e = absurd (let z : ◌≡◌ {A = ℕ} 0 1 = cc in omega arith)
+      go (Err x) e = absurd (let z : ◌≡◌ {A = ℕ} 0 1 = cc in omega arith)
 
   pub pass-tag : {id from size last : ℕ} → Some (Item.Tag id from size last) ≡ item_as start end r → Some (last + 1, true) ≡ passed_as (end + 1) r
   unfolding item_as passed_as is_tag
   pass-tag = go r
     where
       go : (r : Answer Printed) {id from size last : ℕ} → Some (Item.Tag id from size last) ≡ item_as start end r → Some (last + 1, true) ≡ passed_as (end + 1) r
-      go (accepted (number i m)) e = absurd (let z : ◌≡◌ {A = ℕ} 0 1 = cc in omega arith)
-      go (accepted (tag i b)) {last = last} e = let l : last ≡ end = cc in ap (λ (k : ℕ). Some (k + 1, true)) l
-      go (refused x) e = absurd (let z : ◌≡◌ {A = ℕ} 0 1 = cc in omega arith)
+      go (Ok (number i m)) e = absurd (let z : ◌≡◌ {A = ℕ} 0 1 = cc in omega arith)
+      go (Ok (tag i b)) {last = last} e = let l : last ≡ end = cc in ap (λ (k : ℕ). Some (k + 1, true)) l
+      go (Err x) e = absurd (let z : ◌≡◌ {A = ℕ} 0 1 = cc in omega arith)
 
   pub pass-wrong : None ≡ item_as start end r → None ≡ passed_as (end + 1) r
   unfolding item_as passed_as
   pass-wrong = go r
     where
       go : (r : Answer Printed) → None ≡ item_as start end r → None ≡ passed_as (end + 1) r
-      go (accepted (number i m)) e = absurd (let z : ◌≡◌ {A = ℕ} 0 1 = cc in omega arith)
-      go (accepted (tag i b)) e = absurd (let z : ◌≡◌ {A = ℕ} 0 1 = cc in omega arith)
-      go (refused x) e = refl
+      go (Ok (number i m)) e = absurd (let z : ◌≡◌ {A = ℕ} 0 1 = cc in omega arith)
+      go (Ok (tag i b)) e = absurd (let z : ◌≡◌ {A = ℕ} 0 1 = cc in omega arith)
+      go (Err x) e = refl
 
   -- where it ends
   pub number-end : {id n last : ℕ} → Some (Item.Number id n last) ≡ item_as start end r → last ≡ end
@@ -99,18 +99,18 @@ module _ (start end : ℕ) (r : Answer Printed) where
   number-end = go r
     where
       go : (r : Answer Printed) {id n last : ℕ} → Some (Item.Number id n last) ≡ item_as start end r → last ≡ end
-      go (accepted (number i m)) e = cc
-      go (accepted (tag i b)) e = absurd (let z : ◌≡◌ {A = ℕ} 0 1 = cc in omega arith)
-      go (refused x) e = absurd (let z : ◌≡◌ {A = ℕ} 0 1 = cc in omega arith)
+      go (Ok (number i m)) e = cc
+      go (Ok (tag i b)) e = absurd (let z : ◌≡◌ {A = ℕ} 0 1 = cc in omega arith)
+      go (Err x) e = absurd (let z : ◌≡◌ {A = ℕ} 0 1 = cc in omega arith)
 
   pub tag-end : {id from size last : ℕ} → Some (Item.Tag id from size last) ≡ item_as start end r → last ≡ end
   unfolding item_as
   tag-end = go r
     where
       go : (r : Answer Printed) {id from size last : ℕ} → Some (Item.Tag id from size last) ≡ item_as start end r → last ≡ end
-      go (accepted (number i m)) e = absurd (let z : ◌≡◌ {A = ℕ} 0 1 = cc in omega arith)
-      go (accepted (tag i b)) e = cc
-      go (refused x) e = absurd (let z : ◌≡◌ {A = ℕ} 0 1 = cc in omega arith)
+      go (Ok (number i m)) e = absurd (let z : ◌≡◌ {A = ℕ} 0 1 = cc in omega arith)
+      go (Ok (tag i b)) e = cc
+      go (Err x) e = absurd (let z : ◌≡◌ {A = ℕ} 0 1 = cc in omega arith)
 
 -- ---- the loop over elements
 
@@ -129,15 +129,15 @@ pub record ElementsLeft (t : List ℕ) (at next : ℕ) (tags : Bool) (count : �
   pub few : count ≤ next
   pub rest : counted count (read_elements tags next (pieces_from t next)) ≡ rest_as (read_elements false at (pieces_from t at))
 
-passed_on : (next : ℕ) (r : Answer Printed) {n : ℕ} {b : Bool} → Some (n, b) ≡ passed_as next r → (e : Printed) × (r ≡ accepted e) × (b ≡ is_tag e) × (n ≡ next)
+passed_on : (next : ℕ) (r : Answer Printed) {n : ℕ} {b : Bool} → Some (n, b) ≡ passed_as next r → (e : Printed) × (r ≡ Ok e) × (b ≡ is_tag e) × (n ≡ next)
 unfolding passed_as
-passed_on next (accepted e) h = let k = some_pair_parts _ _ _ _ h in (e, refl, k.1, k.0)
-passed_on next (refused x) h = absurd (let z : ◌≡◌ {A = ℕ} 0 1 = cc in omega arith)
+passed_on next (Ok e) h = let k = some_pair_parts _ _ _ _ h in (e, refl, k.1, k.0)
+passed_on next (Err x) h = absurd (let z : ◌≡◌ {A = ℕ} 0 1 = cc in omega arith)
 
-passed-wrong : (next : ℕ) (r : Answer Printed) → None ≡ passed_as next r → (x : Refusal) × (r ≡ refused x)
+passed-wrong : (next : ℕ) (r : Answer Printed) → None ≡ passed_as next r → (x : Refusal) × (r ≡ Err x)
 unfolding passed_as
-passed-wrong next (accepted e) h = absurd (let z : ◌≡◌ {A = ℕ} 0 1 = cc in omega arith)
-passed-wrong next (refused x) h = (x, refl)
+passed-wrong next (Ok e) h = absurd (let z : ◌≡◌ {A = ℕ} 0 1 = cc in omega arith)
+passed-wrong next (Err x) h = (x, refl)
 
 module _ (t : List ℕ) (at : ℕ) where
   pub left-start : at ≤ length t + 1 → ElementsLeft t at at false 0
@@ -207,12 +207,12 @@ module _ {A : Type 0} (parse : List ℕ → Answer A) (t : List ℕ) (at : ℕ) 
         ap (λ (ps : List (List ℕ)). next_field parse at ps f) (pieces_step t at h)
         ∙ ap (λ (n : ℕ). on_field at (parse (field_from t at)) (λ a. f a n (pieces_from t (field_end t at + 1)))) place
 
-    pub field-bad : {x : Refusal} → parse (field_from t at) ≡ refused x → Err at ≡ following
+    pub field-bad : {x : Refusal} → parse (field_from t at) ≡ Err x → Err at ≡ following
     unfolding on_field judged_as
     field-bad e =
         ap (λ (r : Answer A). judged_as start (on_field at r (λ a. f a (field_end t at + 1) (pieces_from t (field_end t at + 1))))) (sym e) ∙ ap (judged_as start) (sym next)
 
-    pub field-read : {a : A} {end : ℕ} → parse (field_from t at) ≡ accepted a → end ≡ field_end t at → judged_as start (f a (end + 1) (pieces_from t (end + 1))) ≡ following
+    pub field-read : {a : A} {end : ℕ} → parse (field_from t at) ≡ Ok a → end ≡ field_end t at → judged_as start (f a (end + 1) (pieces_from t (end + 1))) ≡ following
     unfolding on_field
     field-read {a} e is =
         ap (λ (n : ℕ). judged_as start (f a (n + 1) (pieces_from t (n + 1)))) is
@@ -242,15 +242,15 @@ or-failed {A} {B} {m} {out = out} {e} {x} h k o = go m (sym h ∙ k)
     go (Some a) k = absurd (let z : ◌≡◌ {A = ℕ} 0 1 = cc in omega arith)
 
 -- what a field tells
-pub number-read : (end : ℕ) (r : Answer ℕ) → None ≡ number_as end r → (x : Refusal) × (r ≡ refused x)
+pub number-read : (end : ℕ) (r : Answer ℕ) → None ≡ number_as end r → (x : Refusal) × (r ≡ Err x)
 unfolding number_as
-number-read end (accepted n) e = absurd (let z : ◌≡◌ {A = ℕ} 0 1 = cc in omega arith)
-number-read end (refused x) e = (x, refl)
+number-read end (Ok n) e = absurd (let z : ◌≡◌ {A = ℕ} 0 1 = cc in omega arith)
+number-read end (Err x) e = (x, refl)
 
-pub degrees-told : (end : ℕ) (r : Answer ℤ) {z : ℤ} {last : ℕ} → Some (z, last) ≡ degrees_as end r → (r ≡ accepted z) × (last ≡ end)
+pub degrees-told : (end : ℕ) (r : Answer ℤ) {z : ℤ} {last : ℕ} → Some (z, last) ≡ degrees_as end r → (r ≡ Ok z) × (last ≡ end)
 unfolding degrees_as
-degrees-told end (accepted y) e = let k = some_pair_parts _ _ _ _ e in (ap accepted (sym k.0), k.1)
-degrees-told end (refused x) e = absurd (let z : ◌≡◌ {A = ℕ} 0 1 = cc in omega arith)
+degrees-told end (Ok y) e = let k = some_pair_parts _ _ _ _ e in (ap Ok (sym k.0), k.1)
+degrees-told end (Err x) e = absurd (let z : ◌≡◌ {A = ℕ} 0 1 = cc in omega arith)
 
 -- a field that was read ends inside
 module _ (t : List ℕ) (at : ℕ) (h : at ≤ length t) where
@@ -261,17 +261,17 @@ module _ (t : List ℕ) (at : ℕ) (h : at ≤ length t) where
   degrees-within r e = let k = degrees-told (field_end t at) r e in omega (arith, k.1, field-inside t at h)
 
 -- degrees fit a word with a sign
-pub degrees-word : (s : List ℕ) (z : ℤ) → read_degrees s ≡ accepted z → to_z w32 (of_z w32 z) ≡ z
+pub degrees-word : (s : List ℕ) (z : ℤ) → read_degrees s ≡ Ok z → to_z w32 (of_z w32 z) ≡ z
 degrees-word s z e = to_z-of_z (go z (degrees-inverse.exact s z e).0)
   where
     go : (z : ℤ) → FitsI32 z → SFits w32 z
     go (pos m) h = record { sfits = h }
     go (negsuc m) h = record { sfits = h }
 
-pub degrees-bad : (end : ℕ) (r : Answer ℤ) → None ≡ degrees_as end r → (x : Refusal) × (r ≡ refused x)
+pub degrees-bad : (end : ℕ) (r : Answer ℤ) → None ≡ degrees_as end r → (x : Refusal) × (r ≡ Err x)
 unfolding degrees_as
-degrees-bad end (accepted y) e = absurd (let z : ◌≡◌ {A = ℕ} 0 1 = cc in omega arith)
-degrees-bad end (refused x) e = (x, refl)
+degrees-bad end (Ok y) e = absurd (let z : ◌≡◌ {A = ℕ} 0 1 = cc in omega arith)
+degrees-bad end (Err x) e = (x, refl)
 
 -- ---- the elements, behind the leading fields
 
@@ -301,7 +301,7 @@ module _ (timestamp speed : ℕ) (longitude latitude : ℤ) (at : ℕ) (ps : Lis
 -- ---- one field more, and the answer is the whole's
 
 module _ {A : Type 0} (parse : List ℕ → Answer A) (t : List ℕ) (at : ℕ) (f : A → ℕ → List (List ℕ) → Read Line) (n : ℕ) where
-  pub field-on : {a : A} {end : ℕ} {r : Result LineFields ℕ} → at ≤ length t → (parse (field_from t at) ≡ accepted a) × (end ≡ field_end t at)
+  pub field-on : {a : A} {end : ℕ} {r : Result LineFields ℕ} → at ≤ length t → (parse (field_from t at) ≡ Ok a) × (end ≡ field_end t at)
       → r ≡ judged_as (start_from n (end + 1) (pieces_from t (end + 1))) (f a (end + 1) (pieces_from t (end + 1)))
       → r ≡ judged_as (start_from (suc n) at (pieces_from t at)) (next_field parse at (pieces_from t at) f)
   field-on {a} {end} h e k =
@@ -309,7 +309,7 @@ module _ {A : Type 0} (parse : List ℕ → Answer A) (t : List ℕ) (at : ℕ) 
       ∙ ap (λ (start : ℕ). judged_as start (f a (end + 1) (pieces_from t (end + 1)))) (start-on n t at h e.1)
       ∙ field-read parse t at f (start_from (suc n) at (pieces_from t at)) h e.0 e.1
 
-module _ (t : List ℕ) (at timestamp speed end : ℕ) (longitude latitude : ℤ) (h : at ≤ length t) (e : (read_decimal (2 ^ 16 - 1) (field_from t at) ≡ accepted speed) × (end ≡ field_end t at)) where
+module _ (t : List ℕ) (at timestamp speed end : ℕ) (longitude latitude : ℤ) (h : at ≤ length t) (e : (read_decimal (2 ^ 16 - 1) (field_from t at) ≡ Ok speed) × (end ≡ field_end t at)) where
   pub speed-read : {n : ℕ} {x y : ℤ} → x ≡ longitude → y ≡ latitude → Ok n ≡ rest_as (read_elements false (end + 1) (pieces_from t (end + 1)))
       → Ok (record { timestamp = timestamp; longitude = x; latitude = y; speed = speed; elements = n; start = end + 1 })
       ≡ judged_as (start_from 1 at (pieces_from t at)) (speed_on timestamp longitude latitude at (pieces_from t at))
@@ -371,7 +371,7 @@ module _ (s : List ℕ) where
           ∙ ap (λ (x : List ℕ). judged_as (start_from 4 0 (pieces_from x 0)) (next_field (read_decimal (2 ^ 64 - 1)) 0 (pieces_from x 0) longitude_on)) is
           ∙ whole
 
-      pub line_on : {timestamp end : ℕ} {r : Result LineFields ℕ} → (read_decimal (2 ^ 64 - 1) (field_from t 0) ≡ accepted timestamp) × (end ≡ field_end t 0)
+      pub line_on : {timestamp end : ℕ} {r : Result LineFields ℕ} → (read_decimal (2 ^ 64 - 1) (field_from t 0) ≡ Ok timestamp) × (end ≡ field_end t 0)
           → r ≡ judged_as (start_from 3 (end + 1) (pieces_from t (end + 1))) (longitude_on timestamp (end + 1) (pieces_from t (end + 1))) → r ≡ whole_line
       line_on e k =
           field-on (read_decimal (2 ^ 64 - 1)) t 0 longitude_on 3 (omega arith) e k

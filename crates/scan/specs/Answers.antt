@@ -1,22 +1,16 @@
 -- What the calls that read a line answer, and what they leave in the lent buffer.
-use Rattle.std.specs.Prelude.{ℕ, true, false, List, [], length, leb}
-use Rattle.wire.specs.Answers.{Answer, accepted, refused, on_accepted, check}
+use Rattle.std.specs.Prelude.{Ok, ℕ, true, false, List, [], length, leb}
+use Rattle.wire.specs.Answers.{Answer, on_accepted, check}
 use Rattle.wire.specs.Buffers.{leaving}
 use Rattle.line.specs.Lines.{Printed, number, tag}
 use Rattle.line.specs.LineReader.{read_line}
 use Rattle.line.specs.LineElements.{field_start, Standing}
 use Rattle.scan.specs.declared.LineFields.{LineFields}
-use Rattle.scan.specs.declared.LineAnswer.{LineAnswer}
 use Rattle.scan.specs.declared.LineElement.{LineElement}
-use Rattle.scan.specs.declared.LineElementAnswer.{LineElementAnswer}
 use Rattle.scan.specs.Walking.{line_result}
 
 unfoldable pub answer_line : List ℕ → Answer LineFields
-answer_line s = on_accepted (read_line s) (λ l. accepted (line_result (field_start s 4) l))
-
-unfoldable pub line_as : LineAnswer → Answer LineFields
-line_as (LineAnswer.Fields f) = accepted f
-line_as (LineAnswer.Refused r) = refused r
+answer_line s = on_accepted (read_line s) (λ l. Ok (line_result (field_start s 4) l))
 
 -- ---- elements
 
@@ -35,12 +29,8 @@ element_result x = made x.content
 
 -- 18 last
 unfoldable pub answer_element : Answer Standing → List ℕ → Answer LineElement
-answer_element found out = on_accepted found (λ x. check (leb (length (tag_bytes x.content)) (length out)) 18 (accepted (element_result x)))
+answer_element found out = on_accepted found (λ x. check (leb (length (tag_bytes x.content)) (length out)) 18 (Ok (element_result x)))
 
 -- a tag's bytes at the start and nothing changed behind them; a number and a refusal change nothing
 unfoldable pub leaving_element : Answer Standing → List ℕ → List ℕ
-leaving_element found out = leaving (on_accepted found (λ x. accepted (tag_bytes x.content))) out
-
-unfoldable pub element_as : LineElementAnswer → Answer LineElement
-element_as (LineElementAnswer.Found e) = accepted e
-element_as (LineElementAnswer.Refused r) = refused r
+leaving_element found out = leaving (on_accepted found (λ x. Ok (tag_bytes x.content))) out

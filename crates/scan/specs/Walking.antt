@@ -2,7 +2,7 @@
 use Rattle.std.specs.Prelude.{Bool, Option, Some, None, Result, Ok, Err, ℕ, ◌+◌, ◌^◌, ◌-◌, false, List, [], length, drop, leb, ℤ}
 use Rattle.wire.specs.Numbers.{pick}
 use Rattle.wire.specs.Reading.{Read, got, bad, and_then}
-use Rattle.wire.specs.Answers.{Answer, accepted, refused, on_accepted}
+use Rattle.wire.specs.Answers.{Answer, on_accepted}
 use Rattle.line.specs.Pieces.{pieces}
 use Rattle.line.specs.Lines.{Printed, Line}
 use Rattle.line.specs.LineReader.{read_decimal, read_degrees, read_printed, is_tag, next_field, read_elements}
@@ -34,8 +34,8 @@ longitude_on timestamp at ps = next_field read_degrees at ps (latitude_on timest
 
 -- an element, behind whose field the next starts at `next`
 unfoldable pub passed_as : ℕ → Answer Printed → Option (ℕ × Bool)
-passed_as next (accepted e) = Some (next, is_tag e)
-passed_as next (refused r) = None
+passed_as next (Ok e) = Some (next, is_tag e)
+passed_as next (Err r) = None
 
 -- the elements: how many, or where it is wrong
 unfoldable pub rest_as : Read (List Printed) → Result ℕ ℕ
@@ -60,4 +60,4 @@ judged_as start (bad x) = Err x.place
 
 -- the element whose field starts at `at`
 abbrev pub standing : List ℕ → ℕ → Answer Standing
-standing t at = on_accepted (read_printed false (field_from t at)) (λ e. accepted (record { content = e; next = field_end t at + 1 }))
+standing t at = on_accepted (read_printed false (field_from t at)) (λ e. Ok (record { content = e; next = field_end t at + 1 }))

@@ -7,7 +7,7 @@ ghost use Rattle.line.specs.LineElements.{start_from, field_start, element_of, e
 ghost use Rattle.scan.specs.Fields.{field_from, field_end, stands_at, ends_at, run, number_as, run_as, places_of, degrees_as, signed_as, tag_start, item_as};
 ghost use Rattle.scan.specs.Tags.{hex_as, tag_as, IsEscape, IsPiece, TagStored};
 ghost use Rattle.scan.specs.Walking.{pieces_from, speed_on, latitude_on, longitude_on, passed_as, rest_as, judged_as, standing};
-ghost use Rattle.scan.specs.Answers.{line_as, answer_line, element_as, answer_element, leaving_element};
+ghost use Rattle.scan.specs.Answers.{answer_line, answer_element, leaving_element};
 
 use wire::Refusal;
 
@@ -36,13 +36,7 @@ pub struct LineFields {
     pub start: usize,
 }
 
-#[derive(Clone, Copy)]
-pub enum LineAnswer {
-    Fields(LineFields),
-    Refused(Refusal),
-}
-
-// An element of a line: where the next field starts; how many bytes a tag has, 0 for a number; its number, 0 for a tag; its ID. In this order no two words are copied as one, which stalls.
+// An element of a line: where the next field starts; how many bytes a tag has, 0 for a number; its number, 0 for a tag; its ID. In this order no two words are copied as one, which stalls. A flag and fields, as C's struct and the clause `answer_element` have them.
 #[derive(Clone, Copy)]
 pub struct LineElement {
     pub next: usize,
@@ -50,12 +44,6 @@ pub struct LineElement {
     pub value: u64,
     pub id: u16,
     pub tag: bool,
-}
-
-#[derive(Clone, Copy)]
-pub enum LineElementAnswer {
-    Found(LineElement),
-    Refused(Refusal),
 }
 
 // ---- numbers
@@ -396,16 +384,12 @@ fn judge_line(s: &[u8]) -> Result<LineFields, usize>
 }
 
 // A line's four leading fields, and how many elements it has.
-pub fn read_line(s: &[u8]) -> LineAnswer
-    ensures { line_as result ≡ answer_line s.now }
+pub fn read_line(s: &[u8]) -> Result<LineFields, Refusal>
+    ensures { result ≡ answer_line s.now }
 {
     match judge_line(s) {
-        Ok(f) => LineAnswer::Fields(f),
-        Err(_) => LineAnswer::Refused(Refusal {
-            number: 20,
-            index: 0,
-            place: 0,
-        }),
+        Ok(f) => Ok(f),
+        Err(_) => Err(Refusal::of(20)),
     }
 }
 
@@ -451,18 +435,14 @@ fn field_start(t: &[u8], at: usize, n: usize) -> usize
 }
 
 // The element whose field starts at `at`; the bytes of a tag into the lent buffer.
-fn element_from(t: &[u8], at: usize, out: &mut [u8]) -> LineElementAnswer
+fn element_from(t: &[u8], at: usize, out: &mut [u8]) -> Result<LineElement, Refusal>
     requires { at ≤ length t.now }
-    ensures answer { element_as result ≡ answer_element (standing t.now at) out.old }
+    ensures answer { result ≡ answer_element (standing t.now at) out.old }
     ensures buffer { out.new ≡ leaving_element (standing t.now at) out.old }
 {
     match element_field(t, at, false) {
-        None => LineElementAnswer::Refused(Refusal {
-            number: 20,
-            index: 0,
-            place: 0,
-        }),
-        Some(Item::Number(id, value, end)) => LineElementAnswer::Found(LineElement {
+        None => Err(Refusal::of(20)),
+        Some(Item::Number(id, value, end)) => Ok(LineElement {
             id,
             tag: false,
             value,
@@ -471,14 +451,10 @@ fn element_from(t: &[u8], at: usize, out: &mut [u8]) -> LineElementAnswer
         }),
         Some(Item::Tag(id, start, size, end)) => {
             if out.len() < size {
-                return LineElementAnswer::Refused(Refusal {
-                    number: 18,
-                    index: 0,
-                    place: 0,
-                });
+                return Err(Refusal::of(18));
             }
             store_tag(t, start, out);
-            LineElementAnswer::Found(LineElement {
+            Ok(LineElement {
                 id,
                 tag: true,
                 value: 0,
@@ -490,39 +466,27 @@ fn element_from(t: &[u8], at: usize, out: &mut [u8]) -> LineElementAnswer
 }
 
 // The element whose field starts at `at`, the rest of the line unread.
-pub fn element_at(s: &[u8], at: usize, out: &mut [u8]) -> LineElementAnswer
-    ensures answer { element_as result ≡ answer_element (element_at s.now at) out.old }
+pub fn element_at(s: &[u8], at: usize, out: &mut [u8]) -> Result<LineElement, Refusal>
+    ensures answer { result ≡ answer_element (element_at s.now at) out.old }
     ensures buffer { out.new ≡ leaving_element (element_at s.now at) out.old }
 {
     if s.len() <= at {
-        return LineElementAnswer::Refused(Refusal {
-            number: 20,
-            index: 0,
-            place: 0,
-        });
+        return Err(Refusal::of(20));
     }
     let last = s.len() - 1;
     element_from(&s[0..last], at, out)
 }
 
 // The element with number `k` of a line.
-pub fn element_in_line(s: &[u8], k: usize, out: &mut [u8]) -> LineElementAnswer
-    ensures answer { element_as result ≡ answer_element (element_of s.now k) out.old }
+pub fn element_in_line(s: &[u8], k: usize, out: &mut [u8]) -> Result<LineElement, Refusal>
+    ensures answer { result ≡ answer_element (element_of s.now k) out.old }
     ensures buffer { out.new ≡ leaving_element (element_of s.now k) out.old }
 {
     match judge_line(s) {
-        Err(_) => LineElementAnswer::Refused(Refusal {
-            number: 20,
-            index: 0,
-            place: 0,
-        }),
+        Err(_) => Err(Refusal::of(20)),
         Ok(f) => {
             if f.elements <= k {
-                return LineElementAnswer::Refused(Refusal {
-                    number: 16,
-                    index: 0,
-                    place: 0,
-                });
+                return Err(Refusal::of(16));
             }
             let last = s.len() - 1;
             let at = field_start(&s[0..last], 0, 4 + k);

@@ -1,4 +1,5 @@
 -- A whole packet is judged by its own rules, and those that keep them are given back.
+use Rattle.std.specs.Prelude.{Ok}
 use Prim.Native.Nat.{ℕ, ◌+◌, ◌%◌, ◌<◌}
 use native.Mathlib.Omega.{arith}
 use mathlib.Core.Path.{◌≡◌, refl, sym, ap, ◌∙◌, subst}
@@ -11,7 +12,7 @@ use borrow.Author.Tests.{le-leb, eq-eqb, eqb-true}
 use Rattle.wire.specs.declared.Limits.{Limits}
 use Rattle.wire.specs.Numbers.{digits, pick}
 use Rattle.wire.specs.Envelope.{enclosed, codec_of}
-use Rattle.wire.specs.Answers.{accepted, is_accepted, on_accepted}
+use Rattle.wire.specs.Answers.{is_accepted, on_accepted}
 use Rattle.wire.proofs.Accepting.{pick_true, pick-false, check-passed, on_accepted-accepted, on_accepted-passed, from-accepted}
 use Rattle.wire.proofs.Placed.{between-bytes, between-whole}
 use Rattle.frame.specs.Frame.{framed, FrameRules, field_length, field_of, header, unframe}
@@ -28,12 +29,12 @@ use Rattle.stream.proofs.StreamLaws.{needed-long, feed-judged}
 
 module _ (limits : Limits) (p : List ℕ) where
   -- the codec has a row in the table of commands
-  pub by-command : is_accepted (layout_of (get_or p 8 0)) ≡ true → judged_packet limits p ≡ on_accepted (read_command limits p) (λ c. accepted p)
+  pub by-command : is_accepted (layout_of (get_or p 8 0)) ≡ true → judged_packet limits p ≡ on_accepted (read_command limits p) (λ c. Ok p)
   unfolding judged_packet
   by-command row = pick_true _ _ _ row
 
   -- it has none
-  pub by-data : is_accepted (layout_of (get_or p 8 0)) ≡ false → judged_packet limits p ≡ on_accepted (read_packet limits p) (λ a. accepted p)
+  pub by-data : is_accepted (layout_of (get_or p 8 0)) ≡ false → judged_packet limits p ≡ on_accepted (read_packet limits p) (λ a. Ok p)
   unfolding judged_packet
   by-data row = pick-false _ _ _ row
 
@@ -54,13 +55,13 @@ module _ (largest : ℕ) (d p : List ℕ) (rules : FrameRules largest d) (whole 
       let size = k.size in
       sym (get_or-drop 8 p j 0) ∙ sym (get_or-take (field_length p) (drop 8 p) j 0 (omega (arith, h, size, rules.least))) ∙ ap (λ (l : List ℕ). get_or l j 0) k.field
 
-  header_is : header largest p ≡ accepted (length d)
+  header_is : header largest p ≡ Ok (length d)
   header_is =
       let k = framed-parts in
       check-passed _ 2 _ _ (eq-eqb _ _ k.zeros)
       ∙ check-passed _ 3 _ _ (le-leb 3 (field_length p) (omega (arith, k.size, rules.least)))
       ∙ check-passed _ 3 _ _ (le-leb (field_length p + 12) largest (omega (arith, k.size, rules.most)))
-      ∙ ap accepted k.size
+      ∙ ap Ok k.size
 
 -- ---- packets that keep the rules
 
@@ -80,14 +81,14 @@ no_row n e = by-codec (λ (k : ℕ). is_accepted (layout_of k) ≡ false) n e re
 
 module _ (limits : Limits) (p : List ℕ) where
   -- the bytes judged together are the packet
-  needed-is : (d : List ℕ) → FrameRules limits.largest d → p ≡ framed d → needed limits for_packet p ≡ accepted (length p)
+  needed-is : (d : List ℕ) → FrameRules limits.largest d → p ≡ framed d → needed limits for_packet p ≡ Ok (length p)
   needed-is d rules whole =
       let size = is_whole limits.largest d p rules whole in
       needed-long limits p (omega (arith, size))
       ∙ on_accepted-passed (header limits.largest p) _ (header_is limits.largest d p rules whole)
-      ∙ ap accepted (sym size)
+      ∙ ap Ok (sym size)
 
-  taken_is : (d : List ℕ) → FrameRules limits.largest d → p ≡ framed d → judged_packet limits p ≡ accepted p
+  taken_is : (d : List ℕ) → FrameRules limits.largest d → p ≡ framed d → judged_packet limits p ≡ Ok p
       → taken limits for_packet [] p ≡ record { used = length p; told = settled (packet p); state = waiting for_packet [] }
   unfolding judged item_of next
   taken_is d rules whole e =

@@ -1,4 +1,5 @@
 -- Bytes that are fed in one block, and the same bytes one by one.
+use Rattle.std.specs.Prelude.{Err, Ok}
 use Prim.Native.Nat.{ℕ, zero, suc, ◌+◌, ◌-◌, ◌*◌, ◌≤◌, ◌<◌}
 use native.Mathlib.Omega.{arith}
 use mathlib.Core.Path.{◌≡◌, refl, sym, ap, ap₂, ◌∙◌, subst}
@@ -11,9 +12,9 @@ use borrow.Author.Tests.{le-leb, lt-leb, leb-false}
 use Rattle.wire.specs.declared.Limits.{Limits}
 use Rattle.wire.specs.declared.Refusal.{Refusal}
 use Rattle.wire.specs.Numbers.{number_at, pick}
-use Rattle.wire.specs.Answers.{Answer, accepted, refused, check_at, on_accepted}
+use Rattle.wire.specs.Answers.{Answer, check_at, on_accepted}
 use Rattle.wire.proofs.Accepting.{by_length, on_accepted-accepted}
-use Rattle.frame.specs.Frame.{field_length, header, heading}
+use Rattle.frame.specs.Frame.{field_length, header}
 use Rattle.frame.proofs.FramingLaws.{header-field}
 use Rattle.stream.specs.Stream.{Phase, for_login, for_packet, Item, more, settled, refusing, waiting, closed, needed, judged, verdict_by, verdict, next, Taken, after_byte, taken}
 
@@ -29,16 +30,16 @@ header-append : (largest : ℕ) (s t : List ℕ) → 8 ≤ length s → header l
 unfolding field_length
 header-append largest s t h =
     ap₂
-    (λ (m n : ℕ). check_at (eqb m 0) 2 0 (check_at (leb 3 n) 3 4 (check_at (leb (n + 12) largest) 3 4 (accepted n))))
+    (λ (m n : ℕ). check_at (eqb m 0) 2 0 (check_at (leb 3 n) 3 4 (check_at (leb (n + 12) largest) 3 4 (Ok n))))
     (number_append s t 0 4 (omega arith))
     (number_append s t 4 4 (omega arith))
 
 module _ (limits : Limits) where
-  pub needed-long : (s : List ℕ) → 8 ≤ length s → needed limits for_packet s ≡ on_accepted (header limits.largest s) (λ n. accepted (n + 12))
+  pub needed-long : (s : List ℕ) → 8 ≤ length s → needed limits for_packet s ≡ on_accepted (header limits.largest s) (λ n. Ok (n + 12))
   unfolding needed
   needed-long s h = simp (le-leb 8 (length s) h)
 
-  pub needed-short : (s : List ℕ) → length s < 8 → needed limits for_packet s ≡ accepted 8
+  pub needed-short : (s : List ℕ) → length s < 8 → needed limits for_packet s ≡ Ok 8
   unfolding needed
   needed-short s h = simp (lt-leb 8 (length s) h)
 
@@ -47,10 +48,10 @@ module _ (limits : Limits) where
   needed-append for_login s t h = refl
   needed-append for_packet s t h =
       needed-long (s ++ t) (omega (arith, length-append s t))
-      ∙ ap (λ r. on_accepted r (λ n. accepted (n + 12))) (header-append limits.largest s t h)
+      ∙ ap (λ r. on_accepted r (λ n. Ok (n + 12))) (header-append limits.largest s t h)
       ∙ sym (needed-long s h)
 
-  pub needed-least : (phase : Phase) (s : List ℕ) (n : ℕ) → needed limits phase s ≡ accepted n → 8 ≤ n
+  pub needed-least : (phase : Phase) (s : List ℕ) (n : ℕ) → needed limits phase s ≡ Ok n → 8 ≤ n
   unfolding needed
   needed-least for_login s n e = let same : 17 ≡ n = cc in omega arith
   needed-least for_packet s n e =
@@ -61,20 +62,20 @@ module _ (limits : Limits) where
   -- ---- which way a verdict goes
 
   module _ (phase : Phase) (s : List ℕ) where
-    pub verdict-more : (n : ℕ) → needed limits phase s ≡ accepted n → length s < n → verdict limits phase s ≡ more
+    pub verdict-more : (n : ℕ) → needed limits phase s ≡ Ok n → length s < n → verdict limits phase s ≡ more
     unfolding verdict verdict_by
     verdict-more n e h = simp (e, lt-leb n (length s) h)
 
-    verdict-judged : (n : ℕ) → needed limits phase s ≡ accepted n → n ≤ length s → verdict limits phase s ≡ settled (judged limits phase s)
+    verdict-judged : (n : ℕ) → needed limits phase s ≡ Ok n → n ≤ length s → verdict limits phase s ≡ settled (judged limits phase s)
     unfolding verdict verdict_by
     verdict-judged n e h = simp (e, le-leb n (length s) h)
 
-    verdict-refused : {r : Refusal} → needed limits phase s ≡ refused r → verdict limits phase s ≡ settled (refusing r)
+    verdict-refused : {r : Refusal} → needed limits phase s ≡ Err r → verdict limits phase s ≡ settled (refusing r)
     unfolding verdict verdict_by
     verdict-refused e = simp e
 
     -- where more is needed, it is told how many bytes are
-    pub more-needed : verdict limits phase s ≡ more → (n : ℕ) × (needed limits phase s ≡ accepted n) × (length s < n)
+    pub more-needed : verdict limits phase s ≡ more → (n : ℕ) × (needed limits phase s ≡ Ok n) × (length s < n)
     unfolding verdict verdict_by
     more-needed e = go (needed limits phase s) refl e
       where
@@ -82,12 +83,12 @@ module _ (limits : Limits) where
         last n true q e = absurd (let z : ◌≡◌ {A = ℕ} 0 1 = cc in omega arith)
         last n false q e = leb-false n (length s) q
 
-        go : (a : Answer ℕ) → needed limits phase s ≡ a → verdict_by a (length s) (judged limits phase s) ≡ more → (n : ℕ) × (needed limits phase s ≡ accepted n) × (length s < n)
-        go (accepted n) q e = (n, q, last n (leb n (length s)) refl e)
-        go (refused r) q e = absurd (let z : ◌≡◌ {A = ℕ} 0 1 = cc in omega arith)
+        go : (a : Answer ℕ) → needed limits phase s ≡ a → verdict_by a (length s) (judged limits phase s) ≡ more → (n : ℕ) × (needed limits phase s ≡ Ok n) × (length s < n)
+        go (Ok n) q e = (n, q, last n (leb n (length s)) refl e)
+        go (Err r) q e = absurd (let z : ◌≡◌ {A = ℕ} 0 1 = cc in omega arith)
 
   -- fewer bytes than are judged together settle nothing
-  short-more : (phase : Phase) (q t : List ℕ) (n : ℕ) → needed limits phase (q ++ t) ≡ accepted n → length q < n → verdict limits phase q ≡ more
+  short-more : (phase : Phase) (q t : List ℕ) (n : ℕ) → needed limits phase (q ++ t) ≡ Ok n → length q < n → verdict limits phase q ≡ more
   unfolding needed
   short-more for_login q t n e h = verdict-more for_login q 17 refl (let same : 17 ≡ n = cc in omega arith)
   short-more for_packet q t n e h =
@@ -96,16 +97,16 @@ module _ (limits : Limits) where
       (λ k. verdict-more for_packet q 8 (needed-short q k) k)
 
   -- nor does less than a header that is refused
-  header-more : (phase : Phase) (q t : List ℕ) {r : Refusal} → needed limits phase (q ++ t) ≡ refused r → length q < 8 → verdict limits phase q ≡ more
+  header-more : (phase : Phase) (q t : List ℕ) {r : Refusal} → needed limits phase (q ++ t) ≡ Err r → length q < 8 → verdict limits phase q ≡ more
   unfolding needed
   header-more for_login q t e h = absurd (let z : ◌≡◌ {A = ℕ} 0 1 = cc in omega arith)
   header-more for_packet q t e h = verdict-more for_packet q 8 (needed-short q h) h
 
-  header-long : (phase : Phase) (s : List ℕ) {r : Refusal} → needed limits phase s ≡ refused r → 8 ≤ length s
+  header-long : (phase : Phase) (s : List ℕ) {r : Refusal} → needed limits phase s ≡ Err r → 8 ≤ length s
   unfolding needed
   header-long for_login s e = absurd (let z : ◌≡◌ {A = ℕ} 0 1 = cc in omega arith)
   header-long for_packet s {r} e =
-      by_length 8 (length s) (λ h. h) (λ h. absurd (let bad : ◌≡◌ {A = Answer ℕ} (accepted 8) (refused r) = sym (needed-short s h) ∙ e in let z : ◌≡◌ {A = ℕ} 0 1 = cc in omega arith))
+      by_length 8 (length s) (λ h. h) (λ h. absurd (let bad : ◌≡◌ {A = Answer ℕ} (Ok 8) (Err r) = sym (needed-short s h) ∙ e in let z : ◌≡◌ {A = ℕ} 0 1 = cc in omega arith))
 
   prefix-more : (phase : Phase) (q t : List ℕ) → verdict limits phase (q ++ t) ≡ more → verdict limits phase q ≡ more
   prefix-more phase q t e =
@@ -175,12 +176,12 @@ module _ (limits : Limits) where
   length_front held s k h = omega (arith, length-append held (take k s), length-take-le k s h)
 
   -- they are too few
-  pub feed-more : (phase : Phase) (held s : List ℕ) (n : ℕ) → needed limits phase (held ++ s) ≡ accepted n → length held + length s < n
+  pub feed-more : (phase : Phase) (held s : List ℕ) (n : ℕ) → needed limits phase (held ++ s) ≡ Ok n → length held + length s < n
       → taken limits phase held s ≡ record { used = length s; told = more; state = waiting phase (held ++ s) }
   feed-more phase held s n e h = taken_more phase s held (verdict-more phase (held ++ s) n e (omega (arith, length-append held s)))
 
   -- they are enough: the first so many are judged
-  pub feed-judged : (phase : Phase) (held s : List ℕ) (n k : ℕ) → needed limits phase (held ++ s) ≡ accepted n → length held + k ≡ n → 1 ≤ k → k ≤ length s
+  pub feed-judged : (phase : Phase) (held s : List ℕ) (n k : ℕ) → needed limits phase (held ++ s) ≡ Ok n → length held + k ≡ n → 1 ≤ k → k ≤ length s
       → let i = judged limits phase (held ++ take k s) in taken limits phase held s ≡ record { used = k; told = settled i; state = next i }
   feed-judged phase held s n k e size low high =
       let j = k - 1 in
@@ -193,7 +194,7 @@ module _ (limits : Limits) where
       (verdict-judged phase front n (sym (needed-append phase front (drop k s) (omega arith)) ∙ ap (needed limits phase) (sym (cut held s k)) ∙ e) (omega arith))
 
   -- their header is refused
-  pub feed-refused : (phase : Phase) (held s : List ℕ) (k : ℕ) {r : Refusal} → needed limits phase (held ++ s) ≡ refused r → length held + k ≡ 8 → 1 ≤ k
+  pub feed-refused : (phase : Phase) (held s : List ℕ) (k : ℕ) {r : Refusal} → needed limits phase (held ++ s) ≡ Err r → length held + k ≡ 8 → 1 ≤ k
       → taken limits phase held s ≡ record { used = k; told = settled (refusing r); state = closed }
   unfolding next
   feed-refused phase held s k e size low =
@@ -208,28 +209,28 @@ module _ (limits : Limits) where
       (verdict-refused phase front (sym (needed-append phase front (drop k s) (omega arith)) ∙ ap (needed limits phase) (sym (cut held s k)) ∙ e))
 
   -- a header is refused only where its eight bytes are not all held
-  pub refused-early : (phase : Phase) (held s : List ℕ) {r : Refusal} → verdict limits phase held ≡ more → needed limits phase (held ++ s) ≡ refused r → length held < 8
+  pub refused-early : (phase : Phase) (held s : List ℕ) {r : Refusal} → verdict limits phase held ≡ more → needed limits phase (held ++ s) ≡ Err r → length held < 8
   refused-early phase held s {r} e h =
       by_length 8 (length held)
-      (λ k. let n = more-needed phase held e in absurd (let bad : ◌≡◌ {A = Answer ℕ} (accepted n.0) (refused r) = sym n.1 ∙ sym (needed-append phase held s k) ∙ h in let z : ◌≡◌ {A = ℕ} 0 1 = cc in omega arith))
+      (λ k. let n = more-needed phase held e in absurd (let bad : ◌≡◌ {A = Answer ℕ} (Ok n.0) (Err r) = sym n.1 ∙ sym (needed-append phase held s k) ∙ h in let z : ◌≡◌ {A = ℕ} 0 1 = cc in omega arith))
       (λ k. k)
 
   -- ---- how many bytes are judged together
 
-  pub needed-most : (room : ℕ) → 17 ≤ room → limits.largest ≤ room → (phase : Phase) (s : List ℕ) (n : ℕ) → needed limits phase s ≡ accepted n → n ≤ room
-  unfolding needed heading
+  pub needed-most : (room : ℕ) → 17 ≤ room → limits.largest ≤ room → (phase : Phase) (s : List ℕ) (n : ℕ) → needed limits phase s ≡ Ok n → n ≤ room
+  unfolding needed
   needed-most room low high for_login s n e = let same : 17 ≡ n = cc in omega arith
   needed-most room low high for_packet s n e =
       by_length 8 (length s)
       (λ h.
       let i = on_accepted-accepted (header limits.largest s) _ (sym (needed-long s h) ∙ e) in
-      let f = header-field limits.largest s i.0 (ap heading i.1) in
+      let f = header-field limits.largest s i.0 i.1 in
       let same : i.0 + 12 ≡ n = cc i.2 in
       omega (arith, f.2, same))
       (λ h. let same : 8 ≡ n = cc (needed-short s h, e) in omega arith)
 
   -- what is held while more is needed is less than that
-  pub held-less : (phase : Phase) (held s : List ℕ) (n : ℕ) → verdict limits phase held ≡ more → needed limits phase (held ++ s) ≡ accepted n → length held < n
+  pub held-less : (phase : Phase) (held s : List ℕ) (n : ℕ) → verdict limits phase held ≡ more → needed limits phase (held ++ s) ≡ Ok n → length held < n
   held-less phase held s n e k =
       by_length 8 (length held)
       (λ h.
@@ -245,11 +246,11 @@ module _ (limits : Limits) where
       (λ j. sym (needed-append phase (held ++ take k s) (drop k s) (omega (arith, length_front held s k h))) ∙ ap (needed limits phase) (sym (cut held s k)))
       (λ j. ap (λ (l : List ℕ). needed limits phase (held ++ l)) (take_all k s (omega (arith, few j))))
 
-  pub header-length : (phase : Phase) (held s : List ℕ) {r : Refusal} → needed limits phase (held ++ s) ≡ refused r → 8 ≤ length held + length s
+  pub header-length : (phase : Phase) (held s : List ℕ) {r : Refusal} → needed limits phase (held ++ s) ≡ Err r → 8 ≤ length held + length s
   header-length phase held s e = omega (arith, header-long phase (held ++ s) e, length-append held s)
 
   -- an item has more bytes than a header
-  pub item-long : (phase : Phase) (s : List ℕ) (n : ℕ) → needed limits phase s ≡ accepted n → n ≤ length s → 9 ≤ n
+  pub item-long : (phase : Phase) (s : List ℕ) (n : ℕ) → needed limits phase s ≡ Ok n → n ≤ length s → 9 ≤ n
   unfolding needed
   item-long for_login s n e k = let same : 17 ≡ n = cc e in omega arith
   item-long for_packet s n e k =
@@ -258,7 +259,7 @@ module _ (limits : Limits) where
       (λ h. let same : 8 ≡ n = cc (needed-short s h, e) in omega arith)
 
   -- as long as there are fewer bytes than are judged together, more is needed
-  pub still-more : (phase : Phase) (held s : List ℕ) (n : ℕ) → needed limits phase held ≡ accepted n → length held + length s < n → verdict limits phase (held ++ s) ≡ more
+  pub still-more : (phase : Phase) (held s : List ℕ) (n : ℕ) → needed limits phase held ≡ Ok n → length held + length s < n → verdict limits phase (held ++ s) ≡ more
   unfolding needed
   still-more for_login held s n e h = verdict-more for_login (held ++ s) n e (omega (arith, h, length-append held s))
   still-more for_packet held s n e h =
@@ -274,18 +275,18 @@ module _ (limits : Limits) where
 
   pub by-feed : (P : Taken → Type 0) (phase : Phase) (held s : List ℕ) → verdict limits phase held ≡ more
       → ((r : Refusal) (k : ℕ) → P (record { used = k; told = settled (refusing r); state = closed }))
-      → ((n k : ℕ) → needed limits phase (held ++ s) ≡ accepted n → length held + k ≡ n → k ≤ length s
+      → ((n k : ℕ) → needed limits phase (held ++ s) ≡ Ok n → length held + k ≡ n → k ≤ length s
       → let i = judged limits phase (held ++ take k s) in P (record { used = k; told = settled i; state = next i }))
       → P (record { used = length s; told = more; state = waiting phase (held ++ s) })
       → P (taken limits phase held s)
   by-feed P phase held s waits bad good few = go (needed limits phase (held ++ s)) refl
     where
       go : (r : Answer ℕ) → needed limits phase (held ++ s) ≡ r → P (taken limits phase held s)
-      go (refused r) e =
+      go (Err r) e =
           let early = refused-early phase held s waits e in
           let k = 8 - length held in
           subst P (sym (feed-refused phase held s k e (omega (arith, early)) (omega (arith, early)))) (bad r k)
-      go (accepted n) e =
+      go (Ok n) e =
           let less = held-less phase held s n waits e in
           let k = n - length held in
           by_length n (length held + length s)

@@ -1,9 +1,9 @@
 -- The bytes of a connection, one by one: a login, then data or command packets.
-use Rattle.std.specs.Prelude.{ℕ, suc, ◌+◌, List, [], ◌∷◌, ◌++◌, length, leb}
+use Rattle.std.specs.Prelude.{Err, Ok, ℕ, suc, ◌+◌, List, [], ◌∷◌, ◌++◌, length, leb}
 use Rattle.wire.specs.declared.Limits.{Limits}
 use Rattle.wire.specs.declared.Refusal.{Refusal}
 use Rattle.wire.specs.Numbers.{pick}
-use Rattle.wire.specs.Answers.{Answer, accepted, refused, on_accepted}
+use Rattle.wire.specs.Answers.{Answer, on_accepted}
 use Rattle.frame.specs.Frame.{header}
 use Rattle.packet.specs.DataPackets.{read_packet}
 use Rattle.command.specs.Layouts.{is_command}
@@ -35,28 +35,28 @@ pub data State : Type 0 where
 
 -- how many bytes are judged together, as far as these tell: a login's 17; a packet's header, 8, which may get 2 or 3; then the whole packet
 unfoldable pub needed : Limits → Phase → List ℕ → Answer ℕ
-needed limits for_login s = accepted 17
-needed limits for_packet s = pick (leb 8 (length s)) (on_accepted (header limits.largest s) (λ n. accepted (n + 12))) (accepted 8)
+needed limits for_login s = Ok 17
+needed limits for_packet s = pick (leb 8 (length s)) (on_accepted (header limits.largest s) (λ n. Ok (n + 12))) (Ok 8)
 
 unfoldable pub item_of : {A : Type 0} → (A → Item) → Answer A → Item
-item_of f (accepted a) = f a
-item_of f (refused r) = refusing r
+item_of f (Ok a) = f a
+item_of f (Err r) = refusing r
 
 -- a whole packet: a codec of the table of commands goes by the command rules, any other by the data rules, which have 6 for what is none of theirs
 unfoldable pub judged_packet : Limits → List ℕ → Answer (List ℕ)
 judged_packet limits p =
     pick
     (is_command p)
-    (on_accepted (read_command limits p) (λ c. accepted p))
-    (on_accepted (read_packet limits p) (λ a. accepted p))
+    (on_accepted (read_command limits p) (λ c. Ok p))
+    (on_accepted (read_packet limits p) (λ a. Ok p))
 
 unfoldable pub judged : Limits → Phase → List ℕ → Item
 judged limits for_login s = item_of login (read_login s)
 judged limits for_packet s = item_of packet (judged_packet limits s)
 
 unfoldable pub verdict_by : Answer ℕ → ℕ → Item → Verdict
-verdict_by (accepted n) size item = pick (leb n size) (settled item) more
-verdict_by (refused r) size item = settled (refusing r)
+verdict_by (Ok n) size item = pick (leb n size) (settled item) more
+verdict_by (Err r) size item = settled (refusing r)
 
 unfoldable pub verdict : Limits → Phase → List ℕ → Verdict
 verdict limits phase s = verdict_by (needed limits phase s) (length s) (judged limits phase s)

@@ -1,4 +1,5 @@
 -- Bytes written as hex text are hex text, and give the same bytes again.
+use Rattle.std.specs.Prelude.{Some}
 use Prim.Native.Nat.{ℕ, ◌+◌, ◌-◌, ◌*◌, ◌/◌, ◌%◌, ◌≤◌, ◌<◌}
 use native.Mathlib.Nat.{div-add-mod'}
 use native.Mathlib.Omega.{arith}
@@ -10,7 +11,6 @@ use lib.Dec.{ltb}
 use borrow.Author.Tests.{le-leb, lt-leb, ltb-true, ltb-false}
 use Rattle.wire.specs.Numbers.{Bytes, pick}
 use Rattle.text.specs.declared.Mark.TheVariants.{Digit}
-use Rattle.text.specs.declared.Kind.TheVariants.{Hex}
 use Rattle.text.specs.Hex.{mark_of, is_hex, digits, kind_of, paired, hex_bytes, glyph_of, hex_text}
 
 module _ (d : ℕ) (small : d < 16) where
@@ -58,6 +58,6 @@ is-hex (b ∷ s) bytes =
     simp (glyph-mark (b / 16) (omega (arith, bytes.0)), glyph-mark (b % 16) (omega arith))
     (is-hex s bytes.1)
 
-pub kind-encode : (s : List ℕ) → Bytes s → kind_of (hex_text s) ≡ Hex (2 * length s)
+pub kind-encode : (s : List ℕ) → Bytes s → kind_of (hex_text s) ≡ Some (2 * length s)
 unfolding kind_of
-kind-encode s bytes = simp (is-hex s bytes) (ap Hex (digits-text s bytes))
+kind-encode s bytes = simp (is-hex s bytes) (ap Some (digits-text s bytes))

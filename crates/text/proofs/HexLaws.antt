@@ -15,8 +15,6 @@ use Rattle.std.specs.List.{list_all}
 use Rattle.wire.specs.Numbers.{pick}
 use Rattle.text.specs.declared.Mark.{Mark}
 use Rattle.text.specs.declared.Mark.TheVariants.{Digit, Space, Other}
-use Rattle.text.specs.declared.Kind.{Kind}
-use Rattle.text.specs.declared.Kind.TheVariants.{Hex, Raw}
 use Rattle.text.specs.Hex.{among, mark_of, is_hex, digits, kind_of, paired, hex_bytes, glyph_of, hex_text, printable}
 
 -- ---- marks
@@ -59,16 +57,16 @@ digit-small c e = rw e at (mark-small c)
 
 -- ---- the kind of what is left, with `n` digits before it
 
-unfoldable pub kind_from : ℕ → List ℕ → Kind
-kind_from n s = pick (is_hex s) (Hex (n + length (digits s))) Raw
+unfoldable pub kind_from : ℕ → List ℕ → Option ℕ
+kind_from n s = pick (is_hex s) (Some (n + length (digits s))) None
 
 pub kind-first : (s : List ℕ) → kind_from 0 s ≡ kind_of s
 unfolding kind_from kind_of
 kind-first s = simp zero-add
 
-pub kind-done : (n i : ℕ) (s : List ℕ) → length s ≤ i → kind_from n (drop i s) ≡ Hex n
+pub kind-done : (n i : ℕ) (s : List ℕ) → length s ≤ i → kind_from n (drop i s) ≡ Some n
 unfolding kind_from is_hex digits
-kind-done n i s h = rw (drop_of_length-le s {i = i} h) (ap Hex (add-zero n))
+kind-done n i s h = rw (drop_of_length-le s {i = i} h) (ap Some (add-zero n))
 
 module _ (s : List ℕ) (i : ℕ) (inside : i < length s) where
   pub next : drop i s ≡ get_or s i 0 ∷ drop (i + 1) s
@@ -82,7 +80,7 @@ module _ (s : List ℕ) (i : ℕ) (inside : i < length s) where
   unfolding kind_from is_hex digits
   kind-space n e = rw next (simp e)
 
-  pub kind-other : (n : ℕ) → mark_of (get_or s i 0) ≡ Other → kind_from n (drop i s) ≡ Raw
+  pub kind-other : (n : ℕ) → mark_of (get_or s i 0) ≡ Other → kind_from n (drop i s) ≡ None
   unfolding kind_from is_hex digits
   kind-other n e = rw next (simp e)
 

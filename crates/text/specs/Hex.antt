@@ -1,10 +1,8 @@
 -- Hex text: which bytes are hex text, which bytes it stands for, and how bytes are written so.
-use Rattle.std.specs.Prelude.{ℕ, ◌+◌, ◌-◌, ◌*◌, ◌/◌, ◌%◌, Bool, true, false, List, [], ◌∷◌, length, eqb, leb, ltb}
+use Rattle.std.specs.Prelude.{None, Option, Some, ℕ, ◌+◌, ◌-◌, ◌*◌, ◌/◌, ◌%◌, Bool, true, false, List, [], ◌∷◌, length, eqb, leb, ltb}
 use Rattle.wire.specs.Numbers.{pick}
 use Rattle.text.specs.declared.Mark.{Mark}
 use Rattle.text.specs.declared.Mark.TheVariants.{Digit, Space, Other}
-use Rattle.text.specs.declared.Kind.{Kind}
-use Rattle.text.specs.declared.Kind.TheVariants.{Hex, Raw}
 
 -- from a to b
 abbrev pub among : ℕ → ℕ → ℕ → Bool
@@ -34,8 +32,8 @@ unfoldable pub digits : List ℕ → List ℕ
 digits [] = []
 digits (c ∷ s) = on_mark (mark_of c) (λ d. d ∷ digits s) (digits s) (digits s)
 
-unfoldable pub kind_of : List ℕ → Kind
-kind_of s = pick (is_hex s) (Hex (length (digits s))) Raw
+unfoldable pub kind_of : List ℕ → Option ℕ
+kind_of s = pick (is_hex s) (Some (length (digits s))) None
 
 -- a byte for each pair of digits; a last single digit gives none
 unfoldable pub paired : List ℕ → List ℕ

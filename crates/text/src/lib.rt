@@ -18,13 +18,6 @@ enum Mark {
     Other,
 }
 
-// Hex text with a number of digits, or anything else.
-#[derive(Drop)]
-pub enum Kind {
-    Hex(usize),
-    Raw,
-}
-
 #[tactic(auto, unfolding(crate::specs::Hex::mark_of))]
 fn mark_of(c: u8) -> Mark
     ensures { result ≡ mark_of c }
@@ -38,7 +31,7 @@ fn mark_of(c: u8) -> Mark
     }
 }
 
-pub fn kind_of(s: &[u8]) -> Kind
+pub fn kind_of(s: &[u8]) -> Option<usize>
     ensures { result ≡ kind_of s.now }
 {
     let mut n: usize = 0;
@@ -46,10 +39,10 @@ pub fn kind_of(s: &[u8]) -> Kind
         match mark_of(*c) {
             Mark::Digit(_) => n += 1,
             Mark::Space => {}
-            Mark::Other => return Kind::Raw,
+            Mark::Other => return None,
         }
     }
-    Kind::Hex(n)
+    Some(n)
 }
 
 // Stores the byte of each pair of digits, as far as there is room, and answers how many pairs there are.
@@ -111,13 +104,6 @@ pub fn is_printable_text(s: &[u8]) -> bool
 
 // ---- numbers
 
-// A number or a count, unless the word is none.
-#[derive(Drop)]
-pub enum Read {
-    Of(usize),
-    Wrong,
-}
-
 // A number with one digit more, unless that is too large for a word.
 fn with_digit(n: usize, d: usize) -> Option<usize>
     ensures { SomeIff result (n * 10 + d < 2 ^ 64) (n * 10 + d) }
@@ -126,26 +112,26 @@ fn with_digit(n: usize, d: usize) -> Option<usize>
 }
 
 // A decimal number that is not above `limit`.
-pub fn number_of(w: &[u8], limit: usize) -> Read
+pub fn number_of(w: &[u8], limit: usize) -> Option<usize>
     ensures { result ≡ number_read limit w.now }
 {
     if w.is_empty() {
-        return Read::Wrong;
+        return None;
     }
     let mut n: usize = 0;
     for c in w {
         if !c.is_ascii_digit() {
-            return Read::Wrong;
+            return None;
         }
         let Some(next) = with_digit(n, usize::from(*c - b'0')) else {
-            return Read::Wrong;
+            return None;
         };
         if limit < next {
-            return Read::Wrong;
+            return None;
         }
         n = next;
     }
-    Read::Of(n)
+    Some(n)
 }
 
 // How far a number is from 0.

@@ -1,4 +1,5 @@
 -- What is written of a data field: at once where the buffer is long enough for every text, else measured first.
+use Rattle.std.specs.Prelude.{Err, Ok}
 use Prim.Native.Nat.{ℕ, ◌-◌, ◌≤◌, ◌<◌}
 use native.Mathlib.Omega.{arith}
 use mathlib.Core.Path.{◌≡◌, refl, sym, ap, ◌∙◌, subst}
@@ -8,9 +9,8 @@ use lib.Seq.{length-take-le}
 use Rattle.wire.specs.Numbers.{Bytes}
 use Rattle.wire.specs.Reading.{Read, got, repeat}
 use Rattle.wire.specs.declared.Refusal.{Refusal}
-use Rattle.wire.specs.declared.Written.{Written}
-use Rattle.wire.specs.Answers.{Answer, accepted, refused, refusal, on_accepted}
-use Rattle.wire.specs.Buffers.{writing, leaving, written_as}
+use Rattle.wire.specs.Answers.{Answer, refusal, on_accepted}
+use Rattle.wire.specs.Buffers.{writing, leaving}
 use Rattle.wire.proofs.Widths.{bytes_take, bytes_drop}
 use Rattle.wire.proofs.BufferLaws.{writing-done, writing-short, leaving-done, leaving-short, sets-front}
 use Rattle.avl.specs.Codecs.{widths_of}
@@ -60,16 +60,15 @@ module _ (codec count : ℕ) (text : AvlData → List ℕ) (s : List ℕ) where
   -- a run over a buffer that is long enough
   writes-whole : {out after : List ℕ} {r : Moved} {k : ℕ} → Run out after r
       → ((rs : List AvlRecord) (n : ℕ) → Reads rs n → (k ≡ length (field_text text codec 0 rs)) × (length (field_text text codec 0 rs) ≤ length out))
-      → WritesRecords codec count text s out after (Written.Bytes k)
-  unfolding written_as
+      → WritesRecords codec count text s out after (Ok k)
   writes-whole {out} c h =
       record {
-        answer = λ rs n e. ap accepted (h rs n e).0 ∙ sym (writing-done (field_text text codec 0 rs) out (h rs n e).1);
+        answer = λ rs n e. ap Ok (h rs n e).0 ∙ sym (writing-done (field_text text codec 0 rs) out (h rs n e).1);
         buffer = λ rs n e. c.stores _ _ e ∙ sets-front (field_text text codec 0 rs) out (h rs n e).1 ∙ sym (leaving-done (field_text text codec 0 rs) out (h rs n e).1);
       }
 
   pub writes-room : {out after : List ℕ} {r : Moved} {room : ℕ} → HasRoom codec count text s room → room ≤ length out → Run out after r
-      → WritesRecords codec count text s out after (Written.Bytes r.to)
+      → WritesRecords codec count text s out after (Ok r.to)
   writes-room h i c = writes-whole c (λ rs n e. (ran c rs n e, omega (arith, h rs n e, i)))
 
   -- a run over no buffer changes nothing
@@ -78,8 +77,7 @@ module _ (codec count : ℕ) (text : AvlData → List ℕ) (s : List ℕ) where
     unchanged : (last ++ out ≡ out) × (length (last ++ out) ≡ length (numbers out))
     unchanged = let none = ap (λ (l : List A). l ++ out) (length-zero last empty) in (none, ap length none ∙ sym (same out))
 
-    pub writes_short : length (last ++ out) < r.to → WritesRecords codec count text s (numbers out) (numbers (last ++ out)) (Written.Refused (refusal 18))
-    unfolding written_as
+    pub writes_short : length (last ++ out) < r.to → WritesRecords codec count text s (numbers out) (numbers (last ++ out)) (Err (refusal 18))
     writes_short h =
         record {
           answer = λ rs n e. sym (writing-short (field_text text codec 0 rs) (numbers out) (omega (arith, h, ran run rs n e, unchanged.1)));
@@ -87,7 +85,7 @@ module _ (codec count : ℕ) (text : AvlData → List ℕ) (s : List ℕ) where
         }
 
     pub writes-done : {after : List A} {q : Moved} → r.to ≤ length (last ++ out) → Run (numbers (last ++ out)) (numbers after) q
-        → WritesRecords codec count text s (numbers out) (numbers after) (Written.Bytes r.to)
+        → WritesRecords codec count text s (numbers out) (numbers after) (Ok r.to)
     writes-done {after} {q} h c =
         writes-whole (subst (λ (l : List A). Run (numbers l) (numbers after) q) unchanged.0 c) (λ rs n e. (ran run rs n e, omega (arith, h, ran run rs n e, unchanged.1)))
 
@@ -103,24 +101,24 @@ module _ (text : AvlData → List ℕ) (d : List ℕ) where
       got-same : {r : Read (List AvlRecord)} {a b : List AvlRecord} {m n : ℕ} → r ≡ got a m → r ≡ got b n → a ≡ b
       got-same i j = cc
 
-  pub writes-field : {before after : List ℕ} {r : Written} → WritesRecords (codec d) (count d) text (body d) before after r → Writes text d before after r
+  pub writes-field : {before after : List ℕ} {r : Answer ℕ} → WritesRecords (codec d) (count d) text (body d) before after r → Writes text d before after r
   writes-field {before} w =
       record {
-        answer = λ longest a e. let f = field-read d longest a e in w.answer f.records f.end f.reads ∙ ap (λ (x : AvlData). writing (accepted (text x)) before) (sym f.is);
-        buffer = λ longest a e. let f = field-read d longest a e in w.buffer f.records f.end f.reads ∙ ap (λ (x : AvlData). leaving (accepted (text x)) before) (sym f.is);
+        answer = λ longest a e. let f = field-read d longest a e in w.answer f.records f.end f.reads ∙ ap (λ (x : AvlData). writing (Ok (text x)) before) (sym f.is);
+        buffer = λ longest a e. let f = field-read d longest a e in w.buffer f.records f.end f.reads ∙ ap (λ (x : AvlData). leaving (Ok (text x)) before) (sym f.is);
       }
 
 -- ---- the call around it
 
 -- what a writer of `result` answers and leaves
-abbrev pub Answers : Answer (List ℕ) → List ℕ → List ℕ → Written → Type 0
-Answers result before after r = (written_as r ≡ writing result before) × (after ≡ leaving result before)
+abbrev pub Answers : Answer (List ℕ) → List ℕ → List ℕ → Answer ℕ → Type 0
+Answers result before after r = (r ≡ writing result before) × (after ≡ leaving result before)
 
-pub written-field : {text : AvlData → List ℕ} {longest : ℕ} {d : List ℕ} {a : AvlData} {result : Answer (List ℕ)} {before after : List ℕ} {r : Written} → FieldOf longest d a
-    → result ≡ accepted (text a) → Writes text d before after r → Answers result before after r
+pub written-field : {text : AvlData → List ℕ} {longest : ℕ} {d : List ℕ} {a : AvlData} {result : Answer (List ℕ)} {before after : List ℕ} {r : Answer ℕ} → FieldOf longest d a
+    → result ≡ Ok (text a) → Writes text d before after r → Answers result before after r
 written-field {longest = longest} {a = a} {before = before} k e w =
     (w.answer longest a k.accepts ∙ ap (λ x. writing x before) (sym e), w.buffer longest a k.accepts ∙ ap (λ x. leaving x before) (sym e))
 
-pub refused-whole : {result : Answer (List ℕ)} {before : List ℕ} {x : Refusal} → result ≡ refused x → Answers result before before (Written.Refused x)
-unfolding written_as writing leaving on_accepted
+pub refused-whole : {result : Answer (List ℕ)} {before : List ℕ} {x : Refusal} → result ≡ Err x → Answers result before before (Err x)
+unfolding writing leaving on_accepted
 refused-whole {before = before} e = (ap (λ y. writing y before) (sym e), ap (λ y. leaving y before) (sym e))

@@ -1,4 +1,5 @@
 -- How long a text is beside its bytes: `a` for each of its numbers is at most `b` for each byte, where that is so of each element and of what stands before a record's.
+use Rattle.std.specs.Prelude.{Ok}
 use Prim.Native.Nat.{ℕ, ◌+◌, ◌*◌, ◌^◌, ◌≤◌, ◌<◌}
 use native.Mathlib.Nat.{mul-add}
 use native.Mathlib.Omega.{arith}
@@ -9,7 +10,6 @@ use lib.ListN.{length, length-append}
 use lib.Dec.{eqb}
 use Rattle.wire.specs.Numbers.{Bytes, be, pick}
 use Rattle.wire.specs.Sequences.{joined, All}
-use Rattle.wire.specs.Answers.{accepted}
 use Rattle.wire.proofs.Widths.{length_digits}
 use Rattle.wire.proofs.Enclosed.{length-enclosed}
 use Rattle.avl.specs.declared.Widths.{Widths}
@@ -89,7 +89,7 @@ module _ (a b : ℕ) where
           within-append (record_text f w head at r) (records_text (record_text f w head) w (at + length (record_bytes w r)) rs) (record_bytes w r) (joined (record_bytes w) rs) (record-size at r h.0.groups_keep) (records-size longest (at + length (record_bytes w r)) rs h.1)
 
       -- the records of an accepted data field, whose codec and counts are three bytes more
-      pub field-size : (longest at : ℕ) (d : List ℕ) (x : AvlData) → w ≡ widths_of x.codec → Bytes d → 3 ≤ length d → read_data longest d ≡ accepted x
+      pub field-size : (longest at : ℕ) (d : List ℕ) (x : AvlData) → w ≡ widths_of x.codec → Bytes d → 3 ≤ length d → read_data longest d ≡ Ok x
           → a * length (records_text (record_text f w head) w at x.records) + b * 3 ≤ b * length d
       unfolding data_bytes
       field-size longest at d x is c l e =

@@ -1,8 +1,7 @@
 -- Writing what belongs to a data field into a lent buffer: `text` says what that is of its content.
-use Rattle.std.specs.Prelude.{ℕ, ◌≤◌, ◌<◌, ◌^◌, ◌≡◌, List, length}
-use Rattle.wire.specs.declared.Written.{Written}
-use Rattle.wire.specs.Answers.{accepted}
-use Rattle.wire.specs.Buffers.{writing, leaving, written_as}
+use Rattle.std.specs.Prelude.{Ok, ℕ, ◌≤◌, ◌<◌, ◌^◌, ◌≡◌, List, length}
+use Rattle.wire.specs.Answers.{Answer}
+use Rattle.wire.specs.Buffers.{writing, leaving}
 use Rattle.wire.specs.Reading.{got, repeat}
 use Rattle.avl.specs.Codecs.{widths_of}
 use Rattle.avl.specs.Records.{AvlRecord}
@@ -14,9 +13,9 @@ abbrev pub field_text : (AvlData → List ℕ) → ℕ → ℕ → List AvlRecor
 field_text text codec at rs = text (record { codec = codec; records = rs })
 
 -- the text of `count` records is written, which the bytes `s` begin with
-pub record WritesRecords (codec count : ℕ) (text : AvlData → List ℕ) (s before after : List ℕ) (r : Written) : Type 0 where
-  pub answer : (rs : List AvlRecord) (n : ℕ) → repeat count (plain_record (widths_of codec)) s 0 ≡ got rs n → written_as r ≡ writing (accepted (field_text text codec 0 rs)) before
-  pub buffer : (rs : List AvlRecord) (n : ℕ) → repeat count (plain_record (widths_of codec)) s 0 ≡ got rs n → after ≡ leaving (accepted (field_text text codec 0 rs)) before
+pub record WritesRecords (codec count : ℕ) (text : AvlData → List ℕ) (s before after : List ℕ) (r : Answer ℕ) : Type 0 where
+  pub answer : (rs : List AvlRecord) (n : ℕ) → repeat count (plain_record (widths_of codec)) s 0 ≡ got rs n → r ≡ writing (Ok (field_text text codec 0 rs)) before
+  pub buffer : (rs : List AvlRecord) (n : ℕ) → repeat count (plain_record (widths_of codec)) s 0 ≡ got rs n → after ≡ leaving (Ok (field_text text codec 0 rs)) before
 
 -- it has no more than `room` numbers
 abbrev pub HasRoom : ℕ → ℕ → (AvlData → List ℕ) → List ℕ → ℕ → Type 0
@@ -29,13 +28,13 @@ pub record Field (d : List ℕ) : Type 0 where
   pub small : length d < 2 ^ 32
   pub longest : ℕ
   pub content : AvlData
-  pub accepts : read_data longest d ≡ accepted content
+  pub accepts : read_data longest d ≡ Ok content
 
 -- its text is written, whatever the limit within which it is accepted
-pub record Writes (text : AvlData → List ℕ) (d before after : List ℕ) (r : Written) : Type 0 where
-  pub answer : (longest : ℕ) (a : AvlData) → read_data longest d ≡ accepted a → written_as r ≡ writing (accepted (text a)) before
-  pub buffer : (longest : ℕ) (a : AvlData) → read_data longest d ≡ accepted a → after ≡ leaving (accepted (text a)) before
+pub record Writes (text : AvlData → List ℕ) (d before after : List ℕ) (r : Answer ℕ) : Type 0 where
+  pub answer : (longest : ℕ) (a : AvlData) → read_data longest d ≡ Ok a → r ≡ writing (Ok (text a)) before
+  pub buffer : (longest : ℕ) (a : AvlData) → read_data longest d ≡ Ok a → after ≡ leaving (Ok (text a)) before
 
 -- the text of an accepted data field has no more than `room` numbers
 abbrev pub FieldRoom : (AvlData → List ℕ) → List ℕ → ℕ → Type 0
-FieldRoom text d room = (longest : ℕ) (a : AvlData) → read_data longest d ≡ accepted a → length (text a) ≤ room
+FieldRoom text d room = (longest : ℕ) (a : AvlData) → read_data longest d ≡ Ok a → length (text a) ≤ room

@@ -8,14 +8,13 @@ ghost use Rattle.avl.specs.Codecs.{kinds, widths_of};
 ghost use Rattle.avl.specs.Records.{AvlRecord};
 ghost use Rattle.avl.specs.DataField.{AvlData};
 ghost use Rattle.avl.specs.RecordReader.{element, group, groups, plain_record};
-ghost use Rattle.walk.specs.Walks.{Narrow};
 ghost use Rattle.element.specs.Elements.{Located};
 ghost use Rattle.traverse.specs.Texts.{element_text, group_text, groups_text, records_text};
 ghost use Rattle.traverse.specs.Copying.{Ready, Copies, OnPace};
 ghost use Rattle.traverse.specs.Fields.{field_text, Field, Writes, WritesRecords, HasRoom, FieldRoom};
 
 use avl::Widths;
-use wire::{Refusal, Written};
+use wire::Refusal;
 
 // Where reading and storing go on.
 #[derive(Clone, Copy)]
@@ -61,7 +60,6 @@ pub trait ElementWriter: Copy {
         out: &mut [Self::Item],
         to: usize,
     ) -> Moved
-        requires narrow { Narrow w }
         requires le_kind { (1 ≤ kind) × (kind ≤ 9) }
         requires taken { takes self (length s.now) }
         requires ready { Ready (element w kind) s.now at to }
@@ -79,7 +77,6 @@ pub fn put_group<W: ElementWriter>(
     out: &mut [W::Item],
     to: usize,
 ) -> Moved
-    requires narrow { Narrow w }
     requires le_kind { (1 ≤ kind) × (kind ≤ 9) }
     requires taken { W.takes writer (length s.now) }
     requires ready { Ready (group w kind) s.now at to }
@@ -107,7 +104,6 @@ pub fn put_groups<W: ElementWriter>(
     out: &mut [W::Item],
     to: usize,
 ) -> Moved
-    requires narrow { Narrow w }
     requires taken { W.takes writer (length s.now) }
     requires ready { Ready (groups w (kinds w)) s.now at to }
     ensures copies { Copies (groups w (kinds w)) (groups_text (W.of_element writer) w (kinds w)) s.now at to (W.Item.numbers out.old) (W.Item.numbers out.new) result }
@@ -126,7 +122,6 @@ pub trait RecordWriter: ElementWriter {
     ghost of_record: { Self → Widths → ℕ → AvlRecord → List ℕ };
 
     fn put_record(self, w: Widths, s: &[u8], at: usize, out: &mut [Self::Item], to: usize) -> Moved
-        requires narrow { Narrow w }
         requires taken { Self.takes self (length s.now) }
         requires ready { Ready (plain_record w) s.now at to }
         ensures copies { Copies (plain_record w) (of_record self w) s.now at to (Self.Item.numbers out.old) (Self.Item.numbers out.new) result }
@@ -142,7 +137,6 @@ pub fn put_records<W: RecordWriter>(
     out: &mut [W::Item],
     to: usize,
 ) -> Moved
-    requires narrow { Narrow w }
     requires taken { W.takes writer (length s.now) }
     requires ready { Ready (repeat count (plain_record w)) s.now 0 to }
     ensures copies { Copies (repeat count (plain_record w)) (records_text (W.of_record writer w) w) s.now 0 to (W.Item.numbers out.old) (W.Item.numbers out.new) result }
@@ -179,7 +173,7 @@ pub fn write_records<W: FieldWriter>(
     s: &[u8],
     room: usize,
     out: &mut [W::Item],
-) -> Written
+) -> Result<usize, Refusal>
     requires count_bound { count < 2 ^ 8 }
     requires spanned { W.spans writer (length s.now) }
     requires ready { Ready (repeat count (plain_record (widths_of codec))) s.now 0 5 }
@@ -188,22 +182,23 @@ pub fn write_records<W: FieldWriter>(
 {
     if room <= out.len() {
         let done = writer.put_field(codec, count, s, out);
-        return Written::Bytes(done.to);
+        return Ok(done.to);
     }
     let size = writer.put_field(codec, count, s, &mut out[0..0]).to;
     if out.len() < size {
-        return Written::Refused(Refusal {
-            number: 18,
-            index: 0,
-            place: 0,
-        });
+        return Err(Refusal::of(18));
     }
     writer.put_field(codec, count, s, out);
-    Written::Bytes(size)
+    Ok(size)
 }
 
 // Writes the text of the data field `d`, in the same way.
-pub fn write_field<W: FieldWriter>(writer: W, d: &[u8], room: usize, out: &mut [W::Item]) -> Written
+pub fn write_field<W: FieldWriter>(
+    writer: W,
+    d: &[u8],
+    room: usize,
+    out: &mut [W::Item],
+) -> Result<usize, Refusal>
     requires field { Field d.now }
     requires spanned { W.spans writer (length d.now - 3) }
     requires enough { FieldRoom (W.of_field writer) d.now room }

@@ -1,8 +1,7 @@
 -- The words of a line, each one space behind the one before.
-use Rattle.std.specs.Prelude.{◌≡◌, ℕ, zero, suc, ◌+◌, ◌≤◌, List, [], ◌∷◌, length, ◌==◌}
+use Rattle.std.specs.Prelude.{None, Option, Some, ◌≡◌, ℕ, zero, suc, ◌+◌, ◌≤◌, List, [], ◌∷◌, length, ◌==◌}
 use Rattle.wire.specs.Numbers.{pick}
 use Rattle.text.specs.Hex.{hex_bytes}
-use Rattle.text.specs.declared.Read.{Read}
 
 unfoldable pub spaces : List ℕ → ℕ
 spaces [] = 0
@@ -23,6 +22,6 @@ word_at zero s = first_word s
 word_at (suc k) s = word_at k (behind_word s)
 
 -- so many bytes, which fit
-abbrev pub Counted : ℕ → Read → List ℕ → Type 0
-Counted room (Read.Of n) w = (n ≡ length (hex_bytes w)) × (n ≤ room)
-Counted room Read.Wrong w = Unit {0}
+abbrev pub Counted : ℕ → Option ℕ → List ℕ → Type 0
+Counted room (Some n) w = (n ≡ length (hex_bytes w)) × (n ≤ room)
+Counted room None w = Unit {0}

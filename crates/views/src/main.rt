@@ -10,8 +10,8 @@ mod words;
 ghost use Rattle.std.specs.Prelude.{◌≡◌, ◌≤◌, length};
 ghost use Rattle.views.specs.Asked.{view_asked};
 
+use lookup::{TcpPacket, UdpDatagram};
 use std::io;
-use text::Read;
 
 #[derive(Clone, Copy)]
 pub enum Call {
@@ -50,10 +50,10 @@ fn view<'a>(
     ensures { result.now ≡ view_asked call family p.now older.now n k id }
 {
     match call {
-        Call::PacketView => lookup::view_in_packet(family, p, n, k),
-        Call::DatagramView => lookup::view_in_datagram(family, p, n, k),
-        Call::PacketIdView => lookup::id_view_in_packet(family, p, n, id),
-        Call::DatagramIdView => lookup::id_view_in_datagram(family, p, n, id),
+        Call::PacketView => lookup::view_in::<TcpPacket>(family, p, n, k),
+        Call::DatagramView => lookup::view_in::<UdpDatagram>(family, p, n, k),
+        Call::PacketIdView => lookup::id_view_in::<TcpPacket>(family, p, n, id),
+        Call::DatagramIdView => lookup::id_view_in::<UdpDatagram>(family, p, n, id),
         Call::LastKnownView => lookup::last_known_view(family, p, older, id),
         Call::CommandText => command::command_text(family, p),
     }
@@ -99,25 +99,25 @@ fn words_of(call: Call) -> usize {
 }
 
 // The second word that is bytes: the older packet; none for every other call.
-fn older_bytes(call: Call, line: &[u8], buf: &mut [u8]) -> Read {
+fn older_bytes(call: Call, line: &[u8], buf: &mut [u8]) -> Option<usize> {
     match call {
         Call::LastKnownView => words::bytes_of(words::word(line, 3), buf),
-        _ => Read::Of(0),
+        _ => Some(0),
     }
 }
 
 // The record's number; 0 for a call that has none.
-fn record_number(call: Call, line: &[u8]) -> Read {
+fn record_number(call: Call, line: &[u8]) -> Option<usize> {
     match call {
-        Call::LastKnownView | Call::CommandText => Read::Of(0),
+        Call::LastKnownView | Call::CommandText => Some(0),
         _ => text::number_of(words::word(line, 3), usize::MAX),
     }
 }
 
 // The last number: the element's or the ID; 0 for a call that has none.
-fn last_number(call: Call, line: &[u8]) -> Read {
+fn last_number(call: Call, line: &[u8]) -> Option<usize> {
     match call {
-        Call::CommandText => Read::Of(0),
+        Call::CommandText => Some(0),
         Call::PacketView | Call::DatagramView => {
             text::number_of(words::word(line, 4), usize::MAX)
         }
@@ -146,7 +146,7 @@ fn answer_with(
     let mut second = [0u8; 69632];
     let a = words::bytes_of(words::word(line, 2), &mut first);
     let b = older_bytes(call, line, &mut second);
-    let (Read::Of(i), Read::Of(j)) = (a, b) else {
+    let (Some(i), Some(j)) = (a, b) else {
         return no_bytes(rt, place);
     };
     let (Some(p), Some(older)) = (first.get(..i), second.get(..j)) else {
@@ -163,13 +163,13 @@ fn answer_line(rt: &(impl Print + Eprint), line: &[u8], place: u64) {
     if words::count(line) != words_of(call) {
         return wrong(rt, place, ": not the words of this call\n");
     }
-    let Read::Of(family) = text::number_of(words::word(line, 1), usize::MAX) else {
+    let Some(family) = text::number_of(words::word(line, 1), usize::MAX) else {
         return wrong(rt, place, ": not the number of a family\n");
     };
-    let Read::Of(n) = record_number(call, line) else {
+    let Some(n) = record_number(call, line) else {
         return wrong(rt, place, ": not the number of a record\n");
     };
-    let Read::Of(k) = last_number(call, line) else {
+    let Some(k) = last_number(call, line) else {
         return wrong(rt, place, ": not the number of an element, or no ID\n");
     };
     answer_with(rt, call, family, line, n, k, place)

@@ -4,8 +4,6 @@ ghost use Rattle.std.proofs.lemmas.List.Edits.{sets};
 ghost use Rattle.text.specs.Hex.{hex_bytes};
 ghost use Rattle.views.specs.Words.{spaces, word_at, Counted};
 
-use text::{Kind, Read};
-
 pub fn count(line: &[u8]) -> usize
     ensures { result ≡ spaces line.now + 1 }
 {
@@ -34,21 +32,21 @@ pub fn word(line: &[u8], k: usize) -> &[u8]
 // Pairs of hex digits and nothing else, or '-'.
 fn is_bytes(w: &[u8]) -> bool {
     match text::kind_of(w) {
-        Kind::Raw => w == b"-".as_slice(),
-        Kind::Hex(digits) => 0 < digits && digits == w.len() && digits % 2 == 0,
+        None => w == b"-".as_slice(),
+        Some(digits) => 0 < digits && digits == w.len() && digits % 2 == 0,
     }
 }
 
 // Stores the bytes of hex digits, as far as there is room, and answers how many there are, if they are all there; '-' is
 // no bytes.
-pub fn bytes_of(w: &[u8], buf: &mut [u8]) -> Read
+pub fn bytes_of(w: &[u8], buf: &mut [u8]) -> Option<usize>
     ensures count { Counted (length buf.old) result w.now }
     ensures buffer { buf.new ≡ sets buf.old 0 (hex_bytes w.now) }
 {
     let n = text::decode(w, buf);
     if is_bytes(w) && n <= buf.len() {
-        Read::Of(n)
+        Some(n)
     } else {
-        Read::Wrong
+        None
     }
 }

@@ -1,4 +1,5 @@
 -- Which way a test goes, and what an accepted answer tells of the tests on the way.
+use Rattle.std.specs.Prelude.{Err, Ok}
 use Prim.Native.Nat.{ℕ, ◌≤◌, ◌<◌}
 use native.Mathlib.Nat.{zero-add}
 use native.Mathlib.Omega.{arith}
@@ -9,7 +10,7 @@ use borrow.Author.Tests.{leb-true, leb-false}
 use Rattle.wire.specs.declared.Refusal.{Refusal}
 use Rattle.wire.specs.Numbers.{pick}
 use Rattle.wire.specs.Reading.{Read, got, bad}
-use Rattle.wire.specs.Answers.{Answer, accepted, refused, refusal_at, on_accepted, moved_by, from, told, unplaced, check_at}
+use Rattle.wire.specs.Answers.{Answer, refusal_at, on_accepted, moved_by, from, told, unplaced, check_at}
 
 pub pick_true : {A : Type 0} (test : Bool) (a b : A) → test ≡ true → pick test a b ≡ a
 pick_true test a b e = simp e
@@ -25,7 +26,7 @@ pub both_true : (a b : Bool) → pick a b false ≡ true → (a ≡ true) × (b 
 both_true true b e = (refl, e)
 both_true false b e = absurd (let z : ◌≡◌ {A = ℕ} 0 1 = cc in omega arith)
 
-pub check-accepted : {A : Type 0} (test : Bool) (number place : ℕ) (rest : Answer A) {a : A} → check_at test number place rest ≡ accepted a → (test ≡ true) × (rest ≡ accepted a)
+pub check-accepted : {A : Type 0} (test : Bool) (number place : ℕ) (rest : Answer A) {a : A} → check_at test number place rest ≡ Ok a → (test ≡ true) × (rest ≡ Ok a)
 unfolding check_at
 check-accepted true number place rest e = (refl, e)
 check-accepted false number place rest e = absurd (let z : ◌≡◌ {A = ℕ} 0 1 = cc in omega arith)
@@ -34,70 +35,70 @@ pub check-passed : {A : Type 0} (test : Bool) (number place : ℕ) (rest : Answe
 unfolding check_at
 check-passed test number place rest e = simp e
 
-pub check-failed : {A : Type 0} (test : Bool) (number place : ℕ) (rest : Answer A) → test ≡ false → check_at test number place rest ≡ refused (refusal_at number place)
+pub check-failed : {A : Type 0} (test : Bool) (number place : ℕ) (rest : Answer A) → test ≡ false → check_at test number place rest ≡ Err (refusal_at number place)
 unfolding check_at
 check-failed test number place rest e = simp e
 
-pub on_accepted-refused : {A B : Type 0} (r : Answer A) (f : A → Answer B) {x : Refusal} → r ≡ refused x → on_accepted r f ≡ refused x
+pub on_accepted-refused : {A B : Type 0} (r : Answer A) (f : A → Answer B) {x : Refusal} → r ≡ Err x → on_accepted r f ≡ Err x
 unfolding on_accepted
 on_accepted-refused r f e = ap (λ x. on_accepted x f) e
 
-pub on_accepted-accepted : {A B : Type 0} (r : Answer A) (f : A → Answer B) {b : B} → on_accepted r f ≡ accepted b → (a : A) × (r ≡ accepted a) × (f a ≡ accepted b)
+pub on_accepted-accepted : {A B : Type 0} (r : Answer A) (f : A → Answer B) {b : B} → on_accepted r f ≡ Ok b → (a : A) × (r ≡ Ok a) × (f a ≡ Ok b)
 unfolding on_accepted
-on_accepted-accepted (accepted a) f e = (a, refl, e)
-on_accepted-accepted (refused x) f e = absurd (let z : ◌≡◌ {A = ℕ} 0 1 = cc in omega arith)
+on_accepted-accepted (Ok a) f e = (a, refl, e)
+on_accepted-accepted (Err x) f e = absurd (let z : ◌≡◌ {A = ℕ} 0 1 = cc in omega arith)
 
-pub on_accepted-passed : {A B : Type 0} (r : Answer A) (f : A → Answer B) {a : A} → r ≡ accepted a → on_accepted r f ≡ f a
+pub on_accepted-passed : {A B : Type 0} (r : Answer A) (f : A → Answer B) {a : A} → r ≡ Ok a → on_accepted r f ≡ f a
 unfolding on_accepted
 on_accepted-passed r f e = ap (λ x. on_accepted x f) e
 
-pub told-accepted : {A : Type 0} (base : ℕ) (r : Read A) {a : A} → told base r ≡ accepted a → (n : ℕ) × (r ≡ got a n)
+pub told-accepted : {A : Type 0} (base : ℕ) (r : Read A) {a : A} → told base r ≡ Ok a → (n : ℕ) × (r ≡ got a n)
 unfolding told
 told-accepted base (got b n) e = (n, ap (λ x. got x n) (cc))
 told-accepted base (bad x) e = absurd (let z : ◌≡◌ {A = ℕ} 0 1 = cc in omega arith)
 
-pub told-refused : {A : Type 0} (base : ℕ) (r : Read A) {y : Refusal} → told base r ≡ refused y → (x : Refusal) × (r ≡ bad x) × (moved_by base x ≡ y)
+pub told-refused : {A : Type 0} (base : ℕ) (r : Read A) {y : Refusal} → told base r ≡ Err y → (x : Refusal) × (r ≡ bad x) × (moved_by base x ≡ y)
 unfolding told
 told-refused base (got b n) e = absurd (let z : ◌≡◌ {A = ℕ} 0 1 = cc in omega arith)
 told-refused base (bad x) e = (x, refl, cc)
 
-pub told-bad : {A : Type 0} (base : ℕ) (r : Read A) {x : Refusal} → r ≡ bad x → told base r ≡ refused (moved_by base x)
+pub told-bad : {A : Type 0} (base : ℕ) (r : Read A) {x : Refusal} → r ≡ bad x → told base r ≡ Err (moved_by base x)
 unfolding told
 told-bad base r e = ap (told base) e
 
 -- what is read from the input's start
-pub told-whole : {A : Type 0} (r : Read A) {x : Refusal} → r ≡ bad x → told 0 r ≡ refused x
-told-whole r {x} e = told-bad 0 r e ∙ ap (λ (n : ℕ). refused (record { number = x.number; index = x.index; place = n })) (zero-add x.place)
+pub told-whole : {A : Type 0} (r : Read A) {x : Refusal} → r ≡ bad x → told 0 r ≡ Err x
+told-whole r {x} e = told-bad 0 r e ∙ ap (λ (n : ℕ). Err (record { number = x.number; index = x.index; place = n })) (zero-add x.place)
 
-pub told-got : {A : Type 0} (base : ℕ) (r : Read A) {a : A} {n : ℕ} → r ≡ got a n → told base r ≡ accepted a
+pub told-got : {A : Type 0} (base : ℕ) (r : Read A) {a : A} {n : ℕ} → r ≡ got a n → told base r ≡ Ok a
 unfolding told
 told-got base r e = ap (told base) e
 
-pub from-accepted : {A : Type 0} (base : ℕ) (r : Answer A) {a : A} → from base r ≡ accepted a → r ≡ accepted a
+pub from-accepted : {A : Type 0} (base : ℕ) (r : Answer A) {a : A} → from base r ≡ Ok a → r ≡ Ok a
 unfolding from
-from-accepted base (accepted b) e = e
-from-accepted base (refused x) e = absurd (let z : ◌≡◌ {A = ℕ} 0 1 = cc in omega arith)
+from-accepted base (Ok b) e = e
+from-accepted base (Err x) e = absurd (let z : ◌≡◌ {A = ℕ} 0 1 = cc in omega arith)
 
 -- what starts with the input
 pub from_start : {A : Type 0} (r : Answer A) → from 0 r ≡ r
 unfolding from
-from_start (accepted a) = refl
-from_start (refused x) = ap (λ (n : ℕ). refused (record { number = x.number; index = x.index; place = n })) (zero-add x.place)
+from_start (Ok a) = refl
+from_start (Err x) = ap (λ (n : ℕ). Err (record { number = x.number; index = x.index; place = n })) (zero-add x.place)
 
-pub from-passed : {A : Type 0} (base : ℕ) (r : Answer A) {a : A} → r ≡ accepted a → from base r ≡ accepted a
+pub from-passed : {A : Type 0} (base : ℕ) (r : Answer A) {a : A} → r ≡ Ok a → from base r ≡ Ok a
 unfolding from
 from-passed base r e = ap (from base) e
 
-pub from-refused : {A : Type 0} (base : ℕ) (r : Answer A) {x : Refusal} → r ≡ refused x → from base r ≡ refused (moved_by base x)
+pub from-refused : {A : Type 0} (base : ℕ) (r : Answer A) {x : Refusal} → r ≡ Err x → from base r ≡ Err (moved_by base x)
 unfolding from
 from-refused base r e = ap (from base) e
 
-pub unplaced-accepted : {A : Type 0} (r : Answer A) {a : A} → unplaced r ≡ accepted a → r ≡ accepted a
+pub unplaced-accepted : {A : Type 0} (r : Answer A) {a : A} → unplaced r ≡ Ok a → r ≡ Ok a
 unfolding unplaced
-unplaced-accepted (accepted b) e = e
-unplaced-accepted (refused x) e = absurd (let z : ◌≡◌ {A = ℕ} 0 1 = cc in omega arith)
+unplaced-accepted (Ok b) e = e
+unplaced-accepted (Err x) e = absurd (let z : ◌≡◌ {A = ℕ} 0 1 = cc in omega arith)
 
-pub unplaced-passed : {A : Type 0} (r : Answer A) {a : A} → r ≡ accepted a → unplaced r ≡ accepted a
+pub unplaced-passed : {A : Type 0} (r : Answer A) {a : A} → r ≡ Ok a → unplaced r ≡ Ok a
 unfolding unplaced
 unplaced-passed r e = ap unplaced e
 

@@ -1,4 +1,5 @@
 -- Digits read one after another: what one byte gives, and the number that they give with those before them.
+use Rattle.std.specs.Prelude.{Err, Ok}
 use Prim.Native.Nat.{ℕ, suc, ◌+◌, ◌-◌, ◌*◌, ◌^◌, ◌≤◌, ◌<◌}
 use native.Mathlib.Nat.{pow-suc, pow-succ', pow-le-pow_right, mul_assoc, mul_comm, one-le-pow, mul-le-mul_right, le-mul_of_pos_right, le_trans}
 use native.Mathlib.Omega.{arith}
@@ -7,7 +8,6 @@ use mathlib.Core.Bool.{Bool, true, false}
 use mathlib.Core.List.{List, ◌∷◌}
 use lib.ListN.{length, get_or}
 use Rattle.wire.specs.declared.Refusal.{Refusal}
-use Rattle.wire.specs.declared.Decimal.TheVariants.{Of, Unread}
 use Rattle.wire.specs.Numbers.{Bytes, value_from}
 use Rattle.wire.specs.Reading.{Read, got, bad, numbered, Reader, and_then, ◌>>=◌, ◌>>◌, pure, here, require, number, repeat}
 use Rattle.wire.proofs.Exactness.{here-got, require-got, Exact}
@@ -15,21 +15,23 @@ use Rattle.wire.proofs.Shifts.{number-one}
 use Rattle.wire.proofs.Walking.{short, require-bad, number-there, number-missing}
 
 -- what the code's number tells of the reader that it follows
-pub numbered_of : (r : Read ℕ) {n next : ℕ} → numbered r ≡ Of n next → r ≡ got n next
+pub numbered_of : (r : Read ℕ) {n next : ℕ} → numbered r ≡ Ok (n, next) → r ≡ got n next
 unfolding numbered
-numbered_of (got n k) e = cc
+numbered_of (got a k) {n} {next} e =
+    let pair : ◌≡◌ {A = ℕ × ℕ} (a, k) (n, next) = cc in
+    ap (λ (p : ℕ × ℕ). got p.0 p.1) pair
 numbered_of (bad x) e = absurd (let z : ◌≡◌ {A = ℕ} 0 1 = cc in omega arith)
 
-pub numbered-unread : (r : Read ℕ) {x : Refusal} → numbered r ≡ Unread x → r ≡ bad x
+pub numbered-unread : (r : Read ℕ) {x : Refusal} → numbered r ≡ Err x → r ≡ bad x
 unfolding numbered
 numbered-unread (got n k) e = absurd (let z : ◌≡◌ {A = ℕ} 0 1 = cc in omega arith)
 numbered-unread (bad y) e = cc
 
-pub numbered-got : (r : Read ℕ) {n next : ℕ} → r ≡ got n next → numbered r ≡ Of n next
+pub numbered-got : (r : Read ℕ) {n next : ℕ} → r ≡ got n next → numbered r ≡ Ok (n, next)
 unfolding numbered
 numbered-got r e = ap numbered e
 
-pub numbered-bad : (r : Read ℕ) {x : Refusal} → r ≡ bad x → numbered r ≡ Unread x
+pub numbered-bad : (r : Read ℕ) {x : Refusal} → r ≡ bad x → numbered r ≡ Err x
 unfolding numbered
 numbered-bad r e = ap numbered e
 
@@ -42,14 +44,14 @@ one_digit test digit = do
   pure (digit c)
 
 module _ (test : ℕ → Bool) (digit : ℕ → ℕ) (s : List ℕ) (at : ℕ) where
-  pub digit-missing : length s < at + 1 → numbered (one_digit test digit s at) ≡ Unread (short at)
+  pub digit-missing : length s < at + 1 → numbered (one_digit test digit s at) ≡ Err (short at)
   digit-missing h = numbered-bad _ (here-got _ s at ∙ number-missing _ s at 1 h)
 
-  pub digit-wrong : at + 1 ≤ length s → test (get_or s at 0) ≡ false → numbered (one_digit test digit s at) ≡ Unread (record { number = 15; index = 0; place = at })
+  pub digit-wrong : at + 1 ≤ length s → test (get_or s at 0) ≡ false → numbered (one_digit test digit s at) ≡ Err (record { number = 15; index = 0; place = at })
   digit-wrong h e =
       numbered-bad _ (here-got _ s at ∙ number-there _ s at 1 h ∙ require-bad _ 15 at _ s (at + 1) (ap test (number-one s at) ∙ e))
 
-  pub digit-right : at + 1 ≤ length s → test (get_or s at 0) ≡ true → numbered (one_digit test digit s at) ≡ Of (digit (get_or s at 0)) (at + 1)
+  pub digit-right : at + 1 ≤ length s → test (get_or s at 0) ≡ true → numbered (one_digit test digit s at) ≡ Ok ((digit (get_or s at 0)), (at + 1))
   unfolding pure
   digit-right h e =
       numbered-got _

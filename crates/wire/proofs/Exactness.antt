@@ -1,5 +1,5 @@
--- What readers read is what stands there, and what stands there is read: `Exact m write Ok` says that the reader `m`
--- gives `a` exactly where the bytes `write a` stand and `a` keeps the rule `Ok`.
+-- What readers read is what stands there, and what stands there is read: `Exact m write Rules` says that the reader `m`
+-- gives `a` exactly where the bytes `write a` stand and `a` keeps the rule `Rules`.
 use Prim.Native.Nat.{ℕ, zero, suc, ◌+◌, ◌^◌, ◌≤◌, ◌<◌}
 use native.Mathlib.Nat.{add-zero}
 use native.Mathlib.Omega.{arith}
@@ -91,9 +91,9 @@ require-got test number place n s at e = next-got (require test number place) n 
 
 -- ---- exact readers
 
-pub record Exact {A : Type 0} (m : Reader A) (write : A → List ℕ) (Ok : A → Type 0) : Type 0 where
-  pub sound : (s : List ℕ) (at : ℕ) → Bytes s → at ≤ length s → Meets (m s at) (λ a next. Between s at (write a) next × Ok a)
-  pub complete : (s : List ℕ) (at : ℕ) (a : A) (next : ℕ) → Ok a → Between s at (write a) next → m s at ≡ got a next
+pub record Exact {A : Type 0} (m : Reader A) (write : A → List ℕ) (Rules : A → Type 0) : Type 0 where
+  pub sound : (s : List ℕ) (at : ℕ) → Bytes s → at ≤ length s → Meets (m s at) (λ a next. Between s at (write a) next × Rules a)
+  pub complete : (s : List ℕ) (at : ℕ) (a : A) (next : ℕ) → Rules a → Between s at (write a) next → m s at ≡ got a next
 
 span-meets : {A : Type 0} {Q : A → ℕ → Type 0} (n : ℕ) (s : List ℕ) (at : ℕ) (f : ℕ → ℕ → Read A)
     → (at + n ≤ length s → Meets (f at (at + n)) Q) → Meets (and_then (span n s at) f) Q
@@ -145,8 +145,8 @@ up_to-exact w most refusal =
           ∙ require-got (leb n most) refusal at _ s next (le-leb n most h.1);
     }
 
-pub repeat-sound : {A : Type 0} {m : Reader A} {write : A → List ℕ} {Ok : A → Type 0} → Exact m write Ok → (n : ℕ) (s : List ℕ) (at : ℕ) → Bytes s → at ≤ length s
-    → Meets (repeat n m s at) (λ l next. Between s at (joined write l) next × ((length l ≡ n) × All Ok l))
+pub repeat-sound : {A : Type 0} {m : Reader A} {write : A → List ℕ} {Rules : A → Type 0} → Exact m write Rules → (n : ℕ) (s : List ℕ) (at : ℕ) → Bytes s → at ≤ length s
+    → Meets (repeat n m s at) (λ l next. Between s at (joined write l) next × ((length l ≡ n) × All Rules l))
 unfolding repeat
 repeat-sound x zero s at h i = meets-pure [] s at (between-nil s at i, (refl, tt))
 repeat-sound {m = m} x (suc n) s at h i =
@@ -154,8 +154,8 @@ repeat-sound {m = m} x (suc n) s at h i =
     meets-then (repeat n m) _ s mid (repeat-sound x n s mid h k.0.inside) (λ l next r.
     meets-pure (a ∷ l) s next (between_join k.0 r.0, (ap suc r.1.0, (k.1, r.1.1)))))
 
-pub repeat-complete : {A : Type 0} {m : Reader A} {write : A → List ℕ} {Ok : A → Type 0} → Exact m write Ok → (l : List A) (s : List ℕ) (at next : ℕ)
-    → All Ok l → Between s at (joined write l) next → repeat (length l) m s at ≡ got l next
+pub repeat-complete : {A : Type 0} {m : Reader A} {write : A → List ℕ} {Rules : A → Type 0} → Exact m write Rules → (l : List A) (s : List ℕ) (at next : ℕ)
+    → All Rules l → Between s at (joined write l) next → repeat (length l) m s at ≡ got l next
 unfolding repeat pure
 repeat-complete x [] s at next h f = ap (got []) (sym (f.size ∙ add-zero at))
 repeat-complete {m = m} {write = write} x (a ∷ l) s at next h f =

@@ -10,9 +10,10 @@ pub mod Shifts
 pub mod Complement
 pub mod Walking
 pub mod DigitLaws
-pub mod ImeiWord
+pub mod TextNumber
 pub mod BufferLaws
 pub mod Storing
 pub mod LimitLaws
 pub mod Locality
 pub mod ImeiLocality
+pub mod Passing

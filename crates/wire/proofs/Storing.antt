@@ -4,7 +4,8 @@ use native.Mathlib.Nat.{add-zero, add-suc, suc-add, not-suc-le-zero}
 use native.Mathlib.Omega.{arith}
 use mathlib.Core.Path.{◌≡◌, refl, sym, ap, ap₂, ◌∙◌}
 use mathlib.Core.List.{List, [], ◌∷◌, ◌++◌, append_assoc}
-use lib.ListN.{length, take, drop, set, take-append-drop}
+use Rattle.std.proofs.Common.{drop-cons}
+use lib.ListN.{length, take, drop, set, get_or, take-append-drop}
 use lib.Seq.{sets, sets-eq, set_comm, drop-set-lt, drop_at, length-take-le}
 use Rattle.wire.specs.Numbers.{digits, be, le}
 use Rattle.wire.proofs.Widths.{length_digits}
@@ -40,6 +41,9 @@ pub le_left : (l : List ℕ) (at w n : ℕ) → 0 < w → sets l at (le w n) ≡
 unfolding le
 le_left l at zero n h = absurd (not-suc-le-zero h)
 le_left l at (suc w) n h = let left : w ≡ suc w - 1 = omega arith in ap (λ (k : ℕ). sets (set l at (n % 256)) (suc at) (le k (n / 256))) left
+
+pub drop-left : (l : List ℕ) (at i : ℕ) (b : List ℕ) → i < length b → sets l at (drop i b) ≡ sets (set l at (get_or b i 0)) (suc at) (drop (suc i) b)
+drop-left l at i b h = ap (sets l at) (drop-cons b i 0 h)
 
 -- ---- what a block leaves
 

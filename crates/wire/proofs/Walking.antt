@@ -1,4 +1,5 @@
 -- Which way a walk goes at a field: on behind it where its bytes are there and it keeps its rule, else it stops.
+use Rattle.std.specs.Prelude.{Err, Ok}
 use Prim.Native.Nat.{ℕ, ◌+◌, ◌≤◌, ◌<◌}
 use native.Mathlib.Omega.{arith}
 use mathlib.Core.Path.{◌≡◌, ap, ◌∙◌}
@@ -8,7 +9,6 @@ use lib.ListN.{length, take, drop}
 use lib.Dec.{leb}
 use borrow.Author.Tests.{le-leb, lt-leb}
 use Rattle.wire.specs.declared.Refusal.{Refusal}
-use Rattle.wire.specs.declared.Walk.TheVariants.{On, Stopped}
 use Rattle.wire.specs.Numbers.{number_at}
 use Rattle.wire.specs.Reading.{Read, got, bad, walked, Reader, and_then, ◌>>=◌, ◌>>◌, pure, require, span, number, bytes, up_to}
 use Rattle.wire.proofs.Exactness.{then-got, here-got, require-got}
@@ -71,20 +71,20 @@ module _ {B : Type 0} (f : ℕ → Reader B) (s : List ℕ) (at : ℕ) where
       (here-got _ s at ∙ then-got (number w) _ s at (number-got w s at h) ∙ require-bad (leb (number_at s at w) most) refusal at _ s (at + w) (lt-leb _ _ k))
 
 -- what a walk tells of the reader that it follows
-pub walked_on : {A : Type 0} (r : Read A) {next : ℕ} → walked r ≡ On next → (a : A) × (r ≡ got a next)
+pub walked_on : {A : Type 0} (r : Read A) {next : ℕ} → walked r ≡ Ok next → (a : A) × (r ≡ got a next)
 unfolding walked
 walked_on (got a n) e = (a, ap (got a) (cc))
 walked_on (bad x) e = absurd (let z : ◌≡◌ {A = ℕ} 0 1 = cc in omega arith)
 
-pub walked-stopped : {A : Type 0} (r : Read A) {x : Refusal} → walked r ≡ Stopped x → r ≡ bad x
+pub walked-stopped : {A : Type 0} (r : Read A) {x : Refusal} → walked r ≡ Err x → r ≡ bad x
 unfolding walked
 walked-stopped (got a n) e = absurd (let z : ◌≡◌ {A = ℕ} 0 1 = cc in omega arith)
 walked-stopped (bad y) e = ap bad (cc)
 
-pub walked-got : {A : Type 0} (r : Read A) {a : A} {next : ℕ} → r ≡ got a next → walked r ≡ On next
+pub walked-got : {A : Type 0} (r : Read A) {a : A} {next : ℕ} → r ≡ got a next → walked r ≡ Ok next
 unfolding walked
 walked-got r e = ap walked e
 
-pub walked-bad : {A : Type 0} (r : Read A) {x : Refusal} → r ≡ bad x → walked r ≡ Stopped x
+pub walked-bad : {A : Type 0} (r : Read A) {x : Refusal} → r ≡ bad x → walked r ≡ Err x
 unfolding walked
 walked-bad r e = ap walked e

@@ -1,8 +1,8 @@
 -- An IMEI: a number of 15 decimal digits, as text (login, UDP) or two digits a byte (codec 14).
-use Rattle.std.specs.Prelude.{ℕ, zero, suc, ◌+◌, ◌-◌, ◌*◌, ◌/◌, ◌%◌, ◌^◌, false, List, [], ◌∷◌, eqb, leb}
+use Rattle.std.specs.Prelude.{ℕ, zero, suc, ◌+◌, ◌-◌, ◌*◌, ◌/◌, ◌%◌, false, List, [], ◌∷◌, eqb, leb}
 use Rattle.wire.specs.Numbers.{be, digits, value_from, pick}
 use Rattle.wire.specs.Sequences.{fields, joined}
-use Rattle.wire.specs.Reading.{Read, got, bad, Reader, ◌>>=◌, ◌>>◌, pure, here, require, number, repeat}
+use Rattle.wire.specs.Reading.{Reader, ◌>>=◌, ◌>>◌, pure, here, require, number, repeat}
 
 -- ---- as text: the length 15 in two bytes, then 15 ASCII digits
 
@@ -27,10 +27,6 @@ read_imei = do
   require (eqb size 15) 15 start
   ds ← repeat 15 text_digit
   pure (value_from 10 0 ds)
-
--- what the code's word says of the text from `at` to `next`: the IMEI; or 15, and from 10^15 on how far behind `at` it broke
-unfoldable pub imei_of : ℕ → ℕ → ℕ → Read ℕ
-imei_of at next word = pick (leb (suc word) (10 ^ 15)) (got word next) (bad (record { number = 15; index = 0; place = at + (word - 10 ^ 15) }))
 
 -- ---- packed: two digits a byte, the higher first, and the first digit of all is 0
 

@@ -1,10 +1,6 @@
 -- Readers: how a layout is read, field by field, from a list of bytes at an offset.
-use Rattle.std.specs.Prelude.{ℕ, zero, suc, ◌+◌, Bool, List, [], ◌∷◌, length, take, drop, leb}
+use Rattle.std.specs.Prelude.{ℕ, zero, suc, ◌+◌, Bool, List, [], ◌∷◌, length, take, drop, leb, Result, Ok, Err}
 use Rattle.wire.specs.declared.Refusal.{Refusal}
-use Rattle.wire.specs.declared.Walk.{Walk}
-use Rattle.wire.specs.declared.Walk.TheVariants.{On, Stopped}
-use Rattle.wire.specs.declared.Decimal.{Decimal}
-use Rattle.wire.specs.declared.Decimal.TheVariants.{Of, Unread}
 use Rattle.wire.specs.Numbers.{number_at, pick}
 
 -- what was read and the offset behind it, or why not
@@ -13,14 +9,14 @@ pub data Read (A : Type 0) : Type 0 where
   bad : Refusal → Read A
 
 -- where the walk goes on, or why it stopped
-unfoldable pub walked : {A : Type 0} → Read A → Walk
-walked (got a next) = On next
-walked (bad x) = Stopped x
+unfoldable pub walked : {A : Type 0} → Read A → Result ℕ Refusal
+walked (got a next) = Ok next
+walked (bad x) = Err x
 
 -- the number that was read, or why it was not
-unfoldable pub numbered : Read ℕ → Decimal
-numbered (got n next) = Of n next
-numbered (bad x) = Unread x
+unfoldable pub numbered : Read ℕ → Result (ℕ × ℕ) Refusal
+numbered (got n next) = Ok (n, next)
+numbered (bad x) = Err x
 
 -- a reader takes the bytes and the offset to read at
 abbrev pub Reader : Type 0 → Type 0

@@ -7,11 +7,9 @@ ghost use Rattle.std.specs.Char.{is_ascii_digit};
 ghost use Rattle.std.proofs.lemmas.List.Edits.{sets};
 ghost use Rattle.wire.specs.Numbers.{number_at, little_at, signed, value_from, be, le};
 ghost use Rattle.wire.specs.Limits.{limits_of};
+ghost use Rattle.wire.specs.Answers.{refusal_at, refusal, told};
 ghost use Rattle.wire.specs.Reading.{numbered, ◌>>=◌ as bind, pure, repeat};
-ghost use Rattle.wire.specs.Imei.{imei_of, text_digit, read_imei, pair_up_to, read_packed};
-
-// In a word that holds an IMEI: there is none. An IMEI is below it; what is above it is the place of the fault.
-pub const NO_IMEI: u64 = 1_000_000_000_000_000;
+ghost use Rattle.wire.specs.Imei.{text_digit, read_imei, pair_up_to, read_packed};
 
 // The most bytes of a TCP packet, of a datagram, and of a record.
 #[derive(Clone, Copy)]
@@ -30,7 +28,7 @@ pub const LARGEST_FORM: usize = 4 * LARGEST;
 // A table of contents has at most a word for every two bytes of its packet.
 pub const LARGEST_CONTENTS: usize = LARGEST / 2;
 
-// The limits of a family of unit; of one that is not known, none is above 0.
+// The limits of a family of unit; of one that is not known, none is above 0. A family is a number, as C gives it, and `FamiliesKept` says what every other number gets.
 pub fn limits_of(family: usize) -> Limits
     ensures { result ≡ limits_of family }
 {
@@ -53,33 +51,12 @@ pub fn limits_of(family: usize) -> Limits
     }
 }
 
-// Why an input is refused: the number of document 01, the record's index, and the place, which is the offset at which the offending field starts (request 6).
+// Why an input is refused: the number of document 01, the record's index, and the place, which is the offset at which the offending field starts (request 6). A number and no enum: C's answers have it, and the definitions and theorems (`FamiliesKept`, the tables of claims) speak of it as a number.
 #[derive(Clone, Copy)]
 pub struct Refusal {
     pub number: usize,
     pub index: usize,
     pub place: usize,
-}
-
-// A walk goes on at an offset, or has stopped.
-#[derive(Clone, Copy)]
-pub enum Walk {
-    On(usize),
-    Stopped(Refusal),
-}
-
-// A number that was read and the offset behind it, or why it was not.
-#[derive(Clone, Copy)]
-pub enum Decimal {
-    Of(u64, usize),
-    Unread(Refusal),
-}
-
-// How many bytes were written (of a table of contents: words), or why none were.
-#[derive(Clone, Copy)]
-pub enum Written {
-    Bytes(usize),
-    Refused(Refusal),
 }
 
 pub fn number(s: &[u8], at: usize, w: usize) -> u64
@@ -165,14 +142,24 @@ pub fn signed32(x: u32) -> i32
     x.cast_signed()
 }
 
-fn unread(number: usize, place: usize) -> Decimal
-    ensures { result ≡ Decimal.Unread (record { number = number; index = 0; place = place }) }
-{
-    Decimal::Unread(Refusal {
-        number,
-        index: 0,
-        place,
-    })
+impl Refusal {
+    // The refusal with this number of the field at this place; no record's.
+    pub fn at(number: usize, place: usize) -> Self
+        ensures { result ≡ refusal_at number place }
+    {
+        Self {
+            number,
+            index: 0,
+            place,
+        }
+    }
+
+    // The same of no field.
+    pub fn of(number: usize) -> Self
+        ensures { result ≡ refusal number }
+    {
+        Self::at(number, 0)
+    }
 }
 
 // How many digits come before the first byte that is none.
@@ -182,80 +169,73 @@ fn leading_digits(text: &[u8]) -> usize
     text.iter().take_while(|b| b.is_ascii_digit()).count()
 }
 
-// The value of `n` ASCII digits, which are there, `skip` bytes behind `at`. A byte less 48 is a digit where that is below 10: one test for both ends. The place of one that is none is looked for anew: kept along, it costs a jump for each digit.
-pub fn text_number(n: usize, s: &[u8], at: usize, skip: usize) -> u64
-    requires { (n ≤ 15) × (skip ≤ 2) × (at + skip + n ≤ length s.now) }
-    ensures { imei_of at (at + skip + n) result ≡ bind (repeat n text_digit) (λ ds. pure (value_from 10 0 ds)) s.now (at + skip) }
+// The value of the `n` ASCII digits from `at` on; their bytes are there. A byte less 48 is a digit where that is below 10: one test for both ends. The place of one that is none is looked for anew: kept along, it costs a jump for each digit.
+pub fn text_number(n: usize, s: &[u8], at: usize) -> Result<u64, Refusal>
+    requires { (n ≤ 15) × (at + n ≤ length s.now) }
+    ensures { result ≡ told 0 (bind (repeat n text_digit) (λ ds. pure (value_from 10 0 ds)) s.now at) }
 {
-    let text = &s[at + skip..at + skip + n];
+    let text = &s[at..at + n];
     let mut value: u64 = 0;
     for b in text {
         let d = b.wrapping_sub(b'0');
         if 9 < d {
-            return NO_IMEI + ((skip + leading_digits(text)) as u64);
+            return Err(Refusal::at(15, at + leading_digits(text)));
         }
         value = value * 10 + u64::from(d);
     }
-    value
+    Ok(value)
 }
 
 // An IMEI as text: its length, 15, and its digits. Its 17 bytes are there.
-pub fn read_imei(s: &[u8], at: usize) -> u64
+pub fn read_imei(s: &[u8], at: usize) -> Result<u64, Refusal>
     requires { at + 17 ≤ length s.now }
-    ensures { imei_of at (at + 2 + 15) result ≡ read_imei s.now at }
+    ensures { result ≡ told 0 (read_imei s.now at) }
 {
-    let size = be16(s, at);
-    if size != 15 {
-        return NO_IMEI;
+    if be16(s, at) != 15 {
+        return Err(Refusal::at(15, at));
     }
-    text_number(15, s, at, 2)
+    text_number(15, s, at + 2)
 }
 
 // Two digits in a byte, the first at most `most`.
-fn pair_up_to(most: u8, s: &[u8], at: usize) -> Decimal
+fn pair_up_to(most: u8, s: &[u8], at: usize) -> Result<(u64, usize), Refusal>
     requires { at ≤ length s.now }
     ensures { result ≡ numbered (pair_up_to most s.now at) }
 {
     let Some(&b) = s.get(at) else {
-        return unread(8, at);
+        return Err(Refusal::at(8, at));
     };
     if most < b / 16 || 9 < b % 16 {
-        return unread(15, at);
+        return Err(Refusal::at(15, at));
     }
-    Decimal::Of(u64::from(b / 16 * 10 + b % 16), at + 1)
+    Ok((u64::from(b / 16 * 10 + b % 16), at + 1))
 }
 
 // `n` pairs of digits behind the digits that gave `first`.
-fn pairs_from(first: u64, n: usize, s: &[u8], at: usize) -> Decimal
+fn pairs_from(first: u64, n: usize, s: &[u8], at: usize) -> Result<(u64, usize), Refusal>
     requires { (first < 100) × (n < 8) × (at ≤ length s.now) }
     ensures { result ≡ numbered (bind (repeat n (pair_up_to 9)) (λ ds. pure (value_from 100 first ds)) s.now at) }
 {
     let mut value = first;
     let mut next = at;
     for _i in 0..n {
-        match pair_up_to(9, s, next) {
-            Decimal::Of(d, to) => {
-                value = value * 100 + d;
-                next = to;
-            }
-            Decimal::Unread(x) => return Decimal::Unread(x),
-        }
+        let (pair, behind) = pair_up_to(9, s, next)?;
+        value = value * 100 + pair;
+        next = behind;
     }
-    Decimal::Of(value, next)
+    Ok((value, next))
 }
 
 // An IMEI in `w` bytes, two digits a byte.
-pub fn read_packed(s: &[u8], at: usize, w: usize) -> Decimal
+pub fn read_packed(s: &[u8], at: usize, w: usize) -> Result<(u64, usize), Refusal>
     requires { (at ≤ length s.now) × (w ≤ 8) }
     ensures { result ≡ numbered (read_packed w s.now at) }
 {
     if w == 0 {
-        return Decimal::Of(0, at);
+        return Ok((0, at));
     }
-    match pair_up_to(0, s, at) {
-        Decimal::Of(first, next) => pairs_from(first, w - 1, s, next),
-        Decimal::Unread(x) => Decimal::Unread(x),
-    }
+    let (first, next) = pair_up_to(0, s, at)?;
+    pairs_from(first, w - 1, s, next)
 }
 
 // Stores the `w` lowest bytes of `n`, the highest first. A loop and not `to_be_bytes`: any width is allowed, more than the 8 bytes of a `u64` too.
@@ -282,10 +262,12 @@ pub fn put_le(out: &mut [u8], at: usize, w: usize, n: u64)
     }
 }
 
-// Stores the bytes of `src`.
+// Stores the bytes of `src`. A `for` and no `copy_from_slice`: with its call for each value, a form takes up to a fifth longer (measured).
 pub fn put_bytes(out: &mut [u8], at: usize, src: &[u8])
     requires { at + length src.now ≤ length out.old }
     ensures { out.new ≡ sets out.old at src.now }
 {
-    out[at..at + src.len()].copy_from_slice(src);
+    for i in 0..src.len() {
+        out[at + i] = src[i];
+    }
 }

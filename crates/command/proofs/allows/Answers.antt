@@ -4,7 +4,8 @@ use mathlib.Core.Path.{◌≡◌, refl}
 use mathlib.Core.Bool.{Bool, true, false}
 use mathlib.Core.List.{[], ◌∷◌}
 use lib.Dec.{eqb}
-use borrow.Author.Tests.{eq-eqb, ne_eqb}
+use native.Mathlib.Omega.{arith}
+use borrow.Author.Tests.{eq-eqb, ne_eqb, eqb-false}
 use Rattle.wire.specs.Numbers.{pick}
 use Rattle.command.specs.Layouts.{types, member}
 use Rattle.command.proofs.allows.Goals as goal
@@ -18,18 +19,23 @@ last kind false = either (eqb kind 0x11)
     either true = refl
     either false = refl
 
-pub returns-then-kind-eq5 : goal.returns-then-kind-eq5
+pub returns-in-5 : goal.returns-in-5
 unfolding types
-returns-then-kind-eq5 c = simp (eq-eqb _ _ c.if-kind-eq5.true)
+returns-in-5 c = either (eqb c.args.kind 5) (eqb c.args.kind 6) refl refl
+  where
+    either : (x y : Bool) → eqb c.args.kind 5 ≡ x → eqb c.args.kind 6 ≡ y → true ≡ pick x true (pick y true (member c.args.kind (pick c.args.l.mismatch (0x11 ∷ []) [])))
+    either true y e f = refl
+    either false true e f = refl
+    either false false e f = absurd (omega (arith, eqb-false c.args.kind 5 e, eqb-false c.args.kind 6 f))
 
-pub returns-then-kind-eq6 : goal.returns-then-kind-eq6
+pub returns-in-17 : goal.returns-in-17
 unfolding types
-returns-then-kind-eq6 c = simp (ne_eqb _ _ c.if-kind-eq5.false, eq-eqb _ _ c.if-kind-eq6.true)
+returns-in-17 c = simp (eq-eqb c.args.kind 17 c.in-17.is, ne_eqb c.args.kind 5 (λ e. omega (arith, c.in-17.is, e)), ne_eqb c.args.kind 6 (λ e. omega (arith, c.in-17.is, e)), ← last c.args.kind c.args.l.mismatch)
 
-pub returns-then-kind-eq17 : goal.returns-then-kind-eq17
+pub returns-in_default : goal.returns-in_default
 unfolding types
-returns-then-kind-eq17 c = simp (ne_eqb _ _ c.if-kind-eq5.false, ne_eqb _ _ c.if-kind-eq6.false, ← last c.args.kind c.args.l.mismatch, eq-eqb _ _ c.if-kind-eq17.true)
+returns-in_default c = simp (← last c.args.kind c.args.l.mismatch, ne_eqb c.args.kind 5 (λ e. omega arith), ne_eqb c.args.kind 6 (λ e. omega arith), ne_eqb c.args.kind 17 (λ e. omega arith))
 
-pub returns : goal.returns
+pub returns-in_default-2 : goal.returns-in_default-2
 unfolding types
-returns c = simp (ne_eqb _ _ c.if-kind-eq5.false, ne_eqb _ _ c.if-kind-eq6.false, ← last c.args.kind c.args.l.mismatch, ne_eqb _ _ c.if-kind-eq17.false)
+returns-in_default-2 c = simp (← last c.args.kind c.args.l.mismatch, ne_eqb c.args.kind 5 (λ e. omega arith), ne_eqb c.args.kind 6 (λ e. omega arith), ne_eqb c.args.kind 17 (λ e. omega arith))

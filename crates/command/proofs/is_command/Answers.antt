@@ -1,6 +1,8 @@
 -- Under nine bytes there is no codec, and 0 has no row.
-use mathlib.Core.Path.{◌≡◌, sym, ap, ◌∙◌}
+use mathlib.Core.Path.{◌≡◌, refl, sym, ap, ◌∙◌}
 use mathlib.Core.Bool.{false}
+use Rattle.std.proofs.Common.{Option, Some, None, is_some}
+use Rattle.command.specs.declared.Layout.{Layout}
 use mathlib.Core.List.{List}
 use Prim.Native.Nat.{ℕ, ◌≤◌}
 use lib.ListN.{length, get_or-eq_default}
@@ -15,10 +17,10 @@ short p h = ap (λ (codec : ℕ). is_accepted (layout_of codec)) (get_or-eq_defa
 pub returns-then-p-le8 : goal.returns-then-p-le8
 returns-then-p-le8 c = sym (short c.args.p.now c.if-p-le8.true)
 
-pub returns-in-Of : goal.returns-in-Of
+known : (r : Option Layout) → is_some r ≡ is_accepted (row_as r)
 unfolding is_accepted row_as
-returns-in-Of c = ap is_accepted (ap row_as (sym c.in-Of.is) ∙ c.layout_of.ensures)
+known (Some l) = refl
+known None = refl
 
-pub returns-in-Unknown : goal.returns-in-Unknown
-unfolding is_accepted row_as
-returns-in-Unknown c = ap is_accepted (ap row_as (sym c.in-Unknown.is) ∙ c.layout_of.ensures)
+pub returns : goal.returns
+returns c = c.is_some.ensures ∙ known c.layout_of.result ∙ ap is_accepted c.layout_of.ensures

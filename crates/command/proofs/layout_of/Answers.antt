@@ -1,18 +1,18 @@
--- Below the table, above it, and in it.
+-- In the table, below it, and above it.
 use mathlib.Core.Path.{sym}
 use Rattle.command.specs.Layouts.{row_as}
 use native.Mathlib.Omega.{arith}
 use Rattle.command.proofs.CommandLaws.{row-outside, row_within}
 use Rattle.command.proofs.layout_of.Goals as goal
 
-pub returns-then-codec-lt12 : goal.returns-then-codec-lt12
+pub returns-in-12-to-14 : goal.returns-in-12-to-14
 unfolding row_as
-returns-then-codec-lt12 c = sym (row-outside _ (λ low high. omega (arith, c.if-codec-lt12.true, low)))
+returns-in-12-to-14 c = simp (c.width_in.ensures, c.width_in-in-12-to-14.ensures) (sym (row_within _ (omega arith) (omega arith)))
 
-pub returns-then-codec-gt14 : goal.returns-then-codec-gt14
+pub returns-in_default : goal.returns-in_default
 unfolding row_as
-returns-then-codec-gt14 c = sym (row-outside _ (λ low high. omega (arith, c.if-codec-gt14.true, high)))
+returns-in_default c = sym (row-outside _ (λ low high. omega arith))
 
-pub returns : goal.returns
+pub returns-in_default-2 : goal.returns-in_default-2
 unfolding row_as
-returns c = simp (c.width_in.ensures, c.width_in-2.ensures) (sym (row_within _ c.if-codec-lt12.false c.if-codec-gt14.false))
+returns-in_default-2 c = sym (row-outside _ (λ low high. omega arith))

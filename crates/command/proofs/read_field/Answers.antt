@@ -1,16 +1,17 @@
 -- The row, the quantities, then the walk between them.
+use Rattle.std.specs.Prelude.{Err, Ok}
 use Prim.Native.Nat.{ℕ, ◌-◌}
 use native.Mathlib.Omega.{arith}
 use mathlib.Core.Path.{◌≡◌, sym, ap, ◌∙◌}
 use mathlib.Core.List.{List}
 use lib.ListN.{length, take, drop}
 use Rattle.wire.specs.Envelope.{codec_of, first_count, last_count, inner}
-use Rattle.wire.specs.Answers.{accepted, on_accepted}
+use Rattle.wire.specs.Answers.{on_accepted}
 use Rattle.wire.proofs.Widths.{get_d-bytes}
 use Rattle.wire.proofs.Accepting.{from-refused}
 use Rattle.command.specs.declared.Layout.{Layout}
 use Rattle.command.specs.Walks.{body_as}
-use Rattle.command.specs.Commands.{answered, command_body, command_as}
+use Rattle.command.specs.Commands.{answered, command_body}
 use Rattle.command.specs.Layouts.{layout_of, row_as}
 use Rattle.command.proofs.FieldLaws.{codec-unknown, text-last, first-wrong, last-wrong, field-taken, field-stopped, stopped-inside}
 use Rattle.command.proofs.CommandLaws.{layout-narrow}
@@ -25,48 +26,48 @@ lent l d =
     ap (λ (n : ℕ). body_as (command_body l (length (take n (drop 2 d))) (take n (drop 2 d)) 0)) size
 
 pub returns-then-d-ne1 : goal.returns-then-d-ne1
-unfolding command_as answered on_accepted first_count row_as codec_of
+unfolding answered on_accepted first_count row_as codec_of
 returns-then-d-ne1 c =
-    let found : layout_of (codec_of c.args.d.now) ≡ accepted c.in-Of.l = sym c.layout_of.ensures ∙ ap row_as c.in-Of.is in simp (c.refused-then-d-ne1.ensures, from-refused 8 _ (first-wrong c.args.d.now found c.if-d-ne1.true))
+    let found : layout_of (codec_of c.args.d.now) ≡ Ok c.in-Some.l = sym c.layout_of.ensures ∙ ap row_as c.in-Some.is in simp (c.at-then-d-ne1.ensures, from-refused 8 _ (first-wrong c.args.d.now found c.if-d-ne1.true))
 
 pub returns-then-d-last-ne1 : goal.returns-then-d-last-ne1
-unfolding command_as answered on_accepted first_count last_count row_as codec_of
+unfolding answered on_accepted first_count last_count row_as codec_of
 returns-then-d-last-ne1 c =
-    let found : layout_of (codec_of c.args.d.now) ≡ accepted c.in-Of.l = sym c.layout_of.ensures ∙ ap row_as c.in-Of.is in simp (c.refused-then-d-last-ne1.ensures, from-refused 8 _ (last-wrong c.args.d.now found c.if-d-ne1.false c.if-d-last-ne1.true))
+    let found : layout_of (codec_of c.args.d.now) ≡ Ok c.in-Some.l = sym c.layout_of.ensures ∙ ap row_as c.in-Some.is in simp (c.at-then-d-last-ne1.ensures, from-refused 8 _ (last-wrong c.args.d.now found c.if-d-ne1.false c.if-d-last-ne1.true))
 
 pub read_body-requires : goal.read_body-requires
 unfolding row_as codec_of
 read_body-requires c =
-    let found : layout_of (codec_of c.args.d.now) ≡ accepted c.in-Of.l = sym c.layout_of.ensures ∙ ap row_as c.in-Of.is in layout-narrow _ found
+    let found : layout_of (codec_of c.args.d.now) ≡ Ok c.in-Some.l = sym c.layout_of.ensures ∙ ap row_as c.in-Some.is in layout-narrow _ found
 
 pub overflow_sub-result : goal.overflow_sub-result
 unfolding row_as codec_of
 overflow_sub-result c =
-    let found : layout_of (codec_of c.args.d.now) ≡ accepted c.in-Of.l = sym c.layout_of.ensures ∙ ap row_as c.in-Of.is in omega (arith, text-last c.args.d.now found (get_d-bytes c.args.d.now (λ i. (c.shared_slice_known-1.given i).fits)) c.requires (sym (lent _ c.args.d.now) ∙ sym c.read_body.ensures ∙ c.in-Of-read_body.is))
+    let found : layout_of (codec_of c.args.d.now) ≡ Ok c.in-Some.l = sym c.layout_of.ensures ∙ ap row_as c.in-Some.is in omega (arith, text-last c.args.d.now found (get_d-bytes c.args.d.now (λ i. (c.shared_slice_known-1.given i).fits)) c.requires (sym (lent _ c.args.d.now) ∙ sym c.read_body.ensures ∙ c.in-Ok.is))
 
 -- the fault's place lies in the data field
 pub overflow_add-result : goal.overflow_add-result
 unfolding row_as codec_of
 overflow_add-result c =
-    let found : layout_of (codec_of c.args.d.now) ≡ accepted c.in-Of.l = sym c.layout_of.ensures ∙ ap row_as c.in-Of.is in omega (arith, text-last c.args.d.now found (get_d-bytes c.args.d.now (λ i. (c.shared_slice_known-1.given i).fits)) c.requires (sym (lent _ c.args.d.now) ∙ sym c.read_body.ensures ∙ c.in-Of-read_body.is))
+    let found : layout_of (codec_of c.args.d.now) ≡ Ok c.in-Some.l = sym c.layout_of.ensures ∙ ap row_as c.in-Some.is in omega (arith, text-last c.args.d.now found (get_d-bytes c.args.d.now (λ i. (c.shared_slice_known-1.given i).fits)) c.requires (sym (lent _ c.args.d.now) ∙ sym c.read_body.ensures ∙ c.in-Ok.is))
 
 -- the fault's place lies in the data field
-pub overflow_add-result-in-Stopped : goal.overflow_add-result-in-Stopped
-overflow_add-result-in-Stopped c = omega (arith, stopped-inside _ c.args.d.now c.requires (sym (lent _ c.args.d.now) ∙ sym c.read_body.ensures ∙ c.in-Stopped.is))
+pub overflow_add-result-in-Err : goal.overflow_add-result-in-Err
+overflow_add-result-in-Err c = omega (arith, stopped-inside _ c.args.d.now c.requires (sym (lent _ c.args.d.now) ∙ sym c.read_body.ensures ∙ c.in-Err.is))
 
-pub overflow_add-result-in-Stopped-2 : goal.overflow_add-result-in-Stopped-2
-overflow_add-result-in-Stopped-2 c = omega (arith, stopped-inside _ c.args.d.now c.requires (sym (lent _ c.args.d.now) ∙ sym c.read_body.ensures ∙ c.in-Stopped.is))
+pub overflow_add-result-in-Err-2 : goal.overflow_add-result-in-Err-2
+overflow_add-result-in-Err-2 c = omega (arith, stopped-inside _ c.args.d.now c.requires (sym (lent _ c.args.d.now) ∙ sym c.read_body.ensures ∙ c.in-Err.is))
 
-pub returns-in-Unknown : goal.returns-in-Unknown
-unfolding command_as answered on_accepted codec_of row_as
-returns-in-Unknown c = simp (c.refused.ensures, from-refused 8 _ (codec-unknown c.args.d.now (sym c.layout_of.ensures ∙ ap row_as c.in-Unknown.is)))
+pub returns-in_default : goal.returns-in_default
+unfolding answered on_accepted codec_of row_as
+returns-in_default c = simp (c.at.ensures, from-refused 8 _ (codec-unknown c.args.d.now (sym c.layout_of.ensures ∙ ap row_as c.in_default.is)))
 
-pub returns-in-Of-read_body : goal.returns-in-Of-read_body
-unfolding command_as codec_of first_count last_count row_as
-returns-in-Of-read_body c =
-    let found : layout_of (codec_of c.args.d.now) ≡ accepted c.in-Of.l = sym c.layout_of.ensures ∙ ap row_as c.in-Of.is in sym (field-taken c.args.d.now found c.if-d-ne1.false c.if-d-last-ne1.false (get_d-bytes c.args.d.now (λ i. (c.shared_slice_known-1.given i).fits)) c.requires (sym (lent _ c.args.d.now) ∙ sym c.read_body.ensures ∙ c.in-Of-read_body.is))
+pub returns-in-Ok : goal.returns-in-Ok
+unfolding codec_of first_count last_count row_as
+returns-in-Ok c =
+    let found : layout_of (codec_of c.args.d.now) ≡ Ok c.in-Some.l = sym c.layout_of.ensures ∙ ap row_as c.in-Some.is in sym (field-taken c.args.d.now found c.if-d-ne1.false c.if-d-last-ne1.false (get_d-bytes c.args.d.now (λ i. (c.shared_slice_known-1.given i).fits)) c.requires (sym (lent _ c.args.d.now) ∙ sym c.read_body.ensures ∙ c.in-Ok.is))
 
-pub returns-in-Stopped : goal.returns-in-Stopped
-unfolding command_as first_count last_count row_as codec_of
-returns-in-Stopped c =
-    let found : layout_of (codec_of c.args.d.now) ≡ accepted c.in-Of.l = sym c.layout_of.ensures ∙ ap row_as c.in-Of.is in sym (field-stopped c.args.d.now found c.if-d-ne1.false c.if-d-last-ne1.false (sym (lent _ c.args.d.now) ∙ sym c.read_body.ensures ∙ c.in-Stopped.is))
+pub returns-in-Err : goal.returns-in-Err
+unfolding first_count last_count row_as codec_of
+returns-in-Err c =
+    let found : layout_of (codec_of c.args.d.now) ≡ Ok c.in-Some.l = sym c.layout_of.ensures ∙ ap row_as c.in-Some.is in sym (field-stopped c.args.d.now found c.if-d-ne1.false c.if-d-last-ne1.false (sym (lent _ c.args.d.now) ∙ sym c.read_body.ensures ∙ c.in-Err.is))

@@ -1,4 +1,5 @@
 -- an open connection's family has room for a login, and the state for its packets
+use Rattle.std.specs.Prelude.{Ok}
 use Rattle.connection.specs.State.{Gathered, opened, held_by}
 use Rattle.connection.specs.Feeding.{lent_as, item_as, packet_in}
 use Rattle.connection.proofs.FeedLaws.{by-outcome, shut-into, tight-into, fed-into}
@@ -6,7 +7,6 @@ use Rattle.connection.proofs.OpenLaws.{judged-open, judged-shut, open_is}
 use Rattle.connection.proofs.JudgeLaws.{leaving-none}
 use Rattle.wire.specs.declared.Limits.{Limits}
 use Rattle.wire.specs.Limits.{limits_of, is_known}
-use Rattle.wire.specs.Answers.{accepted}
 use Rattle.wire.proofs.LimitLaws.{Most, limits-most, limits-known}
 use borrow.Author.Tests.{le-leb}
 use mathlib.Core.Path.{◌≡◌, sym, ◌∙◌, refl, subst}
@@ -15,7 +15,7 @@ use Prim.Native.Nat.{ℕ, ◌≤◌}
 use native.Mathlib.Omega.{arith}
 use Rattle.connection.proofs.feed_lent.Goals as goal
 
-roomy : (family : ℕ) {limits : Limits} (g : Gathered) → limits ≡ limits_of family → opened limits 1280 g ≡ accepted (held_by g) → (limits.largest ≤ 1280) × (17 ≤ limits.largest)
+roomy : (family : ℕ) {limits : Limits} (g : Gathered) → limits ≡ limits_of family → opened limits 1280 g ≡ Ok (held_by g) → (limits.largest ≤ 1280) × (17 ≤ limits.largest)
 roomy family {limits} g e o =
     let known = (open_is limits 1280 g o).0.known in
     ((subst Most (sym e) (limits-most family)).packets, subst (λ (l : Limits). is_known l.largest ≡ true → 17 ≤ l.largest) (sym e) (limits-known family) (le-leb 1 limits.largest known))

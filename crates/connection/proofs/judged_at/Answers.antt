@@ -1,9 +1,7 @@
 use Rattle.connection.specs.State.{Gathered, held_by, is_zero, phase_of, opened, count_of, judged_at}
-use Rattle.frame.specs.Frame.{heading}
 use Rattle.stream.specs.Stream.{needed}
 use Rattle.connection.proofs.PaddedLaws.{front-part, rest_part}
-use Rattle.connection.proofs.OpenLaws.{needed-unframed, at_more, at-full, at-refused}
-use Rattle.frame.proofs.FramingLaws.{heading-accepted}
+use Rattle.connection.proofs.OpenLaws.{at_more, at-full, at-refused}
 use Rattle.wire.specs.Answers.{check_at, on_accepted}
 use borrow.Author.Tests.{le-leb, lt-leb, eq-eqb, ne_eqb}
 use lib.ListN.{drop}
@@ -32,12 +30,12 @@ returns-then-union-ne0 c = let spare : is_zero (drop c.args.fill c.args.held.now
 
 pub returns-then-fill-n : goal.returns-then-fill-n
 unfolding held_by
-returns-then-fill-n c = let held = c.args.held.now in let k : Gathered = record { held = held; fill = c.args.fill; phase = c.args.phase } in let spare = sym (c.union.ensures ∙ ap is_zero (rest_part held c.args.fill)) ∙ eq-eqb _ _ c.if-union-ne0.false in let tells = sym (c.needed.ensures ∙ ap (λ s. heading (needed c.args.limits (phase_of c.args.phase) s)) (front-part held c.args.fill)) ∙ c.in-Field.is in sym (at_more c.args.limits 1280 k c.if-limits-lt1.false c.if-phase-gt1.false c.if-held-ne-LARGEST.false c.if-fill-gt-LARGEST.false spare _ (heading-accepted _ tells) c.if-fill-n.true)
+returns-then-fill-n c = let held = c.args.held.now in let k : Gathered = record { held = held; fill = c.args.fill; phase = c.args.phase } in let spare = sym (c.union.ensures ∙ ap is_zero (rest_part held c.args.fill)) ∙ eq-eqb _ _ c.if-union-ne0.false in let tells = sym (c.needed.ensures ∙ ap (needed c.args.limits (phase_of c.args.phase)) (front-part held c.args.fill)) ∙ c.in-Ok.is in sym (at_more c.args.limits 1280 k c.if-limits-lt1.false c.if-phase-gt1.false c.if-held-ne-LARGEST.false c.if-fill-gt-LARGEST.false spare _ tells c.if-fill-n.true)
 
-pub returns-in-Unframed : goal.returns-in-Unframed
+pub returns-in-Err : goal.returns-in-Err
 unfolding held_by
-returns-in-Unframed c = let held = c.args.held.now in let k : Gathered = record { held = held; fill = c.args.fill; phase = c.args.phase } in let spare = sym (c.union.ensures ∙ ap is_zero (rest_part held c.args.fill)) ∙ eq-eqb _ _ c.if-union-ne0.false in let tells = sym (c.needed.ensures ∙ ap (λ s. heading (needed c.args.limits (phase_of c.args.phase) s)) (front-part held c.args.fill)) ∙ c.in-Unframed.is in sym (at-refused c.args.limits 1280 k c.if-limits-lt1.false c.if-phase-gt1.false c.if-held-ne-LARGEST.false c.if-fill-gt-LARGEST.false spare (needed-unframed c.args.limits (phase_of c.args.phase) _ 0 _ tells))
+returns-in-Err c = let held = c.args.held.now in let k : Gathered = record { held = held; fill = c.args.fill; phase = c.args.phase } in let spare = sym (c.union.ensures ∙ ap is_zero (rest_part held c.args.fill)) ∙ eq-eqb _ _ c.if-union-ne0.false in let tells = sym (c.needed.ensures ∙ ap (needed c.args.limits (phase_of c.args.phase)) (front-part held c.args.fill)) ∙ c.in-Err.is in sym (at-refused c.args.limits 1280 k c.if-limits-lt1.false c.if-phase-gt1.false c.if-held-ne-LARGEST.false c.if-fill-gt-LARGEST.false spare tells)
 
 pub returns-else-fill-n : goal.returns-else-fill-n
 unfolding held_by
-returns-else-fill-n c = let held = c.args.held.now in let k : Gathered = record { held = held; fill = c.args.fill; phase = c.args.phase } in let spare = sym (c.union.ensures ∙ ap is_zero (rest_part held c.args.fill)) ∙ eq-eqb _ _ c.if-union-ne0.false in let tells = sym (c.needed.ensures ∙ ap (λ s. heading (needed c.args.limits (phase_of c.args.phase) s)) (front-part held c.args.fill)) ∙ c.in-Field.is in sym (at-full c.args.limits 1280 k c.if-limits-lt1.false c.if-phase-gt1.false c.if-held-ne-LARGEST.false c.if-fill-gt-LARGEST.false spare _ (heading-accepted _ tells) c.if-fill-n.false)
+returns-else-fill-n c = let held = c.args.held.now in let k : Gathered = record { held = held; fill = c.args.fill; phase = c.args.phase } in let spare = sym (c.union.ensures ∙ ap is_zero (rest_part held c.args.fill)) ∙ eq-eqb _ _ c.if-union-ne0.false in let tells = sym (c.needed.ensures ∙ ap (needed c.args.limits (phase_of c.args.phase)) (front-part held c.args.fill)) ∙ c.in-Ok.is in sym (at-full c.args.limits 1280 k c.if-limits-lt1.false c.if-phase-gt1.false c.if-held-ne-LARGEST.false c.if-fill-gt-LARGEST.false spare _ tells c.if-fill-n.false)

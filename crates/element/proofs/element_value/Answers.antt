@@ -10,7 +10,7 @@ short_number-id-requires c =
 
 pub overflow_cast-id : goal.overflow_cast-id
 overflow_cast-id c =
-    omega (arith, c.short_number-id.ensures, number-below c.args.part.now c.args.at c.args.w.id 2 (get_d-bytes c.args.part.now (λ k. (c.type_inv.part k).fits)) c.requires.narrow.id)
+    omega (arith, c.short_number-id.ensures, number-below c.args.part.now c.args.at c.args.w.id 2 (get_d-bytes c.args.part.now (λ k. (c.type_inv.part k).fits)) c.args.w.id_fits)
 
 pub overflow_add-behind : goal.overflow_add-behind
 overflow_add-behind c =

@@ -12,19 +12,19 @@ use Rattle.element.proofs.fields_of.Goals as goal
 
 pub short_number-event_id-requires : goal.short_number-event_id-requires
 short_number-event_id-requires c =
-    let read : RecordRead c.args.w c.args.part.now c.requires.readable.content c.requires.readable.next = (record-read c.args.w c.args.part.now).if-got _ _ c.requires.readable.reads in (omega (arith, fields_within read), c.requires.narrow.event)
+    let read : RecordRead c.args.w c.args.part.now c.requires.readable.content c.requires.readable.next = (record-read c.args.w c.args.part.now).if-got _ _ c.requires.readable.reads in (omega (arith, fields_within read), c.args.w.event_fits)
 
 pub overflow_cast-event_id : goal.overflow_cast-event_id
 overflow_cast-event_id c =
-    let bytes : Bytes c.args.part.now = get_d-bytes c.args.part.now (λ k. (c.type_inv.part k).fits) in omega (arith, c.short_number-event_id.ensures, number-below c.args.part.now 24 c.args.w.event 2 bytes c.requires.narrow.event)
+    let bytes : Bytes c.args.part.now = get_d-bytes c.args.part.now (λ k. (c.type_inv.part k).fits) in omega (arith, c.short_number-event_id.ensures, number-below c.args.part.now 24 c.args.w.event 2 bytes c.args.w.event_fits)
 
 pub short_number-reason-requires : goal.short_number-reason-requires
 short_number-reason-requires c =
-    let read : RecordRead c.args.w c.args.part.now c.requires.readable.content c.requires.readable.next = (record-read c.args.w c.args.part.now).if-got _ _ c.requires.readable.reads in (fields_within read, omega (arith, c.requires.narrow.generation))
+    let read : RecordRead c.args.w c.args.part.now c.requires.readable.content c.requires.readable.next = (record-read c.args.w c.args.part.now).if-got _ _ c.requires.readable.reads in (fields_within read, omega (arith, c.args.w.generation_fits))
 
 pub overflow_cast-reason : goal.overflow_cast-reason
 overflow_cast-reason c =
-    let bytes : Bytes c.args.part.now = get_d-bytes c.args.part.now (λ k. (c.type_inv.part k).fits) in omega (arith, c.short_number-reason.ensures, number-below c.args.part.now (24 + c.args.w.event) c.args.w.generation 1 bytes c.requires.narrow.generation)
+    let bytes : Bytes c.args.part.now = get_d-bytes c.args.part.now (λ k. (c.type_inv.part k).fits) in omega (arith, c.short_number-reason.ensures, number-below c.args.part.now (24 + c.args.w.event) c.args.w.generation 1 bytes c.args.w.generation_fits)
 
 pub be64-requires : goal.be64-requires
 be64-requires c =

@@ -1,10 +1,7 @@
 use Rattle.element.proofs.SearchLaws.{Searching}
 use Rattle.element.specs.Elements.{nth}
-use Prim.Native.Nat.{◌-◌, ◌≤◌}
+use Prim.Native.Nat.{◌-◌}
 use Rattle.element.proofs.nth_variable.Given as goal
 
 abbrev pub invariant-loop-i : goal.invariant-loop-i
-invariant-loop-i l = (l.i ≤ l.n) × Searching l.w 9 l.part l.at (λ j. nth (l.n - j)) l.next l.i
-
-abbrev pub decreases-loop-i : goal.decreases-loop-i
-decreases-loop-i l = l.n - l.i
+invariant-loop-i l = Searching l.w 9 l.part l.at (λ j. nth (l.n - j)) l.next l._i

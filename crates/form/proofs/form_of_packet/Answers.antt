@@ -1,3 +1,4 @@
+use Rattle.wire.proofs.Passing.{given_back}
 use mathlib.Core.Path.{sym, ◌∙◌}
 use native.Mathlib.Omega.{arith}
 use Rattle.wire.proofs.Widths.{get_d-bytes}
@@ -9,19 +10,19 @@ use Rattle.form.proofs.WholeLaws.{packet-written, packet-refused}
 use Rattle.form.proofs.form_of_packet.Goals as goal
 
 pub overflow_sub-end : goal.overflow_sub-end
-overflow_sub-end c = let h = packet-long c.limits_of.result c.args.p.now (taken 0 (read_packet c.limits_of.result c.args.p.now) (sym c.judge_packet.ensures ∙ c.in-Taken.is)).accepts (get_d-bytes c.args.p.now (λ k. (c.type_inv.p k).fits)) in omega arith
+overflow_sub-end c = let h = packet-long c.limits_of.result c.args.p.now (taken 0 (read_packet c.limits_of.result c.args.p.now) (sym c.in_ok-judge_packet.ensures)).accepts (get_d-bytes c.args.p.now (λ k. (c.type_inv.p k).fits)) in omega arith
 
 pub slice_bounds-write_field-count : goal.slice_bounds-write_field-count
-slice_bounds-write_field-count c = let h = packet-long c.limits_of.result c.args.p.now (taken 0 (read_packet c.limits_of.result c.args.p.now) (sym c.judge_packet.ensures ∙ c.in-Taken.is)).accepts (get_d-bytes c.args.p.now (λ k. (c.type_inv.p k).fits)) in omega arith
+slice_bounds-write_field-count c = let h = packet-long c.limits_of.result c.args.p.now (taken 0 (read_packet c.limits_of.result c.args.p.now) (sym c.in_ok-judge_packet.ensures)).accepts (get_d-bytes c.args.p.now (λ k. (c.type_inv.p k).fits)) in omega arith
 
 pub slice_bounds-write_field-start : goal.slice_bounds-write_field-start
-slice_bounds-write_field-start c = let h = packet-long c.limits_of.result c.args.p.now (taken 0 (read_packet c.limits_of.result c.args.p.now) (sym c.judge_packet.ensures ∙ c.in-Taken.is)).accepts (get_d-bytes c.args.p.now (λ k. (c.type_inv.p k).fits)) in omega arith
+slice_bounds-write_field-start c = let h = packet-long c.limits_of.result c.args.p.now (taken 0 (read_packet c.limits_of.result c.args.p.now) (sym c.in_ok-judge_packet.ensures)).accepts (get_d-bytes c.args.p.now (λ k. (c.type_inv.p k).fits)) in omega arith
 
 pub write_field-requires : goal.write_field-requires
-write_field-requires c = field_of (packet-field c.limits_of.result c.args.p.now (taken 0 (read_packet c.limits_of.result c.args.p.now) (sym c.judge_packet.ensures ∙ c.in-Taken.is)).accepts (get_d-bytes c.args.p.now (λ k. (c.type_inv.p k).fits)))
+write_field-requires c = field_of (packet-field c.limits_of.result c.args.p.now (taken 0 (read_packet c.limits_of.result c.args.p.now) (sym c.in_ok-judge_packet.ensures)).accepts (get_d-bytes c.args.p.now (λ k. (c.type_inv.p k).fits)))
 
-pub returns-in-Refused : goal.returns-in-Refused
-returns-in-Refused c = record { answer = rw (← c.limits_of.ensures) (packet-refused c.limits_of.result c.args.p.now (not_taken 0 (read_packet c.limits_of.result c.args.p.now) (sym c.judge_packet.ensures ∙ c.in-Refused.is))).0; buffer = rw (← c.limits_of.ensures) (packet-refused c.limits_of.result c.args.p.now (not_taken 0 (read_packet c.limits_of.result c.args.p.now) (sym c.judge_packet.ensures ∙ c.in-Refused.is))).1 }
+pub returns-in_err-judge_packet : goal.returns-in_err-judge_packet
+returns-in_err-judge_packet c = record { answer = rw (← c.limits_of.ensures) (given_back c.from_residual.ensures.1 ∙ (packet-refused c.limits_of.result c.args.p.now (not_taken 0 (read_packet c.limits_of.result c.args.p.now) (sym c.in_err-judge_packet.ensures))).0); buffer = rw (← c.limits_of.ensures) (packet-refused c.limits_of.result c.args.p.now (not_taken 0 (read_packet c.limits_of.result c.args.p.now) (sym c.in_err-judge_packet.ensures))).1 }
 
-pub returns-in-Taken : goal.returns-in-Taken
-returns-in-Taken c = record { answer = rw (← c.limits_of.ensures) (packet-written c.limits_of.result c.args.p.now (taken 0 (read_packet c.limits_of.result c.args.p.now) (sym c.judge_packet.ensures ∙ c.in-Taken.is)).accepts (get_d-bytes c.args.p.now (λ k. (c.type_inv.p k).fits)) c.write_field.ensures).0; buffer = rw (← c.limits_of.ensures) (packet-written c.limits_of.result c.args.p.now (taken 0 (read_packet c.limits_of.result c.args.p.now) (sym c.judge_packet.ensures ∙ c.in-Taken.is)).accepts (get_d-bytes c.args.p.now (λ k. (c.type_inv.p k).fits)) c.write_field.ensures).1 }
+pub returns : goal.returns
+returns c = record { answer = rw (← c.limits_of.ensures) (packet-written c.limits_of.result c.args.p.now (taken 0 (read_packet c.limits_of.result c.args.p.now) (sym c.in_ok-judge_packet.ensures)).accepts (get_d-bytes c.args.p.now (λ k. (c.type_inv.p k).fits)) c.write_field.ensures).0; buffer = rw (← c.limits_of.ensures) (packet-written c.limits_of.result c.args.p.now (taken 0 (read_packet c.limits_of.result c.args.p.now) (sym c.in_ok-judge_packet.ensures)).accepts (get_d-bytes c.args.p.now (λ k. (c.type_inv.p k).fits)) c.write_field.ensures).1 }

@@ -63,13 +63,13 @@ pub overflow_add-to : goal.overflow_add-to
 overflow_add-to c = near_fits c.requires.ready 28 (lit≤ tt)
 
 pub store_number-requires : goal.store_number-requires
-store_number-requires c = (le_trans (le-add_right _ c.args.w.generation) (fixed-inside c.args.w c.requires.ready), le_trans c.requires.narrow.event (lit≤ tt), near_on c.requires.ready 28 (lit≤ tt), lit≤ tt)
+store_number-requires c = (le_trans (le-add_right _ c.args.w.generation) (fixed-inside c.args.w c.requires.ready), le_trans c.args.w.event_fits (lit≤ tt), near_on c.requires.ready 28 (lit≤ tt), lit≤ tt)
 
 pub overflow_add-to-2 : goal.overflow_add-to-2
 overflow_add-to-2 c = near_fits c.requires.ready 30 (lit≤ tt)
 
 pub store_number-requires-2 : goal.store_number-requires-2
-store_number-requires-2 c = (fixed-inside c.args.w c.requires.ready, le_trans c.requires.narrow.generation (lit≤ tt), near_on c.requires.ready 30 (lit≤ tt), lit≤ tt)
+store_number-requires-2 c = (fixed-inside c.args.w c.requires.ready, le_trans c.args.w.generation_fits (lit≤ tt), near_on c.requires.ready 30 (lit≤ tt), lit≤ tt)
 
 pub overflow_add-result : goal.overflow_add-result
 overflow_add-result c = fixed-fits c.args.w c.requires.ready

@@ -1,7 +1,7 @@
 -- The tests of the judge, one by one.
+use Rattle.std.specs.Prelude.{Ok}
 use Rattle.frame.proofs.FramingLaws.{header-field, refused-header, behind-header}
-use Rattle.frame.specs.Frame.{unframe, framing, refusal_of}
-use Rattle.frame.specs.declared.Framed.TheVariants.{Field}
+use Rattle.frame.specs.Frame.{unframe, framing}
 use Rattle.checksum.specs.Crc.{crc}
 use Rattle.wire.specs.Answers.{check_at}
 use borrow.Author.Tests.{le-leb, lt-leb, eq-eqb, ne_eqb}
@@ -11,6 +11,7 @@ use mathlib.Core.Path.{◌≡◌, sym, ap, ◌∙◌}
 use mathlib.Core.List.{List}
 use Prim.Native.Nat.{ℕ, ◌+◌, ◌-◌}
 use native.Mathlib.Omega.{arith}
+use Rattle.wire.proofs.Passing.{given_back}
 use Rattle.frame.proofs.unframed.Goals as goal
 
 -- the part that is lent is the data field
@@ -19,27 +20,27 @@ lent n p = let size : 8 + n - 8 ≡ n = omega arith in ap (λ (k : ℕ). crc (ta
 
 pub returns-then-largest-lt1 : goal.returns-then-largest-lt1
 unfolding unframe framing check_at
-returns-then-largest-lt1 c = simp (lt-leb _ _ c.if-largest-lt1.true)
+returns-then-largest-lt1 c = simp (c.of.ensures, lt-leb _ _ c.if-largest-lt1.true)
 
 pub returns-then-p-lt8 : goal.returns-then-p-lt8
 unfolding unframe framing check_at
-returns-then-p-lt8 c = simp (le-leb _ _ c.if-largest-lt1.false, lt-leb _ _ c.if-p-lt8.true)
+returns-then-p-lt8 c = simp (c.of-then-p-lt8.ensures, le-leb _ _ c.if-largest-lt1.false, lt-leb _ _ c.if-p-lt8.true)
 
-pub returns-in-Unframed : goal.returns-in-Unframed
-unfolding framing refusal_of
-returns-in-Unframed c = sym (ap framing (refused-header c.args.largest c.args.p.now 0 _ (sym c.header.ensures ∙ c.in-Unframed.is) c.if-largest-lt1.false c.if-p-lt8.false))
+pub returns-in_err-size : goal.returns-in_err-size
+unfolding framing
+returns-in_err-size c = given_back c.from_residual.ensures.1 ∙ sym (ap framing (refused-header c.args.largest c.args.p.now (sym c.in_err-size.ensures) c.if-largest-lt1.false c.if-p-lt8.false))
 
 pub overflow_add-size : goal.overflow_add-size
-overflow_add-size c = omega (arith, header-field c.args.largest c.args.p.now c.in-Field.n (sym c.header.ensures ∙ c.in-Field.is))
+overflow_add-size c = omega (arith, header-field c.args.largest c.args.p.now c.in_ok-size.size (sym c.in_ok-size.ensures))
 
 pub returns-then-p-size : goal.returns-then-p-size
 unfolding framing check_at
-returns-then-p-size c = simp (behind-header c.args.largest c.args.p.now c.in-Field.n (sym c.header.ensures ∙ c.in-Field.is) c.if-largest-lt1.false c.if-p-lt8.false, ne_eqb _ _ c.if-p-size.true)
+returns-then-p-size c = simp (c.of-then-p-size.ensures, behind-header c.args.largest c.args.p.now c.in_ok-size.size (sym c.in_ok-size.ensures) c.if-largest-lt1.false c.if-p-lt8.false, ne_eqb _ _ c.if-p-size.true)
 
 pub returns-then-sum-crc16 : goal.returns-then-sum-crc16
 unfolding framing check_at
-returns-then-sum-crc16 c = let p = c.args.p.now in let n = c.in-Field.n in simp (behind-header c.args.largest p n (sym c.header.ensures ∙ c.in-Field.is) c.if-largest-lt1.false c.if-p-lt8.false, eq-eqb _ _ c.if-p-size.false, ne_eqb _ _ (λ e. c.if-sum-crc16.true (c.be32-sum.ensures ∙ e ∙ sym (c.crc16.ensures ∙ lent n p))))
+returns-then-sum-crc16 c = let p = c.args.p.now in let n = c.in_ok-size.size in simp (c.at.ensures, behind-header c.args.largest p n (sym c.in_ok-size.ensures) c.if-largest-lt1.false c.if-p-lt8.false, eq-eqb _ _ c.if-p-size.false, ne_eqb _ _ (λ e. c.if-sum-crc16.true (c.be32-sum.ensures ∙ e ∙ sym (c.crc16.ensures ∙ lent n p))))
 
 pub returns : goal.returns
 unfolding framing check_at
-returns c = let p = c.args.p.now in let n = c.in-Field.n in simp (behind-header c.args.largest p n (sym c.header.ensures ∙ c.in-Field.is) c.if-largest-lt1.false c.if-p-lt8.false, eq-eqb _ _ c.if-p-size.false, eq-eqb _ _ (sym c.be32-sum.ensures ∙ c.if-sum-crc16.false ∙ c.crc16.ensures ∙ lent n p)) (ap Field (sym (length-take-le n (drop 8 p) (omega (arith, length-drop 8 p, c.if-p-size.false)))))
+returns c = let p = c.args.p.now in let n = c.in_ok-size.size in simp (behind-header c.args.largest p n (sym c.in_ok-size.ensures) c.if-largest-lt1.false c.if-p-lt8.false, eq-eqb _ _ c.if-p-size.false, eq-eqb _ _ (sym c.be32-sum.ensures ∙ c.if-sum-crc16.false ∙ c.crc16.ensures ∙ lent n p)) (ap Ok (sym (length-take-le n (drop 8 p) (omega (arith, length-drop 8 p, c.if-p-size.false)))))

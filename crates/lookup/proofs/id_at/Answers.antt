@@ -1,4 +1,4 @@
-use Rattle.lookup.proofs.PartLaws.{part-narrow, value_found, value-reaches, passed-found, first-sixteen}
+use Rattle.lookup.proofs.PartLaws.{part-readable, value_found, value-reaches, passed-found, first-sixteen}
 use Rattle.lookup.proofs.PlaceLaws.{first_member}
 use Rattle.element.specs.Places.{part}
 use Rattle.element.specs.Elements.{first_with}
@@ -18,7 +18,7 @@ slice_bounds-find_id-end c = omega (arith, c.requires.inside)
 
 pub find_id-search-requires : goal.find_id-search-requires
 unfolding part
-find_id-search-requires c = record { narrow = (part-narrow c.requires c.widths_of.ensures).0; readable = (part-narrow c.requires c.widths_of.ensures).1 }
+find_id-search-requires c = record { readable = part-readable c.requires c.widths_of.ensures }
 
 pub moved-requires : goal.moved-requires
 unfolding part

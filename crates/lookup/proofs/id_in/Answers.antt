@@ -1,18 +1,19 @@
-use Rattle.wire.specs.Answers.{on_accepted}
-use Rattle.lookup.proofs.PartLaws.{of-refused}
-use Rattle.lookup.specs.Lookups.{or_none}
-use Rattle.lookup.specs.declared.Part.{Part}
-use Rattle.lookup.specs.Answers.{answer_value, value_as, ValueIn, PassedIn}
 use Rattle.element.specs.Elements.{first_with}
-use mathlib.Core.Path.{refl, sym, subst}
+use Rattle.lookup.specs.Lookups.{value_by_id, passed_by_id, value_in}
+use Rattle.lookup.proofs.PlaceLaws.{first_member}
+use Rattle.lookup.proofs.PartLaws.{record-in, record-answer, value-view}
 use Rattle.lookup.proofs.id_in.Goals as goal
 
-pub id_at-requires : goal.id_at-requires
-id_at-requires c = c.requires.stands _ _ _ _ c.in-Of.is
+pub id_of_part-requires : goal.id_of_part-requires
+id_of_part-requires g c = record-in c.part_in.ensures.carried.stored c.args.n c.part_in.ensures.part
 
-pub returns-in-Refused : goal.returns-in-Refused
-unfolding value_as answer_value on_accepted or_none
-returns-in-Refused c = record { value = of-refused c.in-Refused.is refl; passed = of-refused c.in-Refused.is refl }
-
-pub returns-in-Of : goal.returns-in-Of
-returns-in-Of c = record { value = subst (λ (q : Part). ValueIn c.args.p.now q (first_with c.args.id) c.id_at.result.answer) (sym c.in-Of.is) c.id_at.ensures.value; passed = subst (λ (q : Part). PassedIn c.args.p.now q c.args.id c.id_at.result.passed) (sym c.in-Of.is) c.id_at.ensures.passed }
+pub returns : goal.returns
+unfolding value_by_id passed_by_id value_in
+returns g c =
+    let stored = c.part_in.ensures.carried.stored in
+    let value = record-answer stored c.args.n c.part_in.ensures.part c.id_of_part.ensures.value in
+    record {
+      value = value;
+      passed = record-answer stored c.args.n c.part_in.ensures.part c.id_of_part.ensures.passed;
+      shows = value-view stored (λ x. c.args.n) (first_with c.args.id) (first_member c.args.id) _ value;
+    }

@@ -10,7 +10,7 @@ pub returns : goal.returns
 returns c =
     let p = c.args.p.now in
     let limits = limits_of c.args.family in
-    c.packet_part.ensures
+    c.part_in.ensures.part
     ∙ last-number (tcp_source limits p) _ (λ x e.
     let k = tcp-count limits p x (get_d-bytes p (λ k. (c.type_inv.p k).fits)) e in
     omega (arith, c.last_number.ensures k.0, k.1))

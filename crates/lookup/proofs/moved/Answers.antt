@@ -1,15 +1,16 @@
+use Rattle.std.specs.Prelude.{Err}
+use mathlib.Core.Path.{◌∙◌, sym, ap, subst}
 use Rattle.lookup.specs.Answers.{Reaches, shifted}
-use mathlib.Core.Path.{sym, ap, subst}
 use native.Mathlib.Omega.{arith}
 use Rattle.lookup.proofs.moved.Goals as goal
 
 pub overflow_add-result : goal.overflow_add-result
-overflow_add-result c = omega (arith, subst (Reaches c.args.start) c.in-At.is c.requires)
+overflow_add-result c = omega (arith, subst (Reaches c.args.start) c.in-Some.is c.requires)
 
-pub returns-in-Nothing : goal.returns-in-Nothing
+pub returns-in-None : goal.returns-in-None
 unfolding shifted
-returns-in-Nothing c = sym (ap (shifted c.args.start) c.in-Nothing.is)
+returns-in-None c = ap Err c.of.ensures ∙ sym (ap (shifted c.args.start) c.in-None.is)
 
-pub returns-in-At : goal.returns-in-At
+pub returns-in-Some : goal.returns-in-Some
 unfolding shifted
-returns-in-At c = sym (ap (shifted c.args.start) c.in-At.is)
+returns-in-Some c = sym (ap (shifted c.args.start) c.in-Some.is)

@@ -1,21 +1,21 @@
-use Prim.Native.Nat.{suc}
+use Prim.Native.Nat.{suc, ◌+◌, ◌-◌}
 use native.Mathlib.Omega.{arith}
 use mathlib.Core.Path.{◌≡◌, refl, sym, ◌∙◌}
-use lib.ListN.{length, length-set}
+use lib.ListN.{length-set}
 use Rattle.print.proofs.DegreeLaws.{places-left, places-done}
 use Rattle.print.proofs.put_places.Goals as goal
 
-pub loop-left-init : goal.loop-left-init
-loop-left-init c = (omega arith, refl, refl)
+pub loop-i-init : goal.loop-i-init
+loop-i-init c = (refl, refl)
 
-pub bounds-out-to-in-loop-left : goal.bounds-out-to-in-loop-left
-bounds-out-to-in-loop-left c = let size : length c.loop-left.out ≡ length c.args.out.now = c.loop-left.invariant.1 ∙ length-set c.args.out.now c.args.to 46 in omega (arith, c.loop-left.invariant.0, size, c.requires)
-
-pub loop-left-preserved : goal.loop-left-preserved
-loop-left-preserved c = (omega (arith, c.loop-left.invariant.0), simp length-set (c.loop-left.invariant.1 ∙ length-set c.args.out.now c.args.to 46), sym (places-left c.loop-left.out c.args.to c.loop-left.left c.loop-left.rest c.loop-left-test.true) ∙ c.loop-left.invariant.2)
+pub loop-i-preserved : goal.loop-i-preserved
+loop-i-preserved c =
+    let i = c.loop-i.i in
+    let at : c.args.to + 1 + (i - 1) ≡ c.args.to + i = omega (arith, c.loop-i-test.true) in
+    rw at (simp length-set (c.loop-i.invariant.0 ∙ length-set c.args.out.now c.args.to 46), sym (places-left c.loop-i.out c.args.to i c.loop-i.rest c.loop-i-test.true) ∙ c.loop-i.invariant.1)
 
 pub shape_of-out : goal.shape_of-out
-shape_of-out c = c.loop-left.invariant.1 ∙ length-set c.args.out.now c.args.to 46
+shape_of-out c = c.loop-i.invariant.0 ∙ length-set c.args.out.now c.args.to 46
 
 pub returns : goal.returns
-returns c = sym (places-done c.loop-left.out (suc c.args.to) c.loop-left.left c.loop-left.rest c.loop-left-test.false) ∙ c.loop-left.invariant.2
+returns c = sym (places-done c.loop-i.out (suc c.args.to) c.loop-i.i c.loop-i.rest (omega arith)) ∙ c.loop-i.invariant.1

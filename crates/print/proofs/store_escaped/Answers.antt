@@ -1,7 +1,6 @@
-use lib.ListN.{length}
+use lib.ListN.{length, length-take, length-drop}
 use mathlib.Core.Path.{◌≡◌}
 use native.Mathlib.Omega.{arith}
-use lib.ListN.{length-take, length-drop}
 use Rattle.line.specs.Lines.{escaped}
 use Rattle.print.proofs.DegreeLaws.{stored-apart}
 use Rattle.print.proofs.TagLaws.{escaped-few}

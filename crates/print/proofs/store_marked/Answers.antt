@@ -1,6 +1,5 @@
-use mathlib.Core.Path.{◌∙◌}
+use mathlib.Core.Path.{◌∙◌, refl}
 use native.Mathlib.Omega.{arith}
-use mathlib.Core.Path.{refl}
 use lib.ListN.{length-set}
 use Rattle.text.specs.Decimal.{decimal}
 use Rattle.store.proofs.StoredLaws.{stored_on, stored_of}

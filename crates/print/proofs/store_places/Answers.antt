@@ -1,9 +1,7 @@
-use mathlib.Core.List.{[]}
-use Rattle.print.proofs.DegreeLaws.{stored-full}
+use mathlib.Core.List.{[], ◌∷◌}
+use Rattle.print.proofs.DegreeLaws.{stored-full, places, stored-places, length-places}
 use native.Mathlib.Omega.{arith}
 use mathlib.Core.Path.{refl}
-use mathlib.Core.List.{◌∷◌}
-use Rattle.print.proofs.DegreeLaws.{places, stored-places, length-places}
 use Rattle.print.proofs.store_places.Goals as goal
 
 pub overflow_add-end : goal.overflow_add-end

@@ -2,8 +2,6 @@ use Rattle.rebuild.proofs.RunLaws.{goes_before}
 use Rattle.rebuild.proofs.Bounds.{records-room}
 use Rattle.rebuild.proofs.LayoutLaws.{data-at}
 use Rattle.store.proofs.StoredLaws.{stored-then, stored-as}
-use Rattle.walk.proofs.WalkLaws.{narrow}
-use Rattle.walk.specs.Walks.{Narrow}
 use lib.ListN.{get_or}
 use mathlib.Core.List.{List}
 use mathlib.Core.Path.{ap, ◌∙◌}
@@ -11,15 +9,11 @@ use native.Mathlib.Omega.{arith}
 use Prim.Native.Nat.{ℕ}
 use Rattle.rebuild.proofs.decode_form.Goals as goal
 
-pub put_records-records-requires-clause-narrow : goal.put_records-records-requires-clause-narrow
-put_records-records-requires-clause-narrow c = rw c.widths_of.ensures (narrow c.byte_or_zero-codec.result)
-
 pub put_records-records-requires-clause-from_bound : goal.put_records-records-requires-clause-from_bound
-put_records-records-requires-clause-from_bound c = omega (arith, c.store_be-a1.ensures.value, records-room c.widths_of.result (put_records-records-requires-clause-narrow c) c.args.f.now c.next_at-from.result c.requires)
+put_records-records-requires-clause-from_bound c = omega (arith, c.store_be-a1.ensures.value, records-room c.widths_of.result c.args.f.now c.next_at-from.result c.requires)
 
 pub store_be-requires-2 : goal.store_be-requires-2
-store_be-requires-2 c = let thin : Narrow c.widths_of.result = rw c.widths_of.ensures (narrow c.byte_or_zero-codec.result) in
-    omega (arith, c.store_be-a1.ensures.value, c.put_records-records.ensures.stored.place, records-room c.widths_of.result thin c.args.f.now c.next_at-from.result c.requires)
+store_be-requires-2 c = omega (arith, c.store_be-a1.ensures.value, c.put_records-records.ensures.stored.place, records-room c.widths_of.result c.args.f.now c.next_at-from.result c.requires)
 
 pub returns : goal.returns
 returns c = let codec = c.byte_or_zero-codec.ensures ∙ ap (λ (b : List ℕ). get_or b 0 0) c.entry_body.ensures in

@@ -1,3 +1,5 @@
+use Rattle.std.specs.Prelude.{Err}
+use mathlib.Core.Path.{ap}
 use Rattle.rebuild.proofs.CandidateLaws.{part-size, part-found, part-other, answers-refused, answers-found}
 use Rattle.wire.proofs.Widths.{get_d-bytes}
 use Rattle.std.proofs.lemmas.List.{length-replicate}
@@ -25,5 +27,5 @@ pub returns : goal.returns
 returns g c = let f = c.args.f.now in
     let b = get_d-bytes f (λ k. (c.type_inv.f k).fits) in
     let other = part-other c.args.limits c.requires.roomy f _ c.decode_form-n.result c.decode_form-n.ensures.buffer c.decode_form-n.ensures.size (fits c.if-n.false) b c.same_form.ensures c.if-same_form.false in
-    let done = answers-refused other c.refused.ensures in
+    let done = answers-refused other (ap Err c.of.ensures) in
     record { answer = done.0; buffer = done.1 }

@@ -3,7 +3,7 @@ use Rattle.traverse.proofs.LoopLaws.{group-inside, group-start, group-first, gro
 use Rattle.traverse.proofs.put_group.Goals as goal
 
 pub short_number-elements-requires : goal.short_number-elements-requires
-short_number-elements-requires g c = (group-inside (g.W.ElementWriter.of_element c.args.writer) c.args.w c.args.kind c.requires.ready, c.requires.narrow.count)
+short_number-elements-requires g c = (group-inside (g.W.ElementWriter.of_element c.args.writer) c.args.w c.args.kind c.requires.ready, c.args.w.count_fits)
 
 pub overflow_add-moved : goal.overflow_add-moved
 overflow_add-moved g c = omega (arith, group-inside (g.W.ElementWriter.of_element c.args.writer) c.args.w c.args.kind c.requires.ready, c.requires.ready.small)

@@ -10,7 +10,7 @@ returns-then-room-out g c =
 
 pub returns-then-out-size : goal.returns-then-out-size
 returns-then-out-size g c =
-    writes_short c.args.codec c.args.count (g.W.FieldWriter.of_field c.args.writer) c.args.s.now g.W.Item.Number.numbers g.W.Item.Number.same_length c.put_field-size.ensures c.put_field-size.auto.out c.if-out-size.true
+    rw c.of.ensures (writes_short c.args.codec c.args.count (g.W.FieldWriter.of_field c.args.writer) c.args.s.now g.W.Item.Number.numbers g.W.Item.Number.same_length c.put_field-size.ensures c.put_field-size.auto.out c.if-out-size.true)
 
 pub returns : goal.returns
 returns g c =

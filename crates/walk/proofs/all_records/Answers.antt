@@ -1,6 +1,6 @@
-use Prim.Native.Nat.{ℕ, ◌+◌}
 use native.Mathlib.Omega.{arith}
 use mathlib.Core.Path.{◌≡◌, sym, ap₂, ◌∙◌}
+use Prim.Native.Nat.{ℕ, ◌+◌}
 use lib.Dec.{eqb}
 use borrow.Author.Tests.{eq-eqb, ne_eqb}
 use Rattle.wire.specs.Numbers.{pick}
@@ -15,30 +15,28 @@ use Rattle.walk.proofs.all_records.Goals.{then-i-want, else-i-want}
 
 -- what the branch leaves: the end of the record, and where the wanted one lies as far as it was met
 found : (c : goal.Joined-i-want)
-    → (c.if-i-want.next ≡ c.in-Of.to)
-    × (◌≡◌ {A = Span} (record { start = c.if-i-want.start; end = c.if-i-want.end; elements = c.if-i-want.elements })
-    (pick (eqb c.loop-i.i c.args.want)
-    (record { start = c.loop-i.next; end = c.in-Of.to; elements = c.in-Of.n })
-    (record { start = c.loop-i.start; end = c.loop-i.end; elements = c.loop-i.elements })))
+    → (c.if-i-want.next ≡ c.in-Ok.end)
+    × (◌≡◌ {A = Span} c.if-i-want.span
+    (pick (eqb c.loop-i.i c.args.want) (record { start = c.loop-i.next; end = c.in-Ok.end; elements = c.in-Ok.elements }) c.loop-i.span))
 found c =
     let i = c.loop-i.i in
     let want = c.args.want in
     elim c.if-i-want.branch [
-      | then-i-want w ↦ (w.next-is, (λ k. record { start = w.start-is k; end = w.end-is k; elements = w.elements-is k }) ∙ sym (pick_true (eqb i want) _ _ (eq-eqb i want w.if-i-want.true)))
-      | else-i-want w ↦ (w.next-is, (λ k. record { start = w.start-is k; end = w.end-is k; elements = w.elements-is k }) ∙ sym (pick-false (eqb i want) _ _ (ne_eqb i want w.if-i-want.false)))
+      | then-i-want w ↦ (w.next-is, w.span-is ∙ sym (pick_true (eqb i want) _ _ (eq-eqb i want w.if-i-want.true)))
+      | else-i-want w ↦ (w.next-is, w.span-is ∙ sym (pick-false (eqb i want) _ _ (ne_eqb i want w.if-i-want.false)))
     ]
 
 pub loop-i-init : goal.loop-i-init
 loop-i-init c =
     let args = c.args in
-    (omega arith, (omega arith, answer-whole args.w args.s.now args.count args.want args.longest))
+    (omega arith, answer-whole args.w args.s.now args.count args.want args.longest)
 
-pub returns-in-Stopped : goal.returns-in-Stopped
-returns-in-Stopped c =
+pub returns-in-Err : goal.returns-in-Err
+returns-in-Err c =
     let args = c.args in
     let loop = c.loop-i in
-    sym (answer-broken args.w args.s.now args.count args.want args.longest loop.i (record { start = loop.start; end = loop.end; elements = loop.elements }) loop.next
-    c.loop-i-test.true (sym c.record_at.ensures ∙ c.in-Stopped.is)) ∙ loop.invariant.1.1
+    sym (answer-broken args.w args.s.now args.count args.want args.longest loop.i loop.span loop.next c.loop-i-test.true (sym c.record_at.ensures ∙ c.in-Err.is))
+    ∙ loop.invariant.1
 
 pub loop-i-preserved : goal.loop-i-preserved
 loop-i-preserved c =
@@ -47,29 +45,23 @@ loop-i-preserved c =
     let s = args.s.now in
     let i = loop.i in
     let all-bytes = get_d-bytes s (λ k. (c.type_inv.s k).fits) in
-    let on = sym c.record_at.ensures ∙ c.in-Of.is in
-    let inside = counted-inside elements_of (record-exact args.longest args.w) s loop.next all-bytes loop.invariant.1.0 on in
+    let on = sym c.record_at.ensures ∙ c.in-Ok.is in
+    let inside = counted-inside elements_of (record-exact args.longest args.w) s loop.next all-bytes loop.invariant.0 on in
     let new = found c in (
-      omega (arith, c.loop-i-test.true),
-      (
-        omega (arith, inside, new.0),
-        ap₂ (λ (x : Span) (n : ℕ). answer_from args.w s args.count args.want args.longest (i + 1) x n) new.1 new.0
-            ∙ answer-on args.w s args.count args.want args.longest i (record { start = loop.start; end = loop.end; elements = loop.elements }) loop.next all-bytes loop.invariant.1.0
-            c.loop-i-test.true on
-            ∙ loop.invariant.1.1,
-      ),
+      omega (arith, inside, new.0),
+      ap₂ (λ (x : Span) (n : ℕ). answer_from args.w s args.count args.want args.longest (i + 1) x n) new.1 new.0
+          ∙ answer-on args.w s args.count args.want args.longest i loop.span loop.next all-bytes loop.invariant.0 c.loop-i-test.true on
+          ∙ loop.invariant.1,
     )
 
 pub returns-then-next-s : goal.returns-then-next-s
 returns-then-next-s c =
     let args = c.args in
     let loop = c.loop-i in
-    sym (answer-over args.w args.s.now args.count args.want args.longest loop.i (record { start = loop.start; end = loop.end; elements = loop.elements }) loop.next
-    c.loop-i-test.false c.if-next-s.true) ∙ loop.invariant.1.1
+    sym (answer-over args.w args.s.now args.count args.want args.longest loop.i loop.span loop.next c.loop-i-test.false c.if-next-s.true) ∙ loop.invariant.1
 
 pub returns : goal.returns
 returns c =
     let args = c.args in
     let loop = c.loop-i in
-    sym (answer-done args.w args.s.now args.count args.want args.longest loop.i (record { start = loop.start; end = loop.end; elements = loop.elements }) loop.next
-    c.loop-i-test.false c.if-next-s.false) ∙ loop.invariant.1.1
+    sym (answer-done args.w args.s.now args.count args.want args.longest loop.i loop.span loop.next c.loop-i-test.false c.if-next-s.false) ∙ loop.invariant.1

@@ -1,5 +1,5 @@
 -- Invariant: the answer from the record `i` on is the answer of the whole.
-use Prim.Native.Nat.{◌-◌, ◌≤◌}
+use Prim.Native.Nat.{◌≤◌}
 use mathlib.Core.Path.{◌≡◌}
 use lib.ListN.{length}
 use Rattle.walk.specs.Walks.{spanned}
@@ -9,7 +9,4 @@ use Rattle.walk.proofs.all_records.Given as goal
 
 abbrev pub invariant-loop-i : goal.invariant-loop-i
 invariant-loop-i l =
-    (l.i ≤ l.count) × ((l.next ≤ length l.s) × (answer_from l.w l.s l.count l.want l.longest l.i (record { start = l.start; end = l.end; elements = l.elements }) l.next ≡ spanned l.w l.want (all_records l.longest l.w l.count l.s 0)))
-
-abbrev pub decreases-loop-i : goal.decreases-loop-i
-decreases-loop-i l = l.count - l.i
+    (l.next ≤ length l.s) × (answer_from l.w l.s l.count l.want l.longest l.i l.span l.next ≡ spanned l.w l.want (all_records l.longest l.w l.count l.s 0))

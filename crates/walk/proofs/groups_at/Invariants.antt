@@ -1,10 +1,6 @@
 -- Invariant: the groups that are left, added to the elements so far, give the count of all.
-use Prim.Native.Nat.{◌-◌}
 use Rattle.walk.proofs.WalkLaws.{Counting}
 use Rattle.walk.proofs.groups_at.Given as goal
 
 abbrev pub invariant-loop-k : goal.invariant-loop-k
 invariant-loop-k l = Counting l.w l.s l.at l.elements l.next l.k
-
-abbrev pub decreases-loop-k : goal.decreases-loop-k
-decreases-loop-k l = l.n - l.k

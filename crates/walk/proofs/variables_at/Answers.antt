@@ -1,4 +1,8 @@
-use mathlib.Core.Path.{sym, ◌∙◌}
+use Rattle.wire.proofs.Passing.{given_back}
+use Prim.Native.Nat.{ℕ, ◌+◌, ◌-◌}
+use native.Mathlib.Omega.{arith}
+use mathlib.Core.Path.{◌≡◌, sym, ap, ◌∙◌}
+use Rattle.wire.specs.Reading.{walked, repeat}
 use Rattle.wire.proofs.Widths.{get_d-bytes}
 use Rattle.wire.proofs.Walking.{walked_on, walked-stopped}
 use Rattle.avl.specs.RecordReader.{element}
@@ -6,25 +10,28 @@ use Rattle.walk.proofs.WalkLaws.{walked-inside, repeat-none, repeat-on, repeat-s
 use Rattle.avl.proofs.RecordLaws.{element-exact}
 use Rattle.walk.proofs.variables_at.Goals as goal
 
-pub returns-in-Stopped : goal.returns-in-Stopped
-returns-in-Stopped c =
+pub returns-in_err-next : goal.returns-in_err-next
+returns-in_err-next c =
     let args = c.args in
-    let loop = c.loop-left in
-    let stop = walked-stopped _ (sym c.variable_at.ensures ∙ c.in-Stopped.is) in
-    sym (repeat-stops (element args.w 9) args.s.now loop.left loop.next c.loop-left-test.true stop) ∙ loop.invariant.1
+    let loop = c.loop-i in
+    let stop = walked-stopped _ (sym c.in_err-next.ensures) in
+    given_back c.from_residual.ensures.1 ∙ sym (repeat-stops (element args.w 9) args.s.now (args.n - loop._i) loop.next (omega (arith, c.loop-i-test.true)) stop) ∙ loop.invariant.1
 
-pub loop-left-preserved : goal.loop-left-preserved
-loop-left-preserved c =
+pub loop-i-preserved : goal.loop-i-preserved
+loop-i-preserved c =
     let args = c.args in
-    let loop = c.loop-left in
+    let loop = c.loop-i in
     let s = args.s.now in
-    let on = sym c.variable_at.ensures ∙ c.in-On.is in (
+    let on = sym c.in_ok-next.ensures in
+    let less : args.n - (loop._i + 1) ≡ args.n - loop._i - 1 = omega arith in (
       walked-inside (element-exact args.w 9) s loop.next (get_d-bytes s (λ k. (c.type_inv.s k).fits)) loop.invariant.0 on,
-      repeat-on (element args.w 9) s loop.left loop.next c.loop-left-test.true (walked_on _ on).1 ∙ loop.invariant.1,
+      ap (λ (k : ℕ). walked (repeat k (element args.w 9) s c.in_ok-next.next)) less
+          ∙ repeat-on (element args.w 9) s (args.n - loop._i) loop.next (omega (arith, c.loop-i-test.true)) (walked_on _ on).1
+          ∙ loop.invariant.1,
     )
 
 pub returns : goal.returns
 returns c =
     let args = c.args in
-    let loop = c.loop-left in
-    sym (repeat-none (element args.w 9) args.s.now loop.left loop.next c.loop-left-test.false) ∙ loop.invariant.1
+    let loop = c.loop-i in
+    sym (repeat-none (element args.w 9) args.s.now (args.n - loop._i) loop.next (omega (arith, c.loop-i-test.false))) ∙ loop.invariant.1

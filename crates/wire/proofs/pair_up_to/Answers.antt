@@ -1,4 +1,6 @@
 -- A byte that holds two digits.
+use Rattle.std.specs.Prelude.{Err}
+use mathlib.Core.Path.{ap}
 use Rattle.std.proofs.Common.{◌≤◌, ◌+◌, ◌≡◌, length, get_or, sym, ◌∙◌, arith}
 use borrow.Author.Tests.{le-leb, lt-leb}
 use Rattle.wire.proofs.DigitLaws.{digit-missing, digit-wrong, digit-right}
@@ -8,7 +10,7 @@ use Rattle.wire.proofs.pair_up_to.Goals.{then-most-b-via-then-most-b, then-most-
 
 pub returns-in_default : goal.returns-in_default
 unfolding pair_up_to
-returns-in_default c = c.unread.ensures ∙ sym (digit-missing _ _ _ _ (omega (arith, c.in_default.ensures.lookup.3)))
+returns-in_default c = ap Err c.at.ensures ∙ sym (digit-missing _ _ _ _ (omega (arith, c.in_default.ensures.lookup.3)))
 
 pub returns-then-most-b : goal.returns-then-most-b
 unfolding pair_up_to
@@ -16,7 +18,7 @@ returns-then-most-b c =
     let found = c.in-Some.ensures.lookup.3 in
     let there : c.args.at + 1 ≤ length c.args.s.now = omega (arith, found.0) in
     let byte : get_or c.args.s.now c.args.at 0 ≡ c.in-Some.field-0.now = sym (found.1 0) in
-    c.unread-then-most-b.ensures
+    ap Err c.at-then-most-b.ensures
     ∙ sym (digit-wrong _ _ _ _ there (
     rw byte
     (elim c.then-most-b.branch [

@@ -1,3 +1,4 @@
+use Rattle.wire.proofs.Passing.{given_back}
 use Rattle.std.proofs.Common.{◌≡◌, ◌+◌, ◌-◌, ◌<◌, sym, ◌∙◌, arith}
 use lib.Dec.{lit<, lit≤}
 use Rattle.wire.proofs.DigitLaws.{numbered_of, numbered-unread, numbered-got, numbered-bad, room-first, digits-start, digits-turn, digits-stop, digits-below, digits-done}
@@ -8,15 +9,15 @@ use Rattle.wire.proofs.pairs_from.Goals as goal
 pub loop-i-init : goal.loop-i-init
 loop-i-init c = digits-start _ 100 c.args.n c.requires.2 (room-first 100 8 (lit< tt) c.requires.0 c.requires.1)
 
-pub returns-in-Unread : goal.returns-in-Unread
-returns-in-Unread c =
-    let stopped = numbered-unread _ (sym c.pair_up_to.ensures ∙ c.in-Unread.is) in
+pub returns-in_err-pair : goal.returns-in_err-pair
+returns-in_err-pair c =
+    let stopped = numbered-unread _ (sym c.in_err-pair.ensures) in
     let some : 0 < c.args.n - c.loop-i._i = omega arith in
-    sym (numbered-bad _ (digits-stop some c.loop-i.invariant stopped))
+    given_back c.from_residual.ensures.1 ∙ sym (numbered-bad _ (digits-stop some c.loop-i.invariant stopped))
 
 pub loop-i-preserved : goal.loop-i-preserved
 loop-i-preserved c =
-    let digit = numbered_of _ (sym c.pair_up_to.ensures ∙ c.in-Of.is) in
+    let digit = numbered_of _ (sym c.in_ok-pair.ensures) in
     let some : 0 < c.args.n - c.loop-i._i = omega arith in
     let left : c.args.n - c.loop-i._i - 1 ≡ c.args.n - (c.loop-i._i + 1) = omega arith in
     rw left at (digits-turn some c.loop-i.invariant (pair-exact 9 (lit≤ tt)) (bytes-fit c.args.s.now c.type_inv.s) digit)

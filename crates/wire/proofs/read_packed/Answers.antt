@@ -1,4 +1,5 @@
 -- The first pair, then the others.
+use Rattle.wire.proofs.Passing.{given_back}
 use Prim.Native.Nat.{ℕ, zero, suc, ◌+◌, ◌-◌, ◌*◌}
 use native.Mathlib.Omega.{arith}
 use mathlib.Core.List.{List}
@@ -37,14 +38,14 @@ pub pairs_from-requires : goal.pairs_from-requires
 pairs_from-requires c =
     let s = c.args.s.now in
     let bytes = bytes-fit s c.type_inv.s in
-    let first = numbered_of _ (sym c.pair_up_to.ensures ∙ c.in-Of.is) in
+    let first = numbered_of _ (sym c.in_ok-first.ensures) in
     let read = ((pair-exact 0 (lit≤ tt)).sound s c.args.at bytes c.requires.0).if-got _ _ first in
     (omega (arith, read.1), omega (arith, c.if-w-eq0.false), read.0.inside)
 
-pub returns-in-Of : goal.returns-in-Of
-returns-in-Of c =
-    let first = numbered_of _ (sym c.pair_up_to.ensures ∙ c.in-Of.is) in
+pub returns : goal.returns
+returns c =
+    let first = numbered_of _ (sym c.in_ok-first.ensures) in
     c.pairs_from.ensures ∙ sym (ap numbered (packed_more _ _ _ c.if-w-eq0.false first))
 
-pub returns-in-Unread : goal.returns-in-Unread
-returns-in-Unread c = sym (numbered-bad _ (packed-bad _ _ _ c.if-w-eq0.false (numbered-unread _ (sym c.pair_up_to.ensures ∙ c.in-Unread.is))))
+pub returns-in_err-first : goal.returns-in_err-first
+returns-in_err-first c = given_back c.from_residual.ensures.1 ∙ sym (numbered-bad _ (packed-bad _ _ _ c.if-w-eq0.false (numbered-unread _ (sym c.in_err-first.ensures))))

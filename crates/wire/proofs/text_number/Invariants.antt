@@ -1,5 +1,5 @@
-use Rattle.wire.proofs.ImeiWord.{TextLeft}
+use Rattle.wire.proofs.TextNumber.{TextLeft}
 use Rattle.wire.proofs.text_number.Given as goal
 
 abbrev pub invariant-loop-b : goal.invariant-loop-b
-invariant-loop-b l = TextLeft l.n l.s l.at l.skip l.value l.b-index
+invariant-loop-b l = TextLeft l.n l.s l.at l.value l.b-index

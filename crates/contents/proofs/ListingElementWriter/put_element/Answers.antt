@@ -4,7 +4,7 @@ use native.Mathlib.Omega.{arith}
 use Rattle.contents.proofs.ListingElementWriter.put_element.Goals as goal
 
 pub element_value-v-requires : goal.element_value-v-requires
-element_value-v-requires c = record { narrow = c.requires.narrow; kind_bound = c.requires.le_kind.1; readable_element = value-ready c.args.w c.args.kind c.requires.ready }
+element_value-v-requires c = record { kind_bound = c.requires.le_kind.1; readable_element = value-ready c.args.w c.args.kind c.requires.ready }
 
 pub overflow_add-offset : goal.overflow_add-offset
 overflow_add-offset c = omega (arith, value-inside c.args.w c.args.kind c.requires.ready c.element_value-v.ensures, c.requires.taken)

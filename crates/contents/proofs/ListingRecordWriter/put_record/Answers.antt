@@ -9,7 +9,7 @@ pub overflow_add-at : goal.overflow_add-at
 overflow_add-at c = omega (arith, c.fixed_size.ensures, groups-inside c.args.w c.requires.ready, c.requires.ready.small)
 
 pub put_groups-moved-requires : goal.put_groups-moved-requires
-put_groups-moved-requires c = record { narrow = c.requires.narrow; taken = c.requires.taken; ready = rw c.fixed_size.ensures (groups-ready c.args.w c.requires.ready) }
+put_groups-moved-requires c = record { taken = c.requires.taken; ready = rw c.fixed_size.ensures (groups-ready c.args.w c.requires.ready) }
 
 pub overflow_sub-moved : goal.overflow_sub-moved
 overflow_sub-moved c = (counted-bytes c.args.w c.requires.ready c.args.self.base (rw c.fixed_size.ensures at c.put_groups-moved.ensures.copies)).0
@@ -18,7 +18,7 @@ pub overflow_sub-moved-2 : goal.overflow_sub-moved-2
 overflow_sub-moved-2 c = (counted-elements c.args.w c.requires.ready c.args.self.base (rw c.fixed_size.ensures at c.put_groups-moved.ensures.copies)).0
 
 pub put_head-requires : goal.put_head-requires
-put_head-requires c = record { narrow = c.requires.narrow; s_bound = c.requires.taken; ready = c.requires.ready; size_bound = few c.args.w c.requires.ready c.args.self.base (rw c.fixed_size.ensures at c.put_groups-moved.ensures.copies) c.requires.narrow c.requires.taken }
+put_head-requires c = record { s_bound = c.requires.taken; ready = c.requires.ready; size_bound = few c.args.w c.requires.ready c.args.self.base (rw c.fixed_size.ensures at c.put_groups-moved.ensures.copies) c.requires.taken }
 
 pub returns : goal.returns
 returns c =

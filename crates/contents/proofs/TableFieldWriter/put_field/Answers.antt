@@ -1,8 +1,6 @@
 use Rattle.contents.proofs.TableLaws.{title-stored, contents-copied}
 use Rattle.contents.specs.Words.{title_words}
 use Rattle.traverse.specs.Copying.{Ready}
-use Rattle.walk.proofs.WalkLaws.{narrow}
-use Rattle.walk.specs.Walks.{Narrow}
 use Rattle.avl.specs.RecordReader.{plain_record}
 use Rattle.avl.specs.declared.Widths.{Widths}
 use Rattle.wire.specs.Reading.{repeat}
@@ -14,9 +12,6 @@ use Rattle.contents.proofs.TableFieldWriter.put_field.Goals as goal
 
 pub quad_word-requires : goal.quad_word-requires
 quad_word-requires c = (omega arith, omega (arith, c.requires.count_bound), omega arith, omega arith)
-
-pub put_records-requires-clause-narrow : goal.put_records-requires-clause-narrow
-put_records-requires-clause-narrow c = subst (λ (w : Widths). Narrow w) (sym c.widths_of.ensures) (narrow c.args.codec)
 
 pub put_records-requires-clause-ready : goal.put_records-requires-clause-ready
 put_records-requires-clause-ready c = subst (λ (w : Widths). Ready (repeat c.args.count (plain_record w)) c.args.s.now 0 2) (sym c.widths_of.ensures) (ready-nearer (lit≤ tt) c.requires.ready)

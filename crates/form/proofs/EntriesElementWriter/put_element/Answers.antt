@@ -17,7 +17,7 @@ pub overflow_add-end : goal.overflow_add-end
 overflow_add-end c = let h = value-inside c.args.w c.args.kind c.requires.ready c.value_at-value.ensures in omega (arith, h, c.requires.ready.small)
 
 pub short_number-number-requires : goal.short_number-number-requires
-short_number-number-requires c = (id-inside c.args.w c.args.kind c.requires.ready, c.requires.narrow.id)
+short_number-number-requires c = (id-inside c.args.w c.args.kind c.requires.ready, c.args.w.id_fits)
 
 pub overflow_add-size : goal.overflow_add-size
 overflow_add-size c = omega (arith, size_small c.args.w c.args.kind c.requires.ready c.value_at-value.ensures)

@@ -2,14 +2,9 @@ use mathlib.Core.Path.{sym, subst}
 use Rattle.avl.specs.RecordReader.{plain_record}
 use Rattle.wire.specs.Reading.{repeat}
 use Rattle.avl.specs.declared.Widths.{Widths}
-use Rattle.walk.proofs.WalkLaws.{narrow}
-use Rattle.walk.specs.Walks.{Narrow}
 use Rattle.traverse.specs.Copying.{Ready}
 use Rattle.form.proofs.FieldLaws.{form-copied}
 use Rattle.form.proofs.EntriesFieldWriter.put_field.Goals as goal
-
-pub put_records-requires-clause-narrow : goal.put_records-requires-clause-narrow
-put_records-requires-clause-narrow c = subst (λ (w : Widths). Narrow w) (sym c.widths_of.ensures) (narrow c.args.codec)
 
 pub put_records-requires-clause-ready : goal.put_records-requires-clause-ready
 put_records-requires-clause-ready c = subst (λ (w : Widths). Ready (repeat c.args.count (plain_record w)) c.args.s.now 0 5) (sym c.widths_of.ensures) c.requires.ready

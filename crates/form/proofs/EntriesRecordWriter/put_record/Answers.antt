@@ -3,7 +3,7 @@ use Rattle.form.proofs.RecordLaws.{record-fixed, record-groups, record-copied, r
 use Rattle.form.proofs.EntriesRecordWriter.put_record.Goals as goal
 
 pub put_fixed-fixed-requires : goal.put_fixed-fixed-requires
-put_fixed-fixed-requires c = record { narrow = c.requires.narrow; ready = record-fixed c.args.w c.requires.ready }
+put_fixed-fixed-requires c = record { ready = record-fixed c.args.w c.requires.ready }
 
 pub overflow_add-fixed : goal.overflow_add-fixed
 overflow_add-fixed c = let g = record-groups c.args.w c.requires.ready c.put_fixed-fixed.ensures in omega (arith, g.inside, g.small)

@@ -3,15 +3,10 @@ use mathlib.Core.Path.{sym, subst}
 use Rattle.wire.specs.Reading.{repeat}
 use Rattle.avl.specs.declared.Widths.{Widths}
 use Rattle.avl.specs.RecordReader.{plain_record}
-use Rattle.walk.specs.Walks.{Narrow}
-use Rattle.walk.proofs.WalkLaws.{narrow}
 use Rattle.traverse.specs.Copying.{Ready}
 use Rattle.traverse.proofs.CopyLaws.{ready-nearer}
 use Rattle.print.proofs.WholeLaws.{lines_copied}
 use Rattle.print.proofs.LinesFieldWriter.put_field.Goals as goal
-
-pub put_records-requires-clause-narrow : goal.put_records-requires-clause-narrow
-put_records-requires-clause-narrow c = subst (λ (w : Widths). Narrow w) (sym c.widths_of.ensures) (narrow c.args.codec)
 
 pub put_records-requires-clause-ready : goal.put_records-requires-clause-ready
 put_records-requires-clause-ready c =

@@ -6,9 +6,6 @@ use Rattle.print.proofs.LinesRecordWriter.put_record.Goals as goal
 pub put_head-first-requires : goal.put_head-first-requires
 put_head-first-requires c = (head-inside c.args.w c.requires.ready, omega (arith, near c.requires.ready))
 
-pub fixed_size-requires : goal.fixed_size-requires
-fixed_size-requires c = c.requires.narrow
-
 pub overflow_add-at : goal.overflow_add-at
 overflow_add-at c = omega (arith, groups-inside c.args.w c.requires.ready, c.fixed_size.ensures, c.requires.ready.small)
 

@@ -1,6 +1,0 @@
-use Rattle.capi.specs.Flat.{flat_written}
-use mathlib.Core.Path.{ap, ◌∙◌}
-use Rattle.capi.proofs.brundilope_form_of_datagram.Goals as goal
-
-pub returns : goal.returns
-returns c = record { answer = c.flat_written.ensures ∙ ap flat_written c.form_of_datagram.ensures.answer; buffer = c.form_of_datagram.ensures.buffer }
