@@ -1,10 +1,12 @@
 -- Records that compute: the first of document 006 for codec 8, one of codec 8 Extended with variable values, and counts that would wrap in a byte.
 use mathlib.Core.Path.{◌≡◌, refl}
+use mathlib.Core.Bool.{false}
 use mathlib.Core.List.{List, [], ◌∷◌, ◌++◌}
 use Prim.Native.Nat.{ℕ}
 use lib.ListN.{replicate}
 use Rattle.wire.specs.Numbers.{number_at, value_from}
 use Rattle.wire.specs.Reading.{got, bad, and_then, ◌>>=◌, ◌>>◌, pure, here, require, span, number, bytes, up_to, repeat}
+use Rattle.avl.specs.declared.Widths.{Widths}
 use Rattle.avl.specs.Codecs.{codec8, codec8_e, kinds}
 use Rattle.avl.specs.RecordReader.{value_size, element, group, groups, fixed_fields, avl_record}
 use Rattle.avl.specs.Records.{element_count}
@@ -74,6 +76,36 @@ reads-codec8_e : avl_record 255 codec8_e (codec8_e_record 2) 0
     48
 unfolding computing codec8_e_record
 reads-codec8_e = refl
+
+-- a record of a width set that no codec has: its event ID has three bytes
+wide : Widths
+wide = record { event = 3; generation = 0; count = 1; id = 1; variable = false }
+
+wide_record : List ℕ
+wide_record = replicate 24 0 ++ (0x01 ∷ 0x02 ∷ 0x03 ∷ 0 ∷ 0 ∷ 0 ∷ 0 ∷ 0 ∷ [])
+
+-- the definitions, and the laws with them, are over any width set
+reads-wide : avl_record 255 wide wide_record 0
+    ≡ got
+    (record {
+      fixed =
+          record {
+            timestamp = 0;
+            priority = 0;
+            longitude = 0;
+            latitude = 0;
+            altitude = 0;
+            angle = 0;
+            satellites = 0;
+            speed = 0;
+            event = 0x010203;
+            generation = 0;
+          };
+      groups = [] ∷ [] ∷ [] ∷ [] ∷ [];
+    })
+    32
+unfolding computing wide wide_record
+reads-wide = refl
 
 -- the first four counts add up to 0
 refuses-four-counts : avl_record 255 codec8_e (codec8_e_record 0) 0 ≡ bad (record { number = 9; index = 0; place = 0 })

@@ -1,17 +1,16 @@
 -- The width sets of codecs 8, 8 Extended and 16.
-use Rattle.std.specs.Prelude.{ℕ, refl, Bool, true, false, List, [], ◌∷◌, eqb}
-use borrow.Author.Tests.{leb-true}
+use Rattle.std.specs.Prelude.{ℕ, Bool, true, false, List, [], ◌∷◌, eqb}
 use Rattle.wire.specs.Numbers.{pick}
 use Rattle.avl.specs.declared.Widths.{Widths}
 
 abbrev pub codec8 : Widths
-codec8 = record { event = 1; generation = 0; count = 1; id = 1; variable = false; event_fits = leb-true 1 2 refl; generation_fits = leb-true 0 1 refl; count_fits = leb-true 1 2 refl; id_fits = leb-true 1 2 refl; id_named = leb-true 1 1 refl }
+codec8 = record { event = 1; generation = 0; count = 1; id = 1; variable = false }
 
 abbrev pub codec8_e : Widths
-codec8_e = record { event = 2; generation = 0; count = 2; id = 2; variable = true; event_fits = leb-true 2 2 refl; generation_fits = leb-true 0 1 refl; count_fits = leb-true 2 2 refl; id_fits = leb-true 2 2 refl; id_named = leb-true 1 2 refl }
+codec8_e = record { event = 2; generation = 0; count = 2; id = 2; variable = true }
 
 abbrev pub codec16 : Widths
-codec16 = record { event = 2; generation = 1; count = 1; id = 2; variable = false; event_fits = leb-true 2 2 refl; generation_fits = leb-true 1 1 refl; count_fits = leb-true 1 2 refl; id_fits = leb-true 2 2 refl; id_named = leb-true 1 2 refl }
+codec16 = record { event = 2; generation = 1; count = 1; id = 2; variable = false }
 
 unfoldable pub widths_of : ℕ → Widths
 widths_of codec = pick (eqb codec 0x08) codec8 (pick (eqb codec 0x8E) codec8_e codec16)

@@ -1,4 +1,5 @@
 pub mod Codecs
+pub mod Narrow
 pub mod Records
 pub mod RecordReader
 pub mod DataField

@@ -1,7 +1,7 @@
-// The widths, in bytes, of the fields that differ between the codecs, and whether there are variable values. Every width set is this narrow, and has room for an ID.
+// The widths, in bytes, of the fields that differ between the codecs, and whether there are variable values.
 #![tactic(auto)]
 
-ghost use Rattle.std.specs.Prelude.{◌≤◌};
+ghost use Rattle.avl.specs.Narrow.{Narrow};
 
 #[derive(Clone, Copy)]
 pub struct Widths {
@@ -10,11 +10,13 @@ pub struct Widths {
     pub count: usize,
     pub id: usize,
     pub variable: bool,
-    pub ghost event_fits: { event ≤ 2 },
-    pub ghost generation_fits: { generation ≤ 1 },
-    pub ghost count_fits: { count ≤ 2 },
-    pub ghost id_fits: { id ≤ 2 },
-    pub ghost id_named: { 1 ≤ id },
+}
+
+// A width set as the code takes it: whoever builds one proves that it is narrow. The definitions and theorems are over any.
+#[derive(Clone, Copy)]
+pub struct NarrowWidths {
+    pub widths: Widths,
+    pub ghost narrow: { Narrow widths },
 }
 
 // What an accepted data field is answered with: its codec and the number of its records.

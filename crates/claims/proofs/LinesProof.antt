@@ -1,4 +1,5 @@
 -- The claim of the lines, from the laws of their layers.
+use Rattle.walk.proofs.WalkLaws.{narrow}
 use Rattle.avl.specs.Codecs.{widths_of}
 use Rattle.line.proofs.LineLaws.{line-exact, line-last}
 use Rattle.line.proofs.CountLaws.{line-commas, line-ends}
@@ -13,9 +14,9 @@ lines-kept =
       exact = line-exact;
       packet_again = line-again;
       datagram_again = datagram-line-again;
-      keeps = λ longest codec r h. record-rules longest (widths_of codec) r (widths_of codec).id_fits h;
+      keeps = λ longest codec r h. record-rules longest (widths_of codec) r (narrow codec).id h;
       undivided = λ l h. record { commas = line-commas l h; ends = line-ends l h; last = line-last l };
-      same = λ longest most codec other r q h k. same-fields longest most (widths_of codec) (widths_of other) r q (widths_of codec).id_fits (widths_of other).id_fits h k;
+      same = λ longest most codec other r q h k. same-fields longest most (widths_of codec) (widths_of other) r q (narrow codec).id (narrow other).id h k;
       along = λ s l e k x h. (element-cursor s l e k x h, (element-stands s l e k x h).1);
       room = λ limits p t b.
           record {

@@ -26,7 +26,7 @@ use Rattle.avl.specs.RecordReader.{all_records}
 use Rattle.avl.specs.DataField.{read_data}
 use Rattle.avl.specs.Offending.{offending}
 use Rattle.avl.proofs.OffendingLaws.{all_local}
-use Rattle.walk.proofs.WalkLaws.{records_of, data-unknown, data-none, data-uneven, data-bad, data-got}
+use Rattle.walk.proofs.WalkLaws.{narrow, records_of, data-unknown, data-none, data-uneven, data-bad, data-got}
 use Rattle.command.specs.declared.Layout.{Layout}
 use Rattle.command.specs.Layouts.{layouts, find_layout, layout_of}
 use Rattle.command.specs.Commands.{Command, command_body, read_field}
@@ -151,7 +151,7 @@ data-points longest d r long e =
     walk known some even (got rs n) b = absurd (let good = data-got longest d known some even b in let z : ◌≡◌ {A = ℕ} 0 1 = cc (sym good ∙ e) in omega (arith, z))
     walk known some even (bad x) b =
         let w = widths_of (codec_of d) in
-        let k = (all_local w (inner d) (widths_of (codec_of d)).generation_fits longest (first_count d) 0 (omega arith)).stops x b in
+        let k = (all_local w (inner d) (narrow (codec_of d)).generation longest (first_count d) 0 (omega arith)).stops x b in
         let wide : offending w (inner d) (back 2 (moved_by 2 x)) ≡ offending w (inner d) x = ap (offending w (inner d)) (moved_back 2 x) in
         to (data-bad longest d known some even b) refl
         (record {

@@ -5,6 +5,7 @@ use mathlib.Core.Path.{◌≡◌, refl, sym, ap, ap₂, ◌∙◌}
 use mathlib.Core.List.{List, [], ◌∷◌}
 use lib.ListN.{length, set, length-append}
 use lib.Seq.{sets}
+use Rattle.avl.specs.Narrow.{Narrow}
 use Rattle.wire.specs.Numbers.{number_at}
 use Rattle.wire.specs.Reading.{got}
 use Rattle.wire.proofs.Shifts.{number-add}
@@ -158,9 +159,9 @@ module _ (w : Widths) {s : List ℕ} {at to : ℕ} (k : Ready (plain_record w) s
         let e = ap (λ (x : Moved). x.to) moved-is in
         (omega (arith, e), omega (arith, e, count-is))
 
-    pub few : base + length s < 2 ^ 16 → (q.from - at < 2 ^ 16) × (q.to - (to + 4) < 2 ^ 16)
-    few h =
-        let size = record-size w w.id_named k.content keep in
+    pub few : Narrow w → base + length s < 2 ^ 16 → (q.from - at < 2 ^ 16) × (q.to - (to + 4) < 2 ^ 16)
+    few narrow h =
+        let size = record-size w narrow.named k.content keep in
         (omega (arith, h, counted-bytes.2), omega (arith, h, size, counted-bytes.1, counted-bytes.2, counted-elements.1))
 
     -- the four words are stored in front of those of the elements

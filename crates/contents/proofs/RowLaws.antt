@@ -1,4 +1,6 @@
 -- What a caller reads of a table is what the look-ups give, for all records and values, and nothing else is in it.
+use Rattle.avl.specs.Narrow.{Narrow}
+use Rattle.walk.proofs.WalkLaws.{narrow}
 use Rattle.std.specs.Prelude.{Err, Ok}
 use Prim.Native.Nat.{ℕ, zero, suc, ◌+◌, ◌*◌, ◌^◌, ◌≤◌, ◌<◌}
 use native.Mathlib.Nat.{pow-le-pow_right, le_trans}
@@ -68,14 +70,14 @@ length-values r (e ∷ l) = ap suc (length-values r l)
 abbrev Named : Located → Type 0
 Named e = (e.id < 2 ^ 16) × (e.kind < 2 ^ 8)
 
-id-fits : (w : Widths) {n : ℕ} → n < 256 ^ w.id → n < 2 ^ 16
-id-fits w h = le_trans h (pow-le-pow_right byte_pos w.id_fits)
+id-fits : {w : Widths} {n : ℕ} → Narrow w → n < 256 ^ w.id → n < 2 ^ 16
+id-fits k h = le_trans h (pow-le-pow_right byte_pos k.id)
 
-module _ (w : Widths) where
+module _ (w : Widths) (k : Narrow w) where
   group-named : (kind at : ℕ) (g : List Element) → kind ≤ 9 → All (ElementRules w kind) g → All Named (locate_group w kind at g)
   unfolding locate_group
   group-named kind at [] h r = tt
-  group-named kind at (e ∷ g) h r = ((id-fits w r.0.id_fits, omega (arith, h)), group-named kind (at + length (element_bytes w kind e)) g h r.1)
+  group-named kind at (e ∷ g) h r = ((id-fits k r.0.id_fits, omega (arith, h)), group-named kind (at + length (element_bytes w kind e)) g h r.1)
 
   groups-named : (ks : List ℕ) (at : ℕ) (gs : List (List Element)) → All KindRange ks → GroupsRules w ks gs → All Named (locate_groups w ks at gs)
   unfolding locate_groups
@@ -89,9 +91,9 @@ record Fits (w : Widths) (r : Placed) : Type 0 where
   rules : (longest : ℕ) × RecordRules longest w r.content
   ends : r.start + length (record_bytes w r.content) < 2 ^ 16
 
-module _ (w : Widths) (r : Placed) (h : Fits w r) where
+module _ (w : Widths) (k : Narrow w) (r : Placed) (h : Fits w r) where
   size_fits : 2 * (4 + element_count r.content.groups) ≤ length (record_bytes w r.content)
-  size_fits = record-size w w.id_named r.content h.rules.1.groups_keep
+  size_fits = record-size w k.named r.content h.rules.1.groups_keep
 
   -- the words of values are read as values
   values-read : (l : List Located) → All Named l → All (λ e. Inside e (record_bytes w r.content)) l → values_of (joined (element_word r) l) ≡ values_in r l
@@ -117,7 +119,7 @@ module _ (w : Widths) (r : Placed) (h : Fits w r) where
     parted = append_assoc head words rest
 
     event : r.content.fixed.event < 2 ^ 16
-    event = le_trans h.rules.1.fixed_keep.event_fits (pow-le-pow_right byte_pos w.event_fits)
+    event = le_trans h.rules.1.fixed_keep.event_fits (pow-le-pow_right byte_pos k.event)
 
     starts : r.start < 2 ^ 16
     starts = omega (arith, h.ends)
@@ -142,7 +144,7 @@ module _ (w : Widths) (r : Placed) (h : Fits w r) where
 
     named : All Named (elements w r.content)
     unfolding elements
-    named = groups-named w (kinds w) (fixed_size w) r.content.groups (kinds-range w) h.rules.1.groups_keep
+    named = groups-named w k (kinds w) (fixed_size w) r.content.groups (kinds-range w) h.rules.1.groups_keep
 
     row_read : row_of (record_contents w r ++ rest) ≡ row_in w r
     unfolding row_of
@@ -167,12 +169,12 @@ module _ (w : Widths) (r : Placed) (h : Fits w r) where
 
 -- ---- record by record
 
-rows-read : (w : Widths) (rs : List Placed) → All (Fits w) rs → rows_from (length rs) (joined (record_contents w) rs) ≡ rows_in w rs
+rows-read : (w : Widths) → Narrow w → (rs : List Placed) → All (Fits w) rs → rows_from (length rs) (joined (record_contents w) rs) ≡ rows_in w rs
 unfolding rows_from
-rows-read w [] h = refl
-rows-read w (r ∷ rs) h =
+rows-read w k [] h = refl
+rows-read w k (r ∷ rs) h =
     let rest = joined (record_contents w) rs in
-    ap₂ (λ (x : Row) (xs : List Row). x ∷ xs) (row_read w r h.0 rest) (ap (rows_from (length rs)) (next-read w r h.0 rest) ∙ rows-read w rs h.1)
+    ap₂ (λ (x : Row) (xs : List Row). x ∷ xs) (row_read w k r h.0 rest) (ap (rows_from (length rs)) (next-read w k r h.0 rest) ∙ rows-read w k rs h.1)
 
 rows-size : (w : Widths) (rs : List Placed) → length (joined (record_contents w) rs) ≡ rows_size (rows_in w rs)
 unfolding rows_size record_contents record_words
@@ -243,7 +245,7 @@ module _ (longest : ℕ) (p : List ℕ) (x : Source) (h : Header) (short : lengt
       let fit = all_fit longest w p short placed (all-kept longest w p x.content.records x.base _ stored.rules.each stored.tiles.1) in
       ap₂ (λ (d : DataResult) (t : List ℕ). rows_from d.count t) title-is behind-title
       ∙ ap (λ (n : ℕ). rows_from n (joined (record_contents w) placed)) (sym (placed-count w x.base x.content.records))
-      ∙ rows-read w placed fit
+      ∙ rows-read w (narrow x.content.codec) placed fit
 
   of-rows : {B : Type 0} (f : Row → Answer B) (n : ℕ) → on_accepted (placed_record x n) (λ r. f (row_in w r)) ≡ on_accepted (nth n (rows_of (contents h x))) f
   unfolding placed_record
@@ -293,15 +295,15 @@ values-ahead w p r more zero (e ∷ l) h i a b c =
     omega (arith, ap (λ (x : Value). x.offset) same, ap (λ (x : Value). x.size) same, b.0.within, i)
 values-ahead w p r more (suc k) (e ∷ l) h i a b c = values-ahead w p r more k l h i a.1 b.1 (omega (arith, c))
 
-rows-ahead : (longest : ℕ) (w : Widths) (p t more : List ℕ) → length p < 2 ^ 16 → (at : ℕ) (rs : List Placed) → All (Kept longest w p) rs
+rows-ahead : (longest : ℕ) (w : Widths) → Narrow w → (p t more : List ℕ) → length p < 2 ^ 16 → (at : ℕ) (rs : List Placed) → All (Kept longest w p) rs
     → drop at t ≡ joined (record_contents w) rs ++ more → RowsAhead p t at (length rs)
-rows-ahead longest w p t more h at [] a e = tt
-rows-ahead longest w p t more h at (r ∷ rs) a e =
+rows-ahead longest w k p t more h at [] a e = tt
+rows-ahead longest w k p t more h at (r ∷ rs) a e =
     let fit : Fits w r = record { rules = (longest, a.0.rules); ends = omega (arith, h, a.0.stands.inside) } in
     let rest = joined (record_contents w) rs ++ more in
     let words = joined (element_word r) (elements w r.content) in
     let split : drop at t ≡ record_contents w r ++ rest = e ∙ append_assoc (record_contents w r) (joined (record_contents w) rs) more in
-    let count : (record_of (drop at t)).elements ≡ length words = ap (λ (l : List ℕ). (record_of l).elements) (split ∙ parted w r fit rest) ∙ count-read w r fit rest in
+    let count : (record_of (drop at t)).elements ≡ length words = ap (λ (l : List ℕ). (record_of l).elements) (split ∙ parted w k r fit rest) ∙ count-read w k r fit rest in
     let long = ap length split ∙ length-append (record_contents w r) rest in
     let n = (record_of (drop at t)).elements in
     let steps : at + 4 + n ≡ at + (4 + n) = omega arith in
@@ -310,13 +312,13 @@ rows-ahead longest w p t more h at (r ∷ rs) a e =
     ap (λ (m : ℕ). drop m t) steps
     ∙ sym (drop-drop (4 + n) at t)
     ∙ ap₂ (λ (m : ℕ) (l : List ℕ). drop (4 + m) l) same split
-    ∙ next-read w r fit rest in
-    let own : drop (at + 4) t ≡ words ++ rest = sym (drop-drop 4 at t) ∙ ap (drop 4) (split ∙ parted w r fit rest) ∙ behind w r fit rest in (
-      omega (arith, length-drop at t, long, contents-long w r fit rest, count),
+    ∙ next-read w k r fit rest in
+    let own : drop (at + 4) t ≡ words ++ rest = sym (drop-drop 4 at t) ∙ ap (drop 4) (split ∙ parted w k r fit rest) ∙ behind w k r fit rest in (
+      omega (arith, length-drop at t, long, contents-long w k r fit rest, count),
       λ i j. subst (λ (word : ℕ). (value_of word).offset + (value_of word).size ≤ length p) (ap (λ (l : List ℕ). get_or l i 0) (sym own) ∙ get_or-drop (at + 4) t i 0)
-          (values-ahead w p r rest i (elements w r.content) h a.0.stands.inside (named w r fit rest) (elements-inside w r.content)
+          (values-ahead w p r rest i (elements w r.content) h a.0.stands.inside (named w k r fit rest) (elements-inside w r.content)
           (omega (arith, j, count, length-words (λ (e : Located). value_word (value_result (found_in r e))) (elements w r.content)))),
-      rows-ahead longest w p t more h (at + 4 + n) rs a.1 next,
+      rows-ahead longest w k p t more h (at + 4 + n) rs a.1 next,
     )
 
 module _ (longest : ℕ) (p : List ℕ) (x : Source) (h : Header) (short : length p < 2 ^ 16) (stored : Stored longest p x) (rules : HeaderRules h) (more : List ℕ) where
@@ -328,7 +330,7 @@ module _ (longest : ℕ) (p : List ℕ) (x : Source) (h : Header) (short : lengt
   ahead =
       let w = widths_of x.content.codec in
       subst (RowsAhead p (contents h x ++ more) 2) (placed-count w x.base x.content.records)
-      (rows-ahead longest w p (contents h x ++ more) more short 2 records (all-kept longest w p x.content.records x.base _ stored.rules.each stored.tiles.1) refl)
+      (rows-ahead longest w (narrow x.content.codec) p (contents h x ++ more) more short 2 records (all-kept longest w p x.content.records x.base _ stored.rules.each stored.tiles.1) refl)
 
   title-ahead : title_result (contents h x ++ more) ≡ title_result (contents h x)
   unfolding contents title_words title_result

@@ -1,4 +1,5 @@
 -- What is written along a data field is the table of its contents.
+use Rattle.walk.proofs.WalkLaws.{narrow}
 use Rattle.std.specs.Prelude.{Err, Ok}
 use Prim.Native.Nat.{ℕ, zero, suc, ◌+◌, ◌-◌, ◌*◌, ◌≤◌}
 use native.Mathlib.Nat.{add-zero}
@@ -95,7 +96,7 @@ pub contents-size : (h : Header) (base longest : ℕ) (d : List ℕ) (a : AvlDat
 unfolding contents title_words
 contents-size h base longest d a b l e =
     let w = widths_of a.codec in
-    let named = (widths_of a.codec).id_named in
+    let named = (narrow a.codec).named in
     let records = field-size 2 1 (listed_word base) w (word_size w named base) (head_text base w) (head-size w named base) longest 0 d a refl b l e in
     omega (arith, records, ap length (table-listed w base a.records))
 
@@ -131,7 +132,6 @@ contents-copied h base codec count {w} {s} {before} {mid} {after} {r} is e c =
 pub title-stored : (l : List ℕ) (a b : ℕ) {o₁ o₂ : List ℕ} {x : ℕ} → o₁ ≡ set l 0 x → x ≡ a → o₂ ≡ set o₁ 1 b → o₂ ≡ sets l 0 (a ∷ b ∷ [])
 title-stored l a b e is f = f ∙ ap (λ (o : List ℕ). set o 1 b) (e ∙ ap (set l 0) is)
 
--- the space between the counts of a short data field is short
 -- ---- a packet and a datagram
 
 untold : {A B : Type 0} (r : Answer A) (f : A → B) {x : Refusal} → Err x ≡ on_accepted r (λ a. Ok (f a)) → r ≡ Err x

@@ -16,7 +16,7 @@ ghost use Rattle.contents.specs.Words.{quad, bits, record_words, title_result, r
 ghost use Rattle.contents.specs.Contents.{contents_of_packet, contents_of_datagram};
 ghost use Rattle.contents.specs.Listing.{listed_word, head_text, field_contents};
 
-use avl::Widths;
+use avl::NarrowWidths;
 use element::{RecordFields, Value};
 use traverse::{ElementWriter, FieldWriter, Moved, RecordWriter};
 use wire::Refusal;
@@ -44,7 +44,7 @@ impl ElementWriter for Listing {
 
     fn put_element(
         self,
-        w: Widths,
+        w: NarrowWidths,
         kind: usize,
         s: &[u8],
         at: usize,
@@ -68,13 +68,13 @@ impl ElementWriter for Listing {
 // ---- the words of a record
 
 // Altitude, angle, satellites and speed as they stand, below priority and generation type.
-fn motion(w: Widths, s: &[u8], at: usize) -> u64
-    requires generation_in_bounds { at + 24 + w.event + w.generation ≤ length s.now }
-    requires at_bound { (number_at s.now (at + 8) 1 ≤ 2) × (number_at s.now (at + 24 + w.event) w.generation ≤ 7) }
-    ensures { result ≡ number_at s.now (at + 17) 7 + 2 ^ 56 * number_at s.now (at + 8) 1 + 2 ^ 60 * number_at s.now (at + 24 + w.event) w.generation }
+fn motion(w: NarrowWidths, s: &[u8], at: usize) -> u64
+    requires generation_in_bounds { at + 24 + w.widths.event + w.widths.generation ≤ length s.now }
+    requires at_bound { (number_at s.now (at + 8) 1 ≤ 2) × (number_at s.now (at + 24 + w.widths.event) w.widths.generation ≤ 7) }
+    ensures { result ≡ number_at s.now (at + 17) 7 + 2 ^ 56 * number_at s.now (at + 8) 1 + 2 ^ 60 * number_at s.now (at + 24 + w.widths.event) w.widths.generation }
 {
-    let event = w.event;
-    let generation = w.generation;
+    let event = w.widths.event;
+    let generation = w.widths.generation;
     // The number of seven bytes by one load; `wire::number` would load each byte.
     let low = wire::be64(s, at + 16) % 0x100_0000_0000_0000;
     let priority = wire::short_number(s, at + 8, 1);
@@ -83,19 +83,19 @@ fn motion(w: Widths, s: &[u8], at: usize) -> u64
 }
 
 // Event ID; where the record starts in the input, its bytes, its elements.
-fn extent(w: Widths, s: &[u8], at: usize, start: usize, size: usize, elements: usize) -> u64
-    requires event_in_bounds { at + 24 + w.event ≤ length s.now }
+fn extent(w: NarrowWidths, s: &[u8], at: usize, start: usize, size: usize, elements: usize) -> u64
+    requires event_in_bounds { at + 24 + w.widths.event ≤ length s.now }
     requires start_bound { (start < 2 ^ 16) × (size < 2 ^ 16) × (elements < 2 ^ 16) }
-    ensures { result ≡ quad (number_at s.now (at + 24) w.event) start size elements }
+    ensures { result ≡ quad (number_at s.now (at + 24) w.widths.event) start size elements }
 {
-    let event = w.event;
+    let event = w.widths.event;
     let id = wire::short_number(s, at + 24, event);
     quad_word(id, start as u64, size as u64, elements as u64)
 }
 
 // The words of the record at `at`, which has so many bytes and elements.
 fn put_head(
-    w: Widths,
+    w: NarrowWidths,
     base: usize,
     s: &[u8],
     at: usize,
@@ -105,9 +105,9 @@ fn put_head(
     to: usize,
 )
     requires s_bound { base + length s.now < 2 ^ 16 }
-    requires ready { Ready (plain_record w) s.now at to }
+    requires ready { Ready (plain_record w.widths) s.now at to }
     requires size_bound { (size < 2 ^ 16) × (elements < 2 ^ 16) }
-    ensures { (r : AvlRecord) (n : ℕ) → plain_record w s.now at ≡ got r n → out.new ≡ sets out.old to (record_words r.fixed (base + at) size elements) }
+    ensures { (r : AvlRecord) (n : ℕ) → plain_record w.widths s.now at ≡ got r n → out.new ≡ sets out.old to (record_words r.fixed (base + at) size elements) }
 {
     store::store_word(out, to, wire::be64(s, at));
     store::store_word(out, to + 1, wire::be64(s, at + 9));
@@ -119,7 +119,7 @@ impl RecordWriter for Listing {
     ghost of_record = { λ x w. record_text (listed_word x.base) w (head_text x.base w) };
 
     // The words of a record and its elements. Its own come last: how many elements and bytes it has shows then.
-    fn put_record(self, w: Widths, s: &[u8], at: usize, out: &mut [u64], to: usize) -> Moved {
+    fn put_record(self, w: NarrowWidths, s: &[u8], at: usize, out: &mut [u64], to: usize) -> Moved {
         let first = to + 4;
         let moved = traverse::put_groups(self, w, s, at + element::fixed_size(w), out, first);
         put_head(

@@ -9,7 +9,7 @@ ghost use Rattle.element.specs.Elements.{fixed_size, locate_group, nth, first_wi
 ghost use Rattle.element.specs.Results.{record_result};
 ghost use Rattle.element.specs.Search.{Readable, HasElements, ReadableElement, ReadableGroup, Finds, Passes, value_at, searched, element_as};
 
-use avl::Widths;
+use avl::NarrowWidths;
 
 // A record's fixed fields, and the number of its elements. Whole words first: a refusal's three words stand in their place, and they are copied as words. Latitude and longitude, which are the third, are stored as one in this order, as the packet has them byte by byte backwards.
 #[derive(Clone, Copy)]
@@ -51,20 +51,20 @@ enum Search {
 }
 
 // How many bytes of a record stand before its groups.
-pub fn fixed_size(w: Widths) -> usize
-    ensures { result ≡ fixed_size w }
+pub fn fixed_size(w: NarrowWidths) -> usize
+    ensures { result ≡ fixed_size w.widths }
 {
-    24 + w.event + w.generation + w.count
+    24 + w.widths.event + w.widths.generation + w.widths.count
 }
 
 // The fixed fields of the record that `part` is, which has so many elements. The fields that are always there are read last, in one run.
-pub fn fields_of(w: Widths, part: &[u8], elements: usize) -> RecordFields
-    requires readable { Readable w part.now }
-    requires has_elements { HasElements w part.now elements }
-    ensures { (x : AvlRecord) (n : ℕ) → plain_record w part.now 0 ≡ got x n → result ≡ record_result x }
+pub fn fields_of(w: NarrowWidths, part: &[u8], elements: usize) -> RecordFields
+    requires readable { Readable w.widths part.now }
+    requires has_elements { HasElements w.widths part.now elements }
+    ensures { (x : AvlRecord) (n : ℕ) → plain_record w.widths part.now 0 ≡ got x n → result ≡ record_result x }
 {
-    let event = w.event;
-    let generation = w.generation;
+    let event = w.widths.event;
+    let generation = w.widths.generation;
     let behind = 24 + event;
     let event_id = wire::short_number(part, 24, event) as u16;
     let reason = wire::short_number(part, behind, generation) as u8;
@@ -84,12 +84,12 @@ pub fn fields_of(w: Widths, part: &[u8], elements: usize) -> RecordFields
 }
 
 // The element of a kind at `at`, its place counted from the record's start.
-pub fn element_value(w: Widths, kind: usize, part: &[u8], at: usize) -> Value
+pub fn element_value(w: NarrowWidths, kind: usize, part: &[u8], at: usize) -> Value
     requires kind_bound { kind ≤ 9 }
-    requires readable_element { ReadableElement w kind part.now at }
-    ensures { (e : Element) (n : ℕ) → element w kind part.now at ≡ got e n → result ≡ value_at w kind at e }
+    requires readable_element { ReadableElement w.widths kind part.now at }
+    ensures { (e : Element) (n : ℕ) → element w.widths kind part.now at ≡ got e n → result ≡ value_at w.widths kind at e }
 {
-    let width = w.id;
+    let width = w.widths.id;
     let id = wire::short_number(part, at, width) as u16;
     let behind = at + width;
     if kind == 9 {
@@ -110,14 +110,21 @@ pub fn element_value(w: Widths, kind: usize, part: &[u8], at: usize) -> Value
 }
 
 // The first element of a group with this ID, behind so many elements before the group. It counts down, as it has to for the group's end: a count upwards beside that takes time.
-fn find_in_group(w: Widths, kind: usize, part: &[u8], at: usize, id: u16, before: usize) -> Search
+fn find_in_group(
+    w: NarrowWidths,
+    kind: usize,
+    part: &[u8],
+    at: usize,
+    id: u16,
+    before: usize,
+) -> Search
     requires le_kind { 1 ≤ kind }
     requires kind_bound { kind ≤ 9 }
-    requires readable_group { ReadableGroup w kind part.now at }
+    requires readable_group { ReadableGroup w.widths kind part.now at }
     requires before_le_at { before ≤ at }
-    ensures { (g : List Element) (n : ℕ) → group w kind part.now at ≡ got g n → result ≡ searched id before n (locate_group w kind (at + w.count) g) }
+    ensures { (g : List Element) (n : ℕ) → group w.widths kind part.now at ≡ got g n → result ≡ searched id before n (locate_group w.widths kind (at + w.widths.count) g) }
 {
-    let width = w.count;
+    let width = w.widths.count;
     let count = wire::short_number(part, at, width) as usize;
     let behind = before + count;
     let mut next = at + width;
@@ -138,14 +145,14 @@ fn find_in_group(w: Widths, kind: usize, part: &[u8], at: usize, id: u16, before
 }
 
 // The first element with this ID, of the record that `part` is, and the number of elements passed.
-pub fn find_id(w: Widths, part: &[u8], id: u16) -> CountedElement
-    requires readable { Readable w part.now }
-    ensures found { Finds w part.now (first_with id) result.answer }
-    ensures passed { Passes w part.now id result.passed }
+pub fn find_id(w: NarrowWidths, part: &[u8], id: u16) -> CountedElement
+    requires readable { Readable w.widths part.now }
+    ensures found { Finds w.widths part.now (first_with id) result.answer }
+    ensures passed { Passes w.widths part.now id result.passed }
 {
     let mut next = fixed_size(w);
     let mut before: usize = 0;
-    for k in 0..walk::kind_count(w) {
+    for k in 0..walk::kind_count(w.widths) {
         match find_in_group(w, walk::kind_at(k), part, next, id, before) {
             Search::Hit { value, passed } => {
                 return CountedElement {
@@ -166,11 +173,11 @@ pub fn find_id(w: Widths, part: &[u8], id: u16) -> CountedElement
 }
 
 // The variable element with number `n` in the group at `at`.
-fn nth_variable(w: Widths, part: &[u8], at: usize, n: usize) -> Option<Value>
-    requires readable_group { ReadableGroup w 9 part.now at }
-    ensures { (g : List Element) (m : ℕ) → group w 9 part.now at ≡ got g m → result ≡ element_as (nth n (locate_group w 9 (at + w.count) g)) }
+fn nth_variable(w: NarrowWidths, part: &[u8], at: usize, n: usize) -> Option<Value>
+    requires readable_group { ReadableGroup w.widths 9 part.now at }
+    ensures { (g : List Element) (m : ℕ) → group w.widths 9 part.now at ≡ got g m → result ≡ element_as (nth n (locate_group w.widths 9 (at + w.widths.count) g)) }
 {
-    let width = w.count;
+    let width = w.widths.count;
     let count = wire::short_number(part, at, width) as usize;
     if count <= n {
         return None;
@@ -184,12 +191,12 @@ fn nth_variable(w: Widths, part: &[u8], at: usize, n: usize) -> Option<Value>
 }
 
 // The element with number `n` of the record that `part` is. A group of fixed values is stepped over by its size.
-pub fn nth_element(w: Widths, part: &[u8], n: usize) -> Option<Value>
-    requires readable { Readable w part.now }
-    ensures { Finds w part.now (nth n) result }
+pub fn nth_element(w: NarrowWidths, part: &[u8], n: usize) -> Option<Value>
+    requires readable { Readable w.widths part.now }
+    ensures { Finds w.widths part.now (nth n) result }
 {
-    let width = w.count;
-    let id = w.id;
+    let width = w.widths.count;
+    let id = w.widths.id;
     let mut left = n;
     let mut next = fixed_size(w);
     for k in 0..4 {
@@ -204,7 +211,7 @@ pub fn nth_element(w: Widths, part: &[u8], n: usize) -> Option<Value>
         left -= count;
         next = start + count * size;
     }
-    if w.variable {
+    if w.widths.variable {
         return nth_variable(w, part, next, left);
     }
     None

@@ -16,7 +16,7 @@ ghost use Rattle.traverse.specs.Copying.{Ready, Copies};
 ghost use Rattle.traverse.specs.Fields.{field_text, Field, Writes};
 ghost use Rattle.form.specs.Moves.{entry_text, fixed_text, head_text, form_of_field};
 
-use avl::Widths;
+use avl::NarrowWidths;
 use traverse::{ElementWriter, FieldWriter, Moved, RecordWriter};
 use wire::Refusal;
 
@@ -37,12 +37,12 @@ fn store_field(s: &[u8], at: usize, i: usize, w: usize, out: &mut [u8], to: usiz
 }
 
 // The entry of the fixed fields: kind 101, 27 bytes.
-fn put_fixed(w: Widths, s: &[u8], at: usize, out: &mut [u8], to: usize) -> Moved
-    requires ready { Ready (fixed_fields w) s.now at to }
-    ensures { Copies (fixed_fields w) fixed_text s.now at to out.old out.new result }
+fn put_fixed(w: NarrowWidths, s: &[u8], at: usize, out: &mut [u8], to: usize) -> Moved
+    requires ready { Ready (fixed_fields w.widths) s.now at to }
+    ensures { Copies (fixed_fields w.widths) fixed_text s.now at to out.old out.new result }
 {
-    let event = w.event;
-    let generation = w.generation;
+    let event = w.widths.event;
+    let generation = w.widths.generation;
     let behind = at + 24;
     let last = behind + event;
     store::store_head(out, to, 27, 101);
@@ -116,14 +116,14 @@ impl ElementWriter for Entries {
     // The entry of an element: its kind, its ID, its value as it stands.
     fn put_element(
         self,
-        w: Widths,
+        w: NarrowWidths,
         kind: usize,
         s: &[u8],
         at: usize,
         out: &mut [u8],
         to: usize,
     ) -> Moved {
-        let id = w.id;
+        let id = w.widths.id;
         let value = value_at(kind, s, at + id);
         let start = value.start;
         let size = value.size;
@@ -142,8 +142,8 @@ impl RecordWriter for Entries {
     ghost of_record = { λ x w. record_text entry_text w head_text };
 
     // The entries of a record: that of the fixed fields, then those of its groups, which are those of its elements.
-    fn put_record(self, w: Widths, s: &[u8], at: usize, out: &mut [u8], to: usize) -> Moved {
-        let count = w.count;
+    fn put_record(self, w: NarrowWidths, s: &[u8], at: usize, out: &mut [u8], to: usize) -> Moved {
+        let count = w.widths.count;
         let fixed = put_fixed(w, s, at, out, to);
         traverse::put_groups(self, w, s, fixed.from + count, out, fixed.to)
     }

@@ -1,4 +1,5 @@
 -- The line of a record keeps the rules of lines, so that a packet's line is read again; and what a line tells of a record.
+use Rattle.walk.proofs.WalkLaws.{narrow}
 use Rattle.std.specs.Prelude.{Err, Ok}
 use Prim.Native.Nat.{ℕ, ◌+◌, ◌^◌, ◌≤◌, ◌<◌}
 use native.Mathlib.Nat.{pow-le-pow_right, le_trans}
@@ -162,7 +163,7 @@ module _ (longest : ℕ) (p : List ℕ) (n : ℕ) where
       one : (a : Answer Placed) → placed_record x n ≡ a → on_accepted (on_accepted a (line_of x.content.codec)) read_line ≡ on_accepted a (fields_of_record x.content.codec)
       one (Err y) e = refl
       one (Ok r) e =
-          line-inverse.undo _ (record-rules longest (widths_of x.content.codec) r.content (widths_of x.content.codec).id_fits (kept longest p x n r (h x refl) e).rules)
+          line-inverse.undo _ (record-rules longest (widths_of x.content.codec) r.content (narrow x.content.codec).id (kept longest p x n r (h x refl) e).rules)
 
 module _ (limits : Limits) (p : List ℕ) (n : ℕ) (b : Bytes p) where
   pub line-again : on_accepted (line_of_packet limits p n) read_line ≡ fields_of_packet limits p n

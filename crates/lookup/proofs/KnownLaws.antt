@@ -1,4 +1,6 @@
 -- The last record of a packet, and the last known value.
+use Rattle.avl.specs.Narrow.{Narrow}
+use Rattle.walk.proofs.WalkLaws.{narrow}
 use Rattle.std.specs.Prelude.{Err, Ok}
 use Prim.Native.Nat.{ℕ, ◌+◌, ◌-◌, ◌%◌, ◌^◌, ◌≤◌, ◌<◌}
 use native.Mathlib.Nat.{lt_of_lt_of_le, pow-le-pow_right}
@@ -106,12 +108,12 @@ module _ (limits : Limits) (p : List ℕ) (bytes : Bytes p) where
   unfolding passed_in_last or_none on_accepted
   last-few id = whole (tcp_source limits p) stored
     where
-      counted : (longest : ℕ) (w : Widths) (r : AvlRecord) → RecordRules longest w r → passed_for id (elements w r) < 256 ^ 2
-      counted longest w r k = omega (arith, passed-most id (elements w r), length-elements longest w r k, lt_of_lt_of_le k.total_fits (pow-le-pow_right byte_pos w.count_fits))
+      counted : (longest : ℕ) (w : Widths) (r : AvlRecord) → Narrow w → RecordRules longest w r → passed_for id (elements w r) < 256 ^ 2
+      counted longest w r n k = omega (arith, passed-most id (elements w r), length-elements longest w r k, lt_of_lt_of_le k.total_fits (pow-le-pow_right byte_pos n.count))
 
       of-record : (x : Source) → Stored limits.longest p x → (r : Answer Placed) → placed_record x (last_number x) ≡ r
           → or_none (on_accepted r (λ r. Ok (passed_for id (elements (widths_of x.content.codec) r.content)))) < 256 ^ 2
-      of-record x h (Ok r) e = counted limits.longest _ r.content (kept limits.longest p x (last_number x) r h e).rules
+      of-record x h (Ok r) e = counted limits.longest _ r.content (narrow x.content.codec) (kept limits.longest p x (last_number x) r h e).rules
       of-record x h (Err y) e = omega arith
 
       whole : (source : Answer Source) → ((x : Source) → source ≡ Ok x → Stored limits.longest p x) → passed_in_last id source < 256 ^ 2

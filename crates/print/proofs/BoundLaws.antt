@@ -1,4 +1,6 @@
 -- How long lines can be: four characters for each byte of the record, of the data field, of the packet.
+use Rattle.avl.specs.Narrow.{Narrow}
+use Rattle.walk.proofs.WalkLaws.{narrow}
 use Rattle.std.specs.Prelude.{Ok}
 use Prim.Native.Nat.{ℕ, zero, suc, ◌+◌, ◌-◌, ◌*◌, ◌≤◌}
 use native.Mathlib.Omega.{arith}
@@ -41,17 +43,17 @@ head-size : (w : Widths) (at : ℕ) (r : AvlRecord) → 1 * length (head_end at 
 unfolding fixed_size
 head-size w at r = omega (arith, leading-most r.fixed.timestamp r.fixed.longitude r.fixed.latitude r.fixed.speed)
 
-pub line-size : (w : Widths) (at : ℕ) (r : AvlRecord) → GroupsRules w (kinds w) r.groups → length (line_text w at r) ≤ 4 * length (record_bytes w r)
-line-size w at r h =
-    omega (arith, line-long w at r, record-size 1 4 printed w (element-size w w.id_named) head_end (head-size w) at r h)
+pub line-size : (w : Widths) → Narrow w → (at : ℕ) (r : AvlRecord) → GroupsRules w (kinds w) r.groups → length (line_text w at r) ≤ 4 * length (record_bytes w r)
+line-size w few at r h =
+    omega (arith, line-long w at r, record-size 1 4 printed w (element-size w few.named) head_end (head-size w) at r h)
 
 -- a line fits where the lent bytes are four times the record's
-pub line-fits : (w : Widths) (s : List ℕ) → Bytes s → (x : AvlRecord) (n : ℕ) → plain_record w s 0 ≡ got x n → length (line_bytes (record_line w x)) ≤ 4 * length s
-line-fits w s b x n e =
+pub line-fits : (w : Widths) → Narrow w → (s : List ℕ) → Bytes s → (x : AvlRecord) (n : ℕ) → plain_record w s 0 ≡ got x n → length (line_bytes (record_line w x)) ≤ 4 * length s
+line-fits w few s b x n e =
     let k = (record-read w s 0).if-got _ _ e in
     let keep = (((groups-exact w (kinds w)).sound s (k.start + w.count) b k.inside).if-got _ _ k.groups_read).1 in
     let size = plain_size w s 0 b (omega arith) e in
-    omega (arith, line-size w 0 x keep, size.0, size.1)
+    omega (arith, line-size w few 0 x keep, size.0, size.1)
 
 -- ---- the lines of a data field
 
@@ -76,7 +78,7 @@ lines_long w at (r ∷ rs) =
 pub lines-size : (longest : ℕ) (d : List ℕ) (a : AvlData) → Bytes d → 3 ≤ length d → read_data longest d ≡ Ok a → length (lines_text a) ≤ 4 * length d
 lines-size longest d a b l e =
     let w = widths_of a.codec in
-    let records = field-size 1 4 printed w (element-size w (widths_of a.codec).id_named) head_end (head-size w) longest 0 d a refl b l e in
+    let records = field-size 1 4 printed w (element-size w (narrow a.codec).named) head_end (head-size w) longest 0 d a refl b l e in
     omega (arith, records, lines_long w 0 a.records, ap length (lines-laid w 0 a.records))
 
 -- ---- the lines of a packet and of a datagram

@@ -8,6 +8,7 @@ use lib.ListN.{length, length-append, take, drop, length-drop}
 use lib.Seq.{sets, take_at, length-take-le}
 use lib.Dec.{eqb}
 use borrow.Author.Tests.{eq-eqb, ne_eqb}
+use Rattle.avl.specs.Narrow.{Narrow}
 use Rattle.wire.specs.Numbers.{Bytes, number_at, be, pick}
 use Rattle.wire.specs.Reading.{Reader, got}
 use Rattle.wire.proofs.Widths.{length_digits, number_lt, number-be, be-number}
@@ -158,9 +159,9 @@ element-size w named kind at e h r =
     some true f k = absurd (let z : ◌≡◌ {A = ℕ} 0 1 = cc in omega arith)
     some false f k = omega (arith, h, k)
 
-pub paced-element : (w : Widths) (kind : ℕ) → 1 ≤ kind → Paced (element w kind) (element_text printed w kind)
-paced-element w kind h =
+pub paced-element : (w : Widths) → Narrow w → (kind : ℕ) → 1 ≤ kind → Paced (element w kind) (element_text printed w kind)
+paced-element w narrow kind h =
     record {
       pace = λ s at b i. meets-weaken ((element-exact w kind).sound s at b i) (λ e n k.
-          (k.0.inside, omega (arith, k.0.size, element-size w w.id_named kind at e h k.1)));
+          (k.0.inside, omega (arith, k.0.size, element-size w narrow.named kind at e h k.1)));
     }

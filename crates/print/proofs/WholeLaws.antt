@@ -1,4 +1,5 @@
 -- Writing lines: that of a record, and those of a packet or a datagram.
+use Rattle.walk.proofs.WalkLaws.{narrow}
 use Rattle.std.specs.Prelude.{Err, Ok}
 use Rattle.lookup.specs.declared.Part.{Part}
 use Prim.Native.Nat.{ℕ, ◌+◌, ◌-◌, ◌*◌, ◌^◌, ◌<◌}
@@ -80,7 +81,7 @@ module _ (codec : ℕ) (s : List ℕ) where
         arith,
         ap (λ (l : List AvlRecord). length (lines_text (record { codec = codec; records = l }))) same,
         ap length (append-nil line),
-        line-fits (widths_of codec) s k.bytes k.content k.next k.reads,
+        line-fits (widths_of codec) (narrow codec) s k.bytes k.content k.next k.reads,
       )
 
   pub line-written : {before after : List ℕ} {r : Answer ℕ} → WritesRecords codec 1 lines_text s before after r → WritesLine (widths_of codec) s before after r

@@ -19,7 +19,7 @@ ghost use Rattle.line.specs.Lines.{unsigned_degrees, degrees, escaped, quoted};
 ghost use Rattle.line.specs.RecordLines.{line_of_packet, line_of_datagram, lines_of_packet, lines_of_datagram};
 ghost use Rattle.print.specs.Printing.{printed, leading, line_text, lines_text, WritesLine, ShortPart, LineIn};
 
-use avl::Widths;
+use avl::NarrowWidths;
 use lookup::{Part, TcpPacket, UdpDatagram};
 use traverse::{ElementWriter, FieldWriter, Moved, RecordWriter};
 use wire::Refusal;
@@ -250,7 +250,7 @@ impl ElementWriter for Lines {
     // The element at `at`, behind a comma: its ID, and its number or its tag.
     fn put_element(
         self,
-        w: Widths,
+        w: NarrowWidths,
         kind: usize,
         s: &[u8],
         at: usize,
@@ -294,7 +294,7 @@ impl RecordWriter for Lines {
     ghost of_record = { λ x w. line_text w };
 
     // The line of the record at `at`.
-    fn put_record(self, w: Widths, s: &[u8], at: usize, out: &mut [u8], to: usize) -> Moved {
+    fn put_record(self, w: NarrowWidths, s: &[u8], at: usize, out: &mut [u8], to: usize) -> Moved {
         let first = put_head(s, at, out, to);
         let moved = traverse::put_groups(self, w, s, at + element::fixed_size(w), out, first);
         let last = moved.to;

@@ -5,6 +5,7 @@ use mathlib.Core.Bool.{Bool, true, false}
 use mathlib.Core.List.{List, [], ◌∷◌}
 use lib.ListN.{length, drop, length-append, length-take, length-drop}
 use lib.Dec.{eqb}
+use Rattle.avl.specs.Narrow.{Narrow}
 use Rattle.wire.specs.Numbers.{be, digits, little_at, pick}
 use Rattle.wire.specs.Sequences.{joined}
 use Rattle.wire.proofs.Widths.{length_digits}
@@ -62,14 +63,14 @@ few ks f at h = omega (arith, count-groups ks (entries_at f at), weight-at f at 
 
 -- ---- how long they are
 
-module _ (w : Widths) where
+module _ (w : Widths) (narrow : Narrow w) where
   length-length_bytes : (k : ℕ) (v : List ℕ) → length (length_bytes k v) ≤ 2
   unfolding length_bytes digits
   length-length_bytes k v = pick-either (λ l. length l ≤ 2) (eqb k 9) (be 2 (length v)) [] (omega arith) (omega arith)
 
   length-element : (k : ℕ) (e : Entry) → length (element_bytes w k (entry_element e)) ≤ 4 + length e.body
   unfolding element_bytes entry_element
-  length-element k e = simp (length-append, length_digits) (omega (arith, w.id_fits, length-length_bytes k (drop 2 e.body), length-drop 2 e.body))
+  length-element k e = simp (length-append, length_digits) (omega (arith, narrow.id, length-length_bytes k (drop 2 e.body), length-drop 2 e.body))
 
   length_run : (k : ℕ) (es : List Entry) → length (joined (element_bytes w k) (run k es)) + weight (behind k es) ≤ weight es
   unfolding run behind
@@ -84,7 +85,7 @@ module _ (w : Widths) where
   length-groups : (ks : List ℕ) (es : List Entry) → length (groups_bytes w ks (groups_of ks es)) ≤ 2 * length ks + weight es
   unfolding groups_bytes groups_of group_bytes
   length-groups [] es = omega arith
-  length-groups (k ∷ ks) es = simp (length-append, length_digits) (omega (arith, w.count_fits, length_run k es, length-groups ks (behind k es)))
+  length-groups (k ∷ ks) es = simp (length-append, length_digits) (omega (arith, narrow.count, length_run k es, length-groups ks (behind k es)))
 
   length-records : (es : List Entry) → weight es ≤ 262144 → length (joined (record_bytes w) (records_of (kinds w) es)) ≤ 300000 * length es
   unfolding records_of fixed_size
@@ -94,7 +95,7 @@ module _ (w : Widths) where
       let rs = records_of (kinds w) es in
       let rest = length-records es (omega (arith, h)) in
       pick-either (λ l. length (joined (record_bytes w) l) ≤ 300000 * length (e ∷ es)) (eqb e.kind 101) (r ∷ rs) rs
-      (omega (arith, h, length-append (record_bytes w r) (joined (record_bytes w) rs), w.event_fits, w.generation_fits, w.count_fits, length-record w r, length-groups (kinds w) es, kinds-few w)) (omega arith)
+      (omega (arith, h, length-append (record_bytes w r) (joined (record_bytes w) rs), narrow.event, narrow.generation, narrow.count, length-record w r, length-groups (kinds w) es, kinds-few w)) (omega arith)
 
   pub records-room : (f : List ℕ) (at : ℕ) → length f ≤ 65536 → length (joined (record_bytes w) (records_of (kinds w) (entries_at f at))) ≤ 2 ^ 39
   records-room f at h = let es = entries_at f at in omega (arith, length-records es (weight-at f at h), length-weight es, weight-at f at h)

@@ -18,7 +18,7 @@ ghost use Rattle.store.specs.Stores.{Stored};
 ghost use Rattle.store.specs.Entries.{next_at, entry_at, entries_at};
 ghost use Rattle.rebuild.specs.FormPlaces.{record_at, behind_all, Goes, RecordFrom};
 
-use avl::Widths;
+use avl::NarrowWidths;
 use wire::{LARGEST_FORM, Limits, Refusal};
 
 // Where reading and storing go on, and how many elements or records were stored.
@@ -42,9 +42,9 @@ fn turned(b: &[u8], at: usize, n: usize, out: &mut [u8], to: usize, w: usize) ->
 }
 
 // The fixed fields of a record, from the body of its entry.
-fn put_fixed(w: Widths, b: &[u8], out: &mut [u8], to: usize) -> usize
+fn put_fixed(w: NarrowWidths, b: &[u8], out: &mut [u8], to: usize) -> usize
     requires to_bound { to ≤ 2 ^ 40 }
-    ensures { Stored (fixed_bytes w (fixed_of b.now)) out.old out.new to result }
+    ensures { Stored (fixed_bytes w.widths (fixed_of b.now)) out.old out.new to result }
 {
     let a1 = turned(b, 0, 8, out, to, 8);
     let a2 = turned(b, 8, 1, out, a1, 1);
@@ -54,18 +54,18 @@ fn put_fixed(w: Widths, b: &[u8], out: &mut [u8], to: usize) -> usize
     let a6 = turned(b, 19, 2, out, a5, 2);
     let a7 = turned(b, 21, 1, out, a6, 1);
     let a8 = turned(b, 22, 2, out, a7, 2);
-    let a9 = turned(b, 24, 2, out, a8, w.event);
-    turned(b, 26, 1, out, a9, w.generation)
+    let a9 = turned(b, 24, 2, out, a8, w.widths.event);
+    turned(b, 26, 1, out, a9, w.widths.generation)
 }
 
 // An element of a kind, from the body of its entry.
-fn put_element(w: Widths, kind: usize, b: &[u8], out: &mut [u8], to: usize) -> usize
+fn put_element(w: NarrowWidths, kind: usize, b: &[u8], out: &mut [u8], to: usize) -> usize
     requires b_len_bound { length b.now ≤ 65536 }
     requires to_bound { to ≤ 2 ^ 40 }
-    ensures { Stored (element_bytes w kind (entry_element (record { kind = kind; body = b.now }))) out.old out.new to result }
+    ensures { Stored (element_bytes w.widths kind (entry_element (record { kind = kind; body = b.now }))) out.old out.new to result }
 {
     let start = b.len().min(2);
-    let a1 = turned(b, 0, 2, out, to, w.id);
+    let a1 = turned(b, 0, 2, out, to, w.widths.id);
     if kind == 9 {
         let size = b.len() - start;
         let a2 = store::store_be(out, a1, 2, size as u64);
@@ -75,19 +75,26 @@ fn put_element(w: Widths, kind: usize, b: &[u8], out: &mut [u8], to: usize) -> u
 }
 
 // The element of a kind whose entry is at `at`.
-fn put_entry(w: Widths, kind: usize, f: &[u8], at: usize, out: &mut [u8], to: usize) -> usize
+fn put_entry(w: NarrowWidths, kind: usize, f: &[u8], at: usize, out: &mut [u8], to: usize) -> usize
     requires f_len_bound { (length f.now ≤ 65536) × (at ≤ 65536) }
     requires to_bound { to ≤ 2 ^ 40 }
-    ensures { Stored (element_bytes w kind (entry_element (entry_at f.now at))) out.old out.new to result }
+    ensures { Stored (element_bytes w.widths kind (entry_element (entry_at f.now at))) out.old out.new to result }
 {
     put_element(w, kind, store::entry_body(f, at), out, to)
 }
 
 // The elements of a kind from `from` on.
-fn put_run(w: Widths, kind: usize, f: &[u8], mut from: usize, out: &mut [u8], mut to: usize) -> Run
+fn put_run(
+    w: NarrowWidths,
+    kind: usize,
+    f: &[u8],
+    mut from: usize,
+    out: &mut [u8],
+    mut to: usize,
+) -> Run
     requires f_len_bound { length f.now ≤ 65536 }
-    requires from_bound { to + length (joined (element_bytes w kind) (run kind (entries_at f.now from))) ≤ 2 ^ 40 }
-    ensures { Goes f.now from (behind kind (entries_at f.now from)) (joined (element_bytes w kind) (run kind (entries_at f.now from))) out.old out.new to (length (run kind (entries_at f.now from))) result }
+    requires from_bound { to + length (joined (element_bytes w.widths kind) (run kind (entries_at f.now from))) ≤ 2 ^ 40 }
+    ensures { Goes f.now from (behind kind (entries_at f.now from)) (joined (element_bytes w.widths kind) (run kind (entries_at f.now from))) out.old out.new to (length (run kind (entries_at f.now from))) result }
 {
     let mut count = 0;
     // By offset, here and in the walks below: the next walk goes on where one stops, and an iterator would have to give that back.
@@ -100,25 +107,25 @@ fn put_run(w: Widths, kind: usize, f: &[u8], mut from: usize, out: &mut [u8], mu
 }
 
 // A group: its elements, and their count in front of them.
-fn put_group(w: Widths, kind: usize, f: &[u8], from: usize, out: &mut [u8], to: usize) -> Run
+fn put_group(w: NarrowWidths, kind: usize, f: &[u8], from: usize, out: &mut [u8], to: usize) -> Run
     requires f_len_bound { length f.now ≤ 65536 }
-    requires from_bound { to + length (group_bytes w kind (run kind (entries_at f.now from))) ≤ 2 ^ 40 }
-    ensures { Goes f.now from (behind kind (entries_at f.now from)) (group_bytes w kind (run kind (entries_at f.now from))) out.old out.new to (length (run kind (entries_at f.now from))) result }
+    requires from_bound { to + length (group_bytes w.widths kind (run kind (entries_at f.now from))) ≤ 2 ^ 40 }
+    ensures { Goes f.now from (behind kind (entries_at f.now from)) (group_bytes w.widths kind (run kind (entries_at f.now from))) out.old out.new to (length (run kind (entries_at f.now from))) result }
 {
-    let count = w.count;
+    let count = w.widths.count;
     let elements = put_run(w, kind, f, from, out, to + count);
     store::store_be(out, to, count, elements.count as u64);
     elements
 }
 
 // The groups from `from` on, in the order of their kinds, and how many elements they have.
-fn put_groups(w: Widths, f: &[u8], mut from: usize, out: &mut [u8], mut to: usize) -> Run
+fn put_groups(w: NarrowWidths, f: &[u8], mut from: usize, out: &mut [u8], mut to: usize) -> Run
     requires f_len_bound { length f.now ≤ 65536 }
-    requires from_bound { to + length (groups_bytes w (kinds w) (groups_of (kinds w) (entries_at f.now from))) ≤ 2 ^ 40 }
-    ensures { Goes f.now from (behind_all (kinds w) (entries_at f.now from)) (groups_bytes w (kinds w) (groups_of (kinds w) (entries_at f.now from))) out.old out.new to (element_count (groups_of (kinds w) (entries_at f.now from))) result }
+    requires from_bound { to + length (groups_bytes w.widths (kinds w.widths) (groups_of (kinds w.widths) (entries_at f.now from))) ≤ 2 ^ 40 }
+    ensures { Goes f.now from (behind_all (kinds w.widths) (entries_at f.now from)) (groups_bytes w.widths (kinds w.widths) (groups_of (kinds w.widths) (entries_at f.now from))) out.old out.new to (element_count (groups_of (kinds w.widths) (entries_at f.now from))) result }
 {
     let mut count = 0;
-    for k in 0..walk::kind_count(w) {
+    for k in 0..walk::kind_count(w.widths) {
         let group = put_group(w, walk::kind_at(k), f, from, out, to);
         from = group.from;
         to = group.to;
@@ -128,13 +135,13 @@ fn put_groups(w: Widths, f: &[u8], mut from: usize, out: &mut [u8], mut to: usiz
 }
 
 // The record whose entry 101 is at `at`: its fixed fields, its groups, and the total in front of these.
-fn put_record(w: Widths, f: &[u8], at: usize, out: &mut [u8], to: usize) -> Run
+fn put_record(w: NarrowWidths, f: &[u8], at: usize, out: &mut [u8], to: usize) -> Run
     requires f_len_bound { (length f.now ≤ 65536) × (at ≤ 65536) }
-    requires at_bound { to + length (record_bytes w (record_at (kinds w) f.now at)) ≤ 2 ^ 40 }
-    ensures { Goes f.now (next_at f.now at) (behind_all (kinds w) (entries_at f.now (next_at f.now at))) (record_bytes w (record_at (kinds w) f.now at)) out.old out.new to (element_count (groups_of (kinds w) (entries_at f.now (next_at f.now at)))) result }
+    requires at_bound { to + length (record_bytes w.widths (record_at (kinds w.widths) f.now at)) ≤ 2 ^ 40 }
+    ensures { Goes f.now (next_at f.now at) (behind_all (kinds w.widths) (entries_at f.now (next_at f.now at))) (record_bytes w.widths (record_at (kinds w.widths) f.now at)) out.old out.new to (element_count (groups_of (kinds w.widths) (entries_at f.now (next_at f.now at)))) result }
 {
     let from = store::next_at(f, at);
-    let count = w.count;
+    let count = w.widths.count;
     let a1 = put_fixed(w, store::entry_body(f, at), out, to);
     let groups = put_groups(w, f, from, out, a1 + count);
     store::store_be(out, a1, count, groups.count as u64);
@@ -153,10 +160,10 @@ fn next_record(f: &[u8], mut from: usize) -> usize
 }
 
 // The records from `from` on.
-fn put_records(w: Widths, f: &[u8], mut from: usize, out: &mut [u8], mut to: usize) -> Run
+fn put_records(w: NarrowWidths, f: &[u8], mut from: usize, out: &mut [u8], mut to: usize) -> Run
     requires f_len_bound { length f.now ≤ 65536 }
-    requires from_bound { to + length (joined (record_bytes w) (records_of (kinds w) (entries_at f.now from))) ≤ 2 ^ 40 }
-    ensures { Goes f.now from [] (joined (record_bytes w) (records_of (kinds w) (entries_at f.now from))) out.old out.new to (length (records_of (kinds w) (entries_at f.now from))) result }
+    requires from_bound { to + length (joined (record_bytes w.widths) (records_of (kinds w.widths) (entries_at f.now from))) ≤ 2 ^ 40 }
+    ensures { Goes f.now from [] (joined (record_bytes w.widths) (records_of (kinds w.widths) (entries_at f.now from))) out.old out.new to (length (records_of (kinds w.widths) (entries_at f.now from))) result }
 {
     let mut count = 0;
     from = next_record(f, from);

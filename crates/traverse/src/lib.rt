@@ -13,7 +13,7 @@ ghost use Rattle.traverse.specs.Texts.{element_text, group_text, groups_text, re
 ghost use Rattle.traverse.specs.Copying.{Ready, Copies, OnPace};
 ghost use Rattle.traverse.specs.Fields.{field_text, Field, Writes, WritesRecords, HasRoom, FieldRoom};
 
-use avl::Widths;
+use avl::NarrowWidths;
 use wire::Refusal;
 
 // Where reading and storing go on.
@@ -53,7 +53,7 @@ pub trait ElementWriter: Copy {
 
     fn put_element(
         self,
-        w: Widths,
+        w: NarrowWidths,
         kind: usize,
         s: &[u8],
         at: usize,
@@ -62,15 +62,15 @@ pub trait ElementWriter: Copy {
     ) -> Moved
         requires le_kind { (1 ≤ kind) × (kind ≤ 9) }
         requires taken { takes self (length s.now) }
-        requires ready { Ready (element w kind) s.now at to }
-        ensures copies { Copies (element w kind) (element_text (of_element self) w kind) s.now at to (Self.Item.numbers out.old) (Self.Item.numbers out.new) result }
+        requires ready { Ready (element w.widths kind) s.now at to }
+        ensures copies { Copies (element w.widths kind) (element_text (of_element self) w.widths kind) s.now at to (Self.Item.numbers out.old) (Self.Item.numbers out.new) result }
         ensures pace { OnPace s.now at to result };
 }
 
 // Writes a group: the texts of its elements. Counted down: counted up, the loop keeps a second number, and a form takes 3 to 9 % longer.
 pub fn put_group<W: ElementWriter>(
     writer: W,
-    w: Widths,
+    w: NarrowWidths,
     kind: usize,
     s: &[u8],
     at: usize,
@@ -79,11 +79,11 @@ pub fn put_group<W: ElementWriter>(
 ) -> Moved
     requires le_kind { (1 ≤ kind) × (kind ≤ 9) }
     requires taken { W.takes writer (length s.now) }
-    requires ready { Ready (group w kind) s.now at to }
-    ensures copies { Copies (group w kind) (group_text (W.of_element writer) w kind) s.now at to (W.Item.numbers out.old) (W.Item.numbers out.new) result }
+    requires ready { Ready (group w.widths kind) s.now at to }
+    ensures copies { Copies (group w.widths kind) (group_text (W.of_element writer) w.widths kind) s.now at to (W.Item.numbers out.old) (W.Item.numbers out.new) result }
     ensures pace { OnPace s.now at to result }
 {
-    let count = w.count;
+    let count = w.widths.count;
     let elements = wire::short_number(s, at, count);
     let mut moved = Moved {
         from: at + count,
@@ -98,18 +98,18 @@ pub fn put_group<W: ElementWriter>(
 // Writes the groups of a record, in the order of their kinds. One loop with one call, so that the compiler lays out the groups one behind another.
 pub fn put_groups<W: ElementWriter>(
     writer: W,
-    w: Widths,
+    w: NarrowWidths,
     s: &[u8],
     at: usize,
     out: &mut [W::Item],
     to: usize,
 ) -> Moved
     requires taken { W.takes writer (length s.now) }
-    requires ready { Ready (groups w (kinds w)) s.now at to }
-    ensures copies { Copies (groups w (kinds w)) (groups_text (W.of_element writer) w (kinds w)) s.now at to (W.Item.numbers out.old) (W.Item.numbers out.new) result }
+    requires ready { Ready (groups w.widths (kinds w.widths)) s.now at to }
+    ensures copies { Copies (groups w.widths (kinds w.widths)) (groups_text (W.of_element writer) w.widths (kinds w.widths)) s.now at to (W.Item.numbers out.old) (W.Item.numbers out.new) result }
     ensures pace { OnPace s.now at to result }
 {
-    let n = walk::kind_count(w);
+    let n = walk::kind_count(w.widths);
     let mut moved = Moved { from: at, to };
     for k in 0..n {
         moved = put_group(writer, w, walk::kind_at(k), s, moved.from, out, moved.to);
@@ -121,25 +121,32 @@ pub fn put_groups<W: ElementWriter>(
 pub trait RecordWriter: ElementWriter {
     ghost of_record: { Self → Widths → ℕ → AvlRecord → List ℕ };
 
-    fn put_record(self, w: Widths, s: &[u8], at: usize, out: &mut [Self::Item], to: usize) -> Moved
+    fn put_record(
+        self,
+        w: NarrowWidths,
+        s: &[u8],
+        at: usize,
+        out: &mut [Self::Item],
+        to: usize,
+    ) -> Moved
         requires taken { Self.takes self (length s.now) }
-        requires ready { Ready (plain_record w) s.now at to }
-        ensures copies { Copies (plain_record w) (of_record self w) s.now at to (Self.Item.numbers out.old) (Self.Item.numbers out.new) result }
+        requires ready { Ready (plain_record w.widths) s.now at to }
+        ensures copies { Copies (plain_record w.widths) (of_record self w.widths) s.now at to (Self.Item.numbers out.old) (Self.Item.numbers out.new) result }
         ensures pace { OnPace s.now at to result };
 }
 
 // Writes `count` records, which begin at 0.
 pub fn put_records<W: RecordWriter>(
     writer: W,
-    w: Widths,
+    w: NarrowWidths,
     count: usize,
     s: &[u8],
     out: &mut [W::Item],
     to: usize,
 ) -> Moved
     requires taken { W.takes writer (length s.now) }
-    requires ready { Ready (repeat count (plain_record w)) s.now 0 to }
-    ensures copies { Copies (repeat count (plain_record w)) (records_text (W.of_record writer w) w) s.now 0 to (W.Item.numbers out.old) (W.Item.numbers out.new) result }
+    requires ready { Ready (repeat count (plain_record w.widths)) s.now 0 to }
+    ensures copies { Copies (repeat count (plain_record w.widths)) (records_text (W.of_record writer w.widths) w.widths) s.now 0 to (W.Item.numbers out.old) (W.Item.numbers out.new) result }
     ensures pace { OnPace s.now 0 to result }
 {
     let mut moved = Moved { from: 0, to };

@@ -18,12 +18,13 @@ use Rattle.wire.specs.Envelope.{codec_of, first_count, last_count, inner}
 use Rattle.wire.specs.Answers.{Answer, refusal_at, moved_by, from, told, on_accepted}
 use Rattle.wire.proofs.Widths.{number_lt, byte_pos}
 use Rattle.wire.proofs.Enclosed.{bytes-inner}
-use Rattle.wire.proofs.Accepting.{by_length, pick_true, pick-false, check-passed, check-failed}
+use Rattle.wire.proofs.Accepting.{by_length, pick-either, pick_true, pick-false, check-passed, check-failed}
 use Rattle.wire.proofs.Exactness.{Exact, then-got, here-got, require-got, repeat-sound}
 use Rattle.wire.proofs.Walking.{short, then-bad, require-bad, bytes-got, bytes-bad, number-there, number-missing, up_to-there, up_to-missing, walked_on, walked-stopped, walked-bad}
 use Rattle.avl.specs.declared.Widths.{Widths}
 use Rattle.walk.specs.declared.Span.{Span}
-use Rattle.avl.specs.Codecs.{widths_of, is_data_codec, kinds, all_kinds}
+use Rattle.avl.specs.Codecs.{codec8, codec8_e, codec16, widths_of, is_data_codec, kinds, all_kinds}
+use Rattle.avl.specs.Narrow.{Narrow}
 use Rattle.avl.specs.Records.{Element, Fixed, AvlRecord, element_count, record_bytes}
 use Rattle.avl.specs.RecordReader.{value_size, element, group, groups, fixed_fields, avl_record, tagged, in_record, avl_records, at_end, all_records}
 use Rattle.avl.specs.DataField.{AvlData, read_data}
@@ -39,9 +40,23 @@ walked-inside x s at b h e = ((x.sound s at b h).if-got _ _ (walked_on _ e).1).0
 
 -- ---- widths
 
+pub narrow : (codec : ℕ) → Narrow (widths_of codec)
+unfolding widths_of
+narrow codec =
+    pick-either Narrow (eqb codec 0x08) codec8 _ narrow8 (pick-either Narrow (eqb codec 0x8E) codec8_e codec16 narrow8_e narrow16)
+  where
+    narrow8 : Narrow codec8
+    narrow8 = omega arith
+
+    narrow8_e : Narrow codec8_e
+    narrow8_e = omega arith
+
+    narrow16 : Narrow codec16
+    narrow16 = omega arith
+
 -- two bytes hold a count
-count-bound : (w : Widths) → 256 ^ w.count ≤ 65536
-count-bound w = pow-le-pow_right byte_pos w.count_fits
+count-bound : {w : Widths} → Narrow w → 256 ^ w.count ≤ 65536
+count-bound n = pow-le-pow_right byte_pos n.count
 
 -- ---- the fixed fields
 
@@ -231,9 +246,9 @@ group-missing w kind s at h = ap (counted length) (number-missing _ s at w.count
 
 -- of a group whose count is known
 module _ (w : Widths) (kind : ℕ) (s : List ℕ) (at : ℕ) {n : ℕ} (is : n ≡ number_at s at w.count) where
-  pub group-extent : kind ≤ 9 → Bytes s → n * (w.id + kind) ≤ 65535 * 11
-  group-extent k b =
-      let few : n ≤ 65535 = omega (arith, number_lt s at w.count b, count-bound w) in
+  pub group-extent : Narrow w → kind ≤ 9 → Bytes s → n * (w.id + kind) ≤ 65535 * 11
+  group-extent narrow k b =
+      let few : n ≤ 65535 = omega (arith, number_lt s at w.count b, count-bound narrow) in
       let wide : w.id + kind ≤ 11 = omega arith in
       mul-le-mul few wide
 
@@ -284,16 +299,16 @@ module _ {A : Type 0} (size : A → ℕ) where
       → counted size (m s at) ≡ Ok (n, to) → to ≤ length s
   counted-inside x s at b h e = ((x.sound s at b h).if-got _ _ (counted_of _ e).1).0.inside
 
-pub group-read : (w : Widths) (kind : ℕ) (s : List ℕ) (at : ℕ) {n next : ℕ} → Bytes s → at ≤ length s → counted length (group w kind s at) ≡ Ok (n, next)
+pub group-read : (w : Widths) (kind : ℕ) (s : List ℕ) (at : ℕ) {n next : ℕ} → Narrow w → Bytes s → at ≤ length s → counted length (group w kind s at) ≡ Ok (n, next)
     → GroupRead w kind s at n next
-group-read w kind s at b h e =
+group-read w kind s at narrow b h e =
     let g = counted_of length _ e in
     let sound = ((group-exact w kind).sound s at b h).if-got _ _ g.1 in
     record {
       elements = g.0;
       read = g.1;
       size = g.2;
-      few = omega (arith, sound.1.count_fits, g.2, count-bound w);
+      few = omega (arith, sound.1.count_fits, g.2, count-bound narrow);
       inside = sound.0.inside;
     }
 
@@ -598,5 +613,5 @@ pub broken-inside : (longest want : ℕ) (d : List ℕ) {x : Refusal} → 3 ≤ 
     → x.place + 3 ≤ length d
 unfolding inner
 broken-inside longest want d {x} h e =
-    let k = (all_local (widths_of (codec_of d)) (inner d) (widths_of (codec_of d)).generation_fits longest (first_count d) 0 (omega arith)).stops x (spanned-broken _ want _ e) in
+    let k = (all_local (widths_of (codec_of d)) (inner d) (narrow (codec_of d)).generation longest (first_count d) 0 (omega arith)).stops x (spanned-broken _ want _ e) in
     omega (arith, k.inside, length-take-le (length d - 3) (drop 2 d) (omega (arith, length-drop 2 d)))

@@ -11,7 +11,7 @@ ghost use Rattle.avl.specs.RecordReader.{fixed_fields, element, group, groups, a
 ghost use Rattle.avl.specs.DataField.{read_data};
 ghost use Rattle.walk.specs.Walks.{counted, elements_of, spanned, data_walk};
 
-use avl::Widths;
+use avl::{NarrowWidths, Widths};
 use wire::Refusal;
 
 // The three codecs stay apart (a): each codec's widths are that codec's own constants. A trait would state each of the fifteen twice, in code and in ghost.
@@ -31,15 +31,17 @@ impl Codec8 {
 
     const VARIABLE: bool = false;
 
-    pub fn widths() -> Widths
-        ensures { result ≡ codec8 }
+    pub fn widths() -> NarrowWidths
+        ensures { result.widths ≡ codec8 }
     {
-        Widths {
-            event: Codec8::EVENT,
-            generation: Codec8::GENERATION,
-            count: Codec8::COUNT,
-            id: Codec8::ID,
-            variable: Codec8::VARIABLE,
+        NarrowWidths {
+            widths: Widths {
+                event: Codec8::EVENT,
+                generation: Codec8::GENERATION,
+                count: Codec8::COUNT,
+                id: Codec8::ID,
+                variable: Codec8::VARIABLE,
+            },
         }
     }
 }
@@ -60,15 +62,17 @@ impl Codec8E {
 
     const VARIABLE: bool = true;
 
-    pub fn widths() -> Widths
-        ensures { result ≡ codec8_e }
+    pub fn widths() -> NarrowWidths
+        ensures { result.widths ≡ codec8_e }
     {
-        Widths {
-            event: Codec8E::EVENT,
-            generation: Codec8E::GENERATION,
-            count: Codec8E::COUNT,
-            id: Codec8E::ID,
-            variable: Codec8E::VARIABLE,
+        NarrowWidths {
+            widths: Widths {
+                event: Codec8E::EVENT,
+                generation: Codec8E::GENERATION,
+                count: Codec8E::COUNT,
+                id: Codec8E::ID,
+                variable: Codec8E::VARIABLE,
+            },
         }
     }
 }
@@ -89,22 +93,24 @@ impl Codec16 {
 
     const VARIABLE: bool = false;
 
-    pub fn widths() -> Widths
-        ensures { result ≡ codec16 }
+    pub fn widths() -> NarrowWidths
+        ensures { result.widths ≡ codec16 }
     {
-        Widths {
-            event: Codec16::EVENT,
-            generation: Codec16::GENERATION,
-            count: Codec16::COUNT,
-            id: Codec16::ID,
-            variable: Codec16::VARIABLE,
+        NarrowWidths {
+            widths: Widths {
+                event: Codec16::EVENT,
+                generation: Codec16::GENERATION,
+                count: Codec16::COUNT,
+                id: Codec16::ID,
+                variable: Codec16::VARIABLE,
+            },
         }
     }
 }
 
 #[tactic(auto, unfolding(avl::specs::Codecs::widths_of))]
-pub fn widths_of(codec: u8) -> Widths
-    ensures { result ≡ widths_of codec }
+pub fn widths_of(codec: u8) -> NarrowWidths
+    ensures { result.widths ≡ widths_of codec }
 {
     match codec {
         Codec8::CODEC => Codec8::widths(),
@@ -137,12 +143,12 @@ pub struct DataWalk {
 }
 
 // The fixed fields of the record at `at`.
-fn fixed_fields(w: Widths, s: &[u8], at: usize) -> Result<usize, Refusal>
+fn fixed_fields(w: NarrowWidths, s: &[u8], at: usize) -> Result<usize, Refusal>
     requires at_in_bounds { at ≤ length s.now }
-    ensures { result ≡ walked (fixed_fields w s.now at) }
+    ensures { result ≡ walked (fixed_fields w.widths s.now at) }
 {
-    let event = w.event;
-    let generation = w.generation;
+    let event = w.widths.event;
+    let generation = w.widths.generation;
     let a1 = at + 8;
     let a2 = a1 + 1;
     let a8 = a2 + 4 + 4 + 2 + 2 + 1 + 2;
@@ -161,17 +167,17 @@ fn fixed_fields(w: Widths, s: &[u8], at: usize) -> Result<usize, Refusal>
 }
 
 // The same where some field is missing: the first that is.
-fn fixed_missing(w: Widths, s: &[u8], at: usize) -> Result<usize, Refusal>
+fn fixed_missing(w: NarrowWidths, s: &[u8], at: usize) -> Result<usize, Refusal>
     requires at_in_bounds { at ≤ length s.now }
-    requires s_len_bound { length s.now < at + 24 + w.event + w.generation }
-    ensures { result ≡ walked (fixed_fields w s.now at) }
+    requires s_len_bound { length s.now < at + 24 + w.widths.event + w.widths.generation }
+    ensures { result ≡ walked (fixed_fields w.widths s.now at) }
 {
     let priority = at + 8;
     if priority < s.len() && 2 < s[priority] {
         return Err(Refusal::at(10, priority));
     }
     let mut field = at;
-    for width in [8, 1, 4, 4, 2, 2, 1, 2, w.event] {
+    for width in [8, 1, 4, 4, 2, 2, 1, 2, w.widths.event] {
         if s.len() < field + width {
             return Err(Refusal::at(8, field));
         }
@@ -181,11 +187,11 @@ fn fixed_missing(w: Widths, s: &[u8], at: usize) -> Result<usize, Refusal>
 }
 
 // The variable element at `at`: its ID, the length of its value, the value.
-fn variable_at(w: Widths, s: &[u8], at: usize) -> Result<usize, Refusal>
+fn variable_at(w: NarrowWidths, s: &[u8], at: usize) -> Result<usize, Refusal>
     requires at_in_bounds { at ≤ length s.now }
-    ensures { result ≡ walked (element w 9 s.now at) }
+    ensures { result ≡ walked (element w.widths 9 s.now at) }
 {
-    let id = w.id;
+    let id = w.widths.id;
     let size_at = at + id;
     if s.len() < size_at {
         return Err(Refusal::at(8, at));
@@ -202,9 +208,9 @@ fn variable_at(w: Widths, s: &[u8], at: usize) -> Result<usize, Refusal>
 }
 
 // `n` variable elements, one behind another.
-fn variables_at(w: Widths, s: &[u8], at: usize, n: usize) -> Result<usize, Refusal>
+fn variables_at(w: NarrowWidths, s: &[u8], at: usize, n: usize) -> Result<usize, Refusal>
     requires at_in_bounds { at ≤ length s.now }
-    ensures { result ≡ walked (repeat n (element w 9) s.now at) }
+    ensures { result ≡ walked (repeat n (element w.widths 9) s.now at) }
 {
     let mut next = at;
     for _i in 0..n {
@@ -222,13 +228,13 @@ fn cut(at: usize, rest: usize, id: usize) -> usize
 }
 
 // A group: its count and its elements. Values of one size are stepped over at once; where they are not all there, a division tells which is cut.
-fn group_at(w: Widths, kind: usize, s: &[u8], at: usize) -> Result<(usize, usize), Refusal>
+fn group_at(w: NarrowWidths, kind: usize, s: &[u8], at: usize) -> Result<(usize, usize), Refusal>
     requires le_kind { (1 ≤ kind) × (kind ≤ 9) }
     requires at_in_bounds { at ≤ length s.now }
-    ensures { result ≡ counted length (group w kind s.now at) }
+    ensures { result ≡ counted length (group w.widths kind s.now at) }
 {
-    let count = w.count;
-    let id = w.id;
+    let count = w.widths.count;
+    let id = w.widths.id;
     let start = at + count;
     if s.len() < start {
         return Err(Refusal::at(8, at));
@@ -271,13 +277,13 @@ pub fn kind_at(k: usize) -> usize
 }
 
 // The groups of a record, in the order of their kinds. One loop with one call, so that the compiler lays out the groups one behind another.
-fn groups_at(w: Widths, s: &[u8], at: usize) -> Result<(usize, usize), Refusal>
+fn groups_at(w: NarrowWidths, s: &[u8], at: usize) -> Result<(usize, usize), Refusal>
     requires at_in_bounds { at ≤ length s.now }
-    ensures { result ≡ counted element_count (groups w (kinds w) s.now at) }
+    ensures { result ≡ counted element_count (groups w.widths (kinds w.widths) s.now at) }
 {
     let mut elements: usize = 0;
     let mut next = at;
-    for k in 0..kind_count(w) {
+    for k in 0..kind_count(w.widths) {
         let (count, to) = group_at(w, kind_at(k), s, next)?;
         elements += count;
         next = to;
@@ -286,11 +292,16 @@ fn groups_at(w: Widths, s: &[u8], at: usize) -> Result<(usize, usize), Refusal>
 }
 
 // A record: its fixed fields, its total, its groups; then the total's rule and the record's length.
-fn record_at(longest: usize, w: Widths, s: &[u8], at: usize) -> Result<(usize, usize), Refusal>
+fn record_at(
+    longest: usize,
+    w: NarrowWidths,
+    s: &[u8],
+    at: usize,
+) -> Result<(usize, usize), Refusal>
     requires at_in_bounds { at ≤ length s.now }
-    ensures { result ≡ counted elements_of (avl_record longest w s.now at) }
+    ensures { result ≡ counted elements_of (avl_record longest w.widths s.now at) }
 {
-    let count = w.count;
+    let count = w.widths.count;
     let a1 = fixed_fields(w, s, at)?;
     let a2 = a1 + count;
     if s.len() < a2 {
@@ -310,12 +321,12 @@ fn record_at(longest: usize, w: Widths, s: &[u8], at: usize) -> Result<(usize, u
 // The records that fill `s`, and where the one with number `want` lies.
 fn all_records(
     longest: usize,
-    w: Widths,
+    w: NarrowWidths,
     s: &[u8],
     count: usize,
     want: usize,
 ) -> Result<Span, Refusal>
-    ensures { result ≡ spanned w want (all_records longest w count s.now 0) }
+    ensures { result ≡ spanned w.widths want (all_records longest w.widths count s.now 0) }
 {
     let mut next: usize = 0;
     let mut span = Span {

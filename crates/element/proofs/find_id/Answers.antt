@@ -14,10 +14,10 @@ pub loop-k-init : goal.loop-k-init
 loop-k-init c = (omega arith, ahead-start (sought c.args.id 0) c.fixed_size-next.ensures)
 
 pub kind_at-requires : goal.kind_at-requires
-kind_at-requires c = omega (arith, kinds-few c.args.w, c.kind_count-k-end.ensures, c.loop-k-test.true)
+kind_at-requires c = omega (arith, kinds-few c.args.w.widths, c.kind_count-k-end.ensures, c.loop-k-test.true)
 
 pub find_in_group-requires : goal.find_in_group-requires
-find_in_group-requires c = let w = c.args.w in
+find_in_group-requires c = let w = c.args.w.widths in
     let k = c.loop-k.k in
     let h : k < length (kinds w) = omega (arith, c.loop-k-test.true, c.kind_count-k-end.ensures) in
     let range = kind-range w k h (c.kind_at.ensures ∙ kind-known w k h) in
@@ -25,11 +25,11 @@ find_in_group-requires c = let w = c.args.w in
 
 pub returns-in-Hit : goal.returns-in-Hit
 unfolding sought
-returns-in-Hit c = let w = c.args.w in
+returns-in-Hit c = let w = c.args.w.widths in
     let h : c.loop-k.k < length (kinds w) = omega (arith, c.loop-k-test.true, c.kind_count-k-end.ensures) in record { found = λ x n r. (onward-hit c.args.id c.loop-k.before (ahead-next (sought c.args.id 0) c.loop-k.invariant.1 x n r h c.kind_at.ensures) c.find_in_group.ensures c.in-Hit.is).0; passed = λ x n r. (onward-hit c.args.id c.loop-k.before (ahead-next (sought c.args.id 0) c.loop-k.invariant.1 x n r h c.kind_at.ensures) c.find_in_group.ensures c.in-Hit.is).1 ∙ sought-passed c.args.id _ }
 
 pub loop-k-preserved : goal.loop-k-preserved
-loop-k-preserved c = let w = c.args.w in
+loop-k-preserved c = let w = c.args.w.widths in
     let k = c.loop-k.k in
     let h : k < length (kinds w) = omega (arith, c.loop-k-test.true, c.kind_count-k-end.ensures) in
     let ahead = ahead-next (sought c.args.id 0) c.loop-k.invariant.1 _ _ c.requires.readable.reads h c.kind_at.ensures in (
@@ -38,4 +38,4 @@ loop-k-preserved c = let w = c.args.w in
     )
 
 pub returns : goal.returns
-returns c = let none : length (kinds c.args.w) ≤ c.loop-k.k = omega (arith, c.loop-k-test.false, c.kind_count-k-end.ensures) in record { found = λ x n r. (sought-end c.args.id _ (elements c.args.w x) (ahead_none (sought c.args.id 0) {k = c.loop-k.k} c.loop-k.invariant.1 x n r none)).0; passed = λ x n r. (sought-end c.args.id _ (elements c.args.w x) (ahead_none (sought c.args.id 0) {k = c.loop-k.k} c.loop-k.invariant.1 x n r none)).1 }
+returns c = let none : length (kinds c.args.w.widths) ≤ c.loop-k.k = omega (arith, c.loop-k-test.false, c.kind_count-k-end.ensures) in record { found = λ x n r. (sought-end c.args.id _ (elements c.args.w.widths x) (ahead_none (sought c.args.id 0) {k = c.loop-k.k} c.loop-k.invariant.1 x n r none)).0; passed = λ x n r. (sought-end c.args.id _ (elements c.args.w.widths x) (ahead_none (sought c.args.id 0) {k = c.loop-k.k} c.loop-k.invariant.1 x n r none)).1 }

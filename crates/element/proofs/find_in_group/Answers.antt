@@ -19,7 +19,7 @@ overflow_add-next c = omega (arith, ((group-read _ _ _ _).if-got _ _ c.requires.
 
 pub loop-left-init : goal.loop-left-init
 loop-left-init c = let none : 0 ≡ c.short_number-count.result - c.short_number-count.result = omega arith in
-    (omega arith, subst (Searching c.args.w c.args.kind c.args.part.now c.args.at (sought c.args.id) _) none (search-start c.requires.readable_group))
+    (omega arith, subst (Searching c.args.w.widths c.args.kind c.args.part.now c.args.at (sought c.args.id) _) none (search-start c.requires.readable_group))
 
 pub element_value-v-requires : goal.element_value-v-requires
 element_value-v-requires c = record { kind_bound = c.requires.kind_bound; readable_element = search-element c.loop-left.invariant.1 (omega (arith, c.short_number-count.ensures, c.loop-left.invariant.0, c.loop-left-test.true)) }
@@ -34,9 +34,9 @@ pub overflow_add-next-in-loop-left : goal.overflow_add-next-in-loop-left
 overflow_add-next-in-loop-left c = omega (arith, search-within c.loop-left.invariant.1 (omega (arith, c.short_number-count.ensures, c.loop-left.invariant.0, c.loop-left-test.true)) c.element_value-v.ensures)
 
 pub loop-left-preserved : goal.loop-left-preserved
-loop-left-preserved c = let more : c.short_number-count.result - c.loop-left.left < number_at c.args.part.now c.args.at c.args.w.count = omega (arith, c.short_number-count.ensures, c.loop-left.invariant.0, c.loop-left-test.true) in
+loop-left-preserved c = let more : c.short_number-count.result - c.loop-left.left < number_at c.args.part.now c.args.at c.args.w.widths.count = omega (arith, c.short_number-count.ensures, c.loop-left.invariant.0, c.loop-left-test.true) in
     let one : c.short_number-count.result - c.loop-left.left + 1 ≡ c.short_number-count.result - (c.loop-left.left - 1) = omega (arith, c.loop-left.invariant.0, c.loop-left-test.true) in
-    (omega (arith, c.loop-left.invariant.0), subst (Searching c.args.w c.args.kind c.args.part.now c.args.at (sought c.args.id) _) one (search-on c.loop-left.invariant.1 more c.element_value-v.ensures (λ e l same. sought-later c.args.id e l same (c.short_number-count.result - c.loop-left.left) c.if-v-id.false)))
+    (omega (arith, c.loop-left.invariant.0), subst (Searching c.args.w.widths c.args.kind c.args.part.now c.args.at (sought c.args.id) _) one (search-on c.loop-left.invariant.1 more c.element_value-v.ensures (λ e l same. sought-later c.args.id e l same (c.short_number-count.result - c.loop-left.left) c.if-v-id.false)))
 
 pub returns : goal.returns
 returns c = λ g n f. searched-miss c.args.id c.args.before n (c.short_number-count.result - c.loop-left.left) _ (search-done c.loop-left.invariant.1 (omega (arith, c.short_number-count.ensures, c.loop-left-test.false)) g n f) (omega (arith, c.loop-left.invariant.0, c.loop-left-test.false))

@@ -12,7 +12,7 @@ pub short_number-count-requires : goal.short_number-count-requires
 short_number-count-requires c = (((group-read _ _ _ _).if-got _ _ c.requires.readable_group.reads).inside, omega arith)
 
 pub returns-then-count-n : goal.returns-then-count-n
-returns-then-count-n c = nth_beyond c.args.w 9 c.args.part.now c.args.at c.args.n (omega (arith, c.short_number-count.ensures, c.if-count-n.true))
+returns-then-count-n c = nth_beyond c.args.w.widths 9 c.args.part.now c.args.at c.args.n (omega (arith, c.short_number-count.ensures, c.if-count-n.true))
 
 pub overflow_add-next : goal.overflow_add-next
 overflow_add-next c = omega (arith, ((group-read _ _ _ _).if-got _ _ c.requires.readable_group.reads).inside)
@@ -36,5 +36,5 @@ pub returns : goal.returns
 returns c = λ g m f.
     let hit = search-hit c.loop-i.invariant (omega (arith, c.short_number-count.ensures, c.if-count-n.false)) c.element_value.ensures Ok (λ e l same. nth_here c.loop-i-test.false e l) g m f in
     let whole : c.args.n ≡ c.args.n - 0 = omega arith in
-    let l = locate_group c.args.w 9 (c.args.at + c.args.w.count) g in
+    let l = locate_group c.args.w.widths 9 (c.args.at + c.args.w.widths.count) g in
     at-found (nth c.args.n l) (hit.0, ap (λ (k : ℕ). nth k l) whole ∙ hit.1, hit.2)

@@ -4,4 +4,4 @@ use Prim.Native.Nat.{◌-◌}
 use Rattle.element.proofs.nth_variable.Given as goal
 
 abbrev pub invariant-loop-i : goal.invariant-loop-i
-invariant-loop-i l = Searching l.w 9 l.part l.at (λ j. nth (l.n - j)) l.next l._i
+invariant-loop-i l = Searching l.w.widths 9 l.part l.at (λ j. nth (l.n - j)) l.next l._i

@@ -9,4 +9,4 @@ use Rattle.rebuild.proofs.put_entry.Goals as goal
 pub returns : goal.returns
 unfolding entry_element
 returns c = let args = c.args in
-    stored-as (ap (λ (b : List ℕ). element_bytes args.w args.kind (entry_element (record { kind = args.kind; body = b }))) c.entry_body.ensures) c.put_element.ensures
+    stored-as (ap (λ (b : List ℕ). element_bytes args.w.widths args.kind (entry_element (record { kind = args.kind; body = b }))) c.entry_body.ensures) c.put_element.ensures

@@ -13,11 +13,11 @@ use Rattle.rebuild.proofs.put_group.Goals as goal
 
 pub put_run-elements-requires-clause-from_bound : goal.put_run-elements-requires-clause-from_bound
 unfolding group_bytes
-put_run-elements-requires-clause-from_bound c = let w = c.args.w in
+put_run-elements-requires-clause-from_bound c = let w = c.args.w.widths in
     let kind = c.args.kind in
     let g = run kind (entries_at c.args.f.now c.args.from) in
     omega (arith, c.requires.from_bound, length-append (be w.count (length g)) (joined (element_bytes w kind) g), length_digits 256 w.count (length g))
 
 pub returns : goal.returns
 unfolding group_bytes
-returns c = goes_before (stored-as (ap (be c.args.w.count) c.put_run-elements.ensures.told) c.store_be.ensures.stored) c.store_be.ensures.value c.put_run-elements.ensures
+returns c = goes_before (stored-as (ap (be c.args.w.widths.count) c.put_run-elements.ensures.told) c.store_be.ensures.stored) c.store_be.ensures.value c.put_run-elements.ensures

@@ -16,27 +16,27 @@ pub loop-k-init : goal.loop-k-init
 loop-k-init g c = left-start c.requires.ready
 
 pub kind_at-requires : goal.kind_at-requires
-kind_at-requires g c = omega (arith, kinds-few c.args.w, c.kind_count-n.ensures)
+kind_at-requires g c = omega (arith, kinds-few c.args.w.widths, c.kind_count-n.ensures)
 
 pub put_group-moved-requires-clause-le_kind : goal.put_group-moved-requires-clause-le_kind
 put_group-moved-requires-clause-le_kind g c =
-    let d = turn c.args.w c.loop-k-test.true c.kind_count-n.ensures c.kind_at.ensures in
-    kind-range c.args.w c.loop-k.k d.0 d.1
+    let d = turn c.args.w.widths c.loop-k-test.true c.kind_count-n.ensures c.kind_at.ensures in
+    kind-range c.args.w.widths c.loop-k.k d.0 d.1
 
 pub put_group-moved-requires-clause-ready : goal.put_group-moved-requires-clause-ready
 put_group-moved-requires-clause-ready g c =
-    let d = turn c.args.w c.loop-k-test.true c.kind_count-n.ensures c.kind_at.ensures in
-    groups-first (g.W.ElementWriter.of_element c.args.writer) c.args.w c.loop-k.k c.loop-k.invariant d.0 d.1
+    let d = turn c.args.w.widths c.loop-k-test.true c.kind_count-n.ensures c.kind_at.ensures in
+    groups-first (g.W.ElementWriter.of_element c.args.writer) c.args.w.widths c.loop-k.k c.loop-k.invariant d.0 d.1
 
 pub loop-k-preserved : goal.loop-k-preserved
 loop-k-preserved g c =
-    let d = turn c.args.w c.loop-k-test.true c.kind_count-n.ensures c.kind_at.ensures in
+    let d = turn c.args.w.widths c.loop-k-test.true c.kind_count-n.ensures c.kind_at.ensures in
     let e = c.put_group-moved.ensures in
-    groups-on (g.W.ElementWriter.of_element c.args.writer) c.args.w c.loop-k.k c.loop-k.invariant d.0 d.1 e.pace e.copies
+    groups-on (g.W.ElementWriter.of_element c.args.writer) c.args.w.widths c.loop-k.k c.loop-k.invariant d.0 d.1 e.pace e.copies
 
 pub returns : goal.returns
 returns g c =
     record {
-      copies = groups-done (g.W.ElementWriter.of_element c.args.writer) c.args.w c.loop-k.k c.loop-k.invariant (omega (arith, c.loop-k-test.false, c.kind_count-n.ensures));
+      copies = groups-done (g.W.ElementWriter.of_element c.args.writer) c.args.w.widths c.loop-k.k c.loop-k.invariant (omega (arith, c.loop-k-test.false, c.kind_count-n.ensures));
       pace = left-pace c.loop-k.invariant;
     }

@@ -29,13 +29,13 @@ found c =
 pub loop-i-init : goal.loop-i-init
 loop-i-init c =
     let args = c.args in
-    (omega arith, answer-whole args.w args.s.now args.count args.want args.longest)
+    (omega arith, answer-whole args.w.widths args.s.now args.count args.want args.longest)
 
 pub returns-in-Err : goal.returns-in-Err
 returns-in-Err c =
     let args = c.args in
     let loop = c.loop-i in
-    sym (answer-broken args.w args.s.now args.count args.want args.longest loop.i loop.span loop.next c.loop-i-test.true (sym c.record_at.ensures ∙ c.in-Err.is))
+    sym (answer-broken args.w.widths args.s.now args.count args.want args.longest loop.i loop.span loop.next c.loop-i-test.true (sym c.record_at.ensures ∙ c.in-Err.is))
     ∙ loop.invariant.1
 
 pub loop-i-preserved : goal.loop-i-preserved
@@ -46,11 +46,11 @@ loop-i-preserved c =
     let i = loop.i in
     let all-bytes = get_d-bytes s (λ k. (c.type_inv.s k).fits) in
     let on = sym c.record_at.ensures ∙ c.in-Ok.is in
-    let inside = counted-inside elements_of (record-exact args.longest args.w) s loop.next all-bytes loop.invariant.0 on in
+    let inside = counted-inside elements_of (record-exact args.longest args.w.widths) s loop.next all-bytes loop.invariant.0 on in
     let new = found c in (
       omega (arith, inside, new.0),
-      ap₂ (λ (x : Span) (n : ℕ). answer_from args.w s args.count args.want args.longest (i + 1) x n) new.1 new.0
-          ∙ answer-on args.w s args.count args.want args.longest i loop.span loop.next all-bytes loop.invariant.0 c.loop-i-test.true on
+      ap₂ (λ (x : Span) (n : ℕ). answer_from args.w.widths s args.count args.want args.longest (i + 1) x n) new.1 new.0
+          ∙ answer-on args.w.widths s args.count args.want args.longest i loop.span loop.next all-bytes loop.invariant.0 c.loop-i-test.true on
           ∙ loop.invariant.1,
     )
 
@@ -58,10 +58,10 @@ pub returns-then-next-s : goal.returns-then-next-s
 returns-then-next-s c =
     let args = c.args in
     let loop = c.loop-i in
-    sym (answer-over args.w args.s.now args.count args.want args.longest loop.i loop.span loop.next c.loop-i-test.false c.if-next-s.true) ∙ loop.invariant.1
+    sym (answer-over args.w.widths args.s.now args.count args.want args.longest loop.i loop.span loop.next c.loop-i-test.false c.if-next-s.true) ∙ loop.invariant.1
 
 pub returns : goal.returns
 returns c =
     let args = c.args in
     let loop = c.loop-i in
-    sym (answer-done args.w args.s.now args.count args.want args.longest loop.i loop.span loop.next c.loop-i-test.false c.if-next-s.false) ∙ loop.invariant.1
+    sym (answer-done args.w.widths args.s.now args.count args.want args.longest loop.i loop.span loop.next c.loop-i-test.false c.if-next-s.false) ∙ loop.invariant.1

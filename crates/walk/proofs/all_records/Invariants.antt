@@ -9,4 +9,4 @@ use Rattle.walk.proofs.all_records.Given as goal
 
 abbrev pub invariant-loop-i : goal.invariant-loop-i
 invariant-loop-i l =
-    (l.next ≤ length l.s) × (answer_from l.w l.s l.count l.want l.longest l.i l.span l.next ≡ spanned l.w l.want (all_records l.longest l.w l.count l.s 0))
+    (l.next ≤ length l.s) × (answer_from l.w.widths l.s l.count l.want l.longest l.i l.span l.next ≡ spanned l.w.widths l.want (all_records l.longest l.w.widths l.count l.s 0))

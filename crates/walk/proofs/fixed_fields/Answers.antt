@@ -24,8 +24,8 @@ returns-then-short_number-gt7 c =
     let args = c.args in
     let s = args.s.now in
     let at = args.at in
-    let begun = fixed-start args.w s at (omega arith) (subst (λ (n : ℕ). n ≤ 2) (sym (number-one s (at + 8))) c.if-s-a1-gt2.false) in
-    ap Err c.at-then-short_number-gt7.ensures ∙ sym (walked-bad _ (begun.1 ∙ up_to-over _ s _ args.w.generation 7 11 c.if-s-a10.false (subst (λ (n : ℕ). 7 < n) c.short_number.ensures c.if-short_number-gt7.true)))
+    let begun = fixed-start args.w.widths s at (omega arith) (subst (λ (n : ℕ). n ≤ 2) (sym (number-one s (at + 8))) c.if-s-a1-gt2.false) in
+    ap Err c.at-then-short_number-gt7.ensures ∙ sym (walked-bad _ (begun.1 ∙ up_to-over _ s _ args.w.widths.generation 7 11 c.if-s-a10.false (subst (λ (n : ℕ). 7 < n) c.short_number.ensures c.if-short_number-gt7.true)))
 
 pub returns : goal.returns
 unfolding pure
@@ -33,5 +33,5 @@ returns c =
     let args = c.args in
     let s = args.s.now in
     let at = args.at in
-    let begun = fixed-start args.w s at (omega arith) (subst (λ (n : ℕ). n ≤ 2) (sym (number-one s (at + 8))) c.if-s-a1-gt2.false) in
-    sym (walked-got _ (begun.1 ∙ up_to-there _ s _ args.w.generation 7 11 c.if-s-a10.false (subst (λ (n : ℕ). n ≤ 7) c.short_number.ensures c.if-short_number-gt7.false)))
+    let begun = fixed-start args.w.widths s at (omega arith) (subst (λ (n : ℕ). n ≤ 2) (sym (number-one s (at + 8))) c.if-s-a1-gt2.false) in
+    sym (walked-got _ (begun.1 ∙ up_to-there _ s _ args.w.widths.generation 7 11 c.if-s-a10.false (subst (λ (n : ℕ). n ≤ 7) c.short_number.ensures c.if-short_number-gt7.false)))

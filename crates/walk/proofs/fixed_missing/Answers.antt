@@ -31,7 +31,7 @@ loop-width-init c =
       | else-priority-s-via-then-priority-s+else-s-priority-gt2 w ↦ w.if-s-priority-gt2.false
       | else-priority-s-via-else-priority-s w ↦ absurd (omega (arith, h, w.if-priority-s.false))
     ] in
-    (c.requires.at_in_bounds, fixed-short c.args.w s at (omega arith) (λ h. subst (λ (n : ℕ). n ≤ 2) (sym (number-one s (at + 8))) (few h)))
+    (c.requires.at_in_bounds, fixed-short c.args.w.widths s at (omega arith) (λ h. subst (λ (n : ℕ). n ≤ 2) (sym (number-one s (at + 8))) (few h)))
 
 -- the fields that are left, the present one first
 present : (l : List ℕ) (k : ℕ) → k < length l → drop k l ≡ get_or l k 0 ∷ drop (k + 1) l
@@ -41,21 +41,21 @@ pub returns-then-s-field : goal.returns-then-s-field
 returns-then-s-field c =
     let s = c.args.s.now in
     ap Err c.at-then-s-field.ensures
-    ∙ ap (λ (n : ℕ). Err (short n)) (sym (ap (λ l. missing_from s l c.loop-width.field) (present (field_widths c.args.w) c.loop-width.width-index c.loop-width-test.true) ∙ missing-here s _ _ c.loop-width.field c.if-s-field.true))
+    ∙ ap (λ (n : ℕ). Err (short n)) (sym (ap (λ l. missing_from s l c.loop-width.field) (present (field_widths c.args.w.widths) c.loop-width.width-index c.loop-width-test.true) ∙ missing-here s _ _ c.loop-width.field c.if-s-field.true))
     ∙ c.loop-width.invariant.1
 
 pub loop-width-preserved : goal.loop-width-preserved
 loop-width-preserved c =
     let s = c.args.s.now in (
       c.if-s-field.false,
-      ap (λ (n : ℕ). Err (short n)) (sym (ap (λ l. missing_from s l c.loop-width.field) (present (field_widths c.args.w) c.loop-width.width-index c.loop-width-test.true) ∙ missing-there s _ _ c.loop-width.field c.if-s-field.false))
+      ap (λ (n : ℕ). Err (short n)) (sym (ap (λ l. missing_from s l c.loop-width.field) (present (field_widths c.args.w.widths) c.loop-width.width-index c.loop-width-test.true) ∙ missing-there s _ _ c.loop-width.field c.if-s-field.false))
           ∙ c.loop-width.invariant.1,
     )
 
 pub returns : goal.returns
 returns c =
     let s = c.args.s.now in
-    let l = field_widths c.args.w in
+    let l = field_widths c.args.w.widths in
     ap Err c.at-2.ensures
     ∙ ap (λ (n : ℕ). Err (short n)) (sym (ap (λ l. missing_from s l c.loop-width.field) (drop_of_length-le l c.loop-width-test.false) ∙ missing-none s c.loop-width.field))
     ∙ c.loop-width.invariant.1

@@ -10,4 +10,4 @@ use Rattle.walk.proofs.WalkLaws.{field_widths, missing_from}
 use Rattle.walk.proofs.fixed_missing.Given as goal
 
 abbrev pub invariant-loop-width : goal.invariant-loop-width
-invariant-loop-width l = (l.field ≤ length l.s) × (Err (short (missing_from l.s (drop l.width-index (field_widths l.fn.w)) l.field)) ≡ walked (fixed_fields l.fn.w l.s l.at))
+invariant-loop-width l = (l.field ≤ length l.s) × (Err (short (missing_from l.s (drop l.width-index (field_widths l.fn.w.widths)) l.field)) ≡ walked (fixed_fields l.fn.w.widths l.s l.at))

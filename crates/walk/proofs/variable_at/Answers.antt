@@ -11,7 +11,7 @@ pub returns-then-s-size_at : goal.returns-then-s-size_at
 unfolding element
 returns-then-s-size_at c =
     let args = c.args in
-    ap Err c.at.ensures ∙ sym (walked-bad _ (number-missing _ args.s.now args.at args.w.id c.if-s-size_at.true))
+    ap Err c.at.ensures ∙ sym (walked-bad _ (number-missing _ args.s.now args.at args.w.widths.id c.if-s-size_at.true))
 
 pub returns-then-s-value_at : goal.returns-then-s-value_at
 unfolding element
@@ -19,7 +19,7 @@ returns-then-s-value_at c =
     let args = c.args in
     let s = args.s.now in
     let at = args.at in
-    let id = args.w.id in
+    let id = args.w.widths.id in
     ap Err c.at-then-s-value_at.ensures ∙ sym (walked-bad _
     (number-there _ s at id c.if-s-size_at.false
     ∙ then-bad (value_size 9) _ s (at + id) (variable-size s (at + id) 9 refl ∙ number-bad 2 s (at + id) c.if-s-value_at.true)))
@@ -28,14 +28,14 @@ pub returns-then-s-end : goal.returns-then-s-end
 returns-then-s-end c =
     let args = c.args in
     let s = args.s.now in
-    let a1 = args.at + args.w.id in
+    let a1 = args.at + args.w.widths.id in
     let sized = variable-size s a1 9 refl ∙ number-got 2 s a1 c.if-s-value_at.false ∙ ap (λ (n : ℕ). got n (a1 + 2)) (sym c.be16.ensures) in
-    ap Err c.at-then-s-end.ensures ∙ sym (walked-bad _ (element-cut args.w 9 s args.at c.if-s-size_at.false sized c.if-s-end.true))
+    ap Err c.at-then-s-end.ensures ∙ sym (walked-bad _ (element-cut args.w.widths 9 s args.at c.if-s-size_at.false sized c.if-s-end.true))
 
 pub returns : goal.returns
 returns c =
     let args = c.args in
     let s = args.s.now in
-    let a1 = args.at + args.w.id in
+    let a1 = args.at + args.w.widths.id in
     let sized = variable-size s a1 9 refl ∙ number-got 2 s a1 c.if-s-value_at.false ∙ ap (λ (n : ℕ). got n (a1 + 2)) (sym c.be16.ensures) in
-    sym (walked-got _ (element-there args.w 9 s args.at c.if-s-size_at.false sized c.if-s-end.false).1)
+    sym (walked-got _ (element-there args.w.widths 9 s args.at c.if-s-size_at.false sized c.if-s-end.false).1)

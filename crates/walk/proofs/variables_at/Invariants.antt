@@ -7,4 +7,4 @@ use Rattle.avl.specs.RecordReader.{element}
 use Rattle.walk.proofs.variables_at.Given as goal
 
 abbrev pub invariant-loop-i : goal.invariant-loop-i
-invariant-loop-i l = (l.next ≤ length l.s) × (walked (repeat (l.n - l._i) (element l.w 9) l.s l.next) ≡ walked (repeat l.n (element l.w 9) l.s l.at))
+invariant-loop-i l = (l.next ≤ length l.s) × (walked (repeat (l.n - l._i) (element l.w.widths 9) l.s l.next) ≡ walked (repeat l.n (element l.w.widths 9) l.s l.at))
