@@ -78,7 +78,7 @@ fn clear(s: &mut [u8], n: usize)
     s[..n].fill(0);
 }
 
-// How many bytes are judged together, as far as these tell; or the number with which their header is refused.
+// How many bytes are judged together, as far as these tell; or why their header is refused.
 fn needed(limits: Limits, phase: u8, s: &[u8]) -> Result<usize, Refusal>
     ensures { result ≡ needed limits (phase_of phase) s.now }
 {

@@ -14,7 +14,7 @@ use Rattle.wire.specs.Answers.{Answer, refusal_at, check, check_at}
 use Rattle.wire.proofs.Accepting.{check-accepted, check-passed}
 use Rattle.wire.proofs.Placed.{between-whole}
 use Rattle.checksum.specs.Crc.{crc}
-use Rattle.frame.specs.Frame.{framed, field_length, field_of, headed, header, unframe, framing}
+use Rattle.frame.specs.Frame.{framed, field_length, field_of, headed, header, unframe, framing, refusal_of}
 use Rattle.frame.proofs.FrameLaws.{length-framed, parts, frame-exact}
 
 framing-accepted : (r : Answer (List ℕ)) {n : ℕ} → framing r ≡ Ok n → (d : List ℕ) × (r ≡ Ok d) × (length d ≡ n)
@@ -85,10 +85,44 @@ module _ (largest : ℕ) (p : List ℕ) where
 
 -- ---- the frame
 
+-- refused as the number says it of so many bytes
+abbrev Whole : {A : Type 0} → ℕ → Answer A → Type 0
+Whole size r = (x : Refusal) → r ≡ Err x → x ≡ refusal_of size x.number
+
+whole-accepted : {A : Type 0} (size : ℕ) (a : A) → Whole size (Ok a)
+whole-accepted size a x e = absurd (let z : ◌≡◌ {A = ℕ} 0 1 = cc in omega arith)
+
+whole-check : {A : Type 0} (size : ℕ) (test : Bool) (number place : ℕ) (rest : Answer A) → refusal_at number place ≡ refusal_of size number
+    → (test ≡ true → Whole size rest) → Whole size (check_at test number place rest)
+unfolding check_at
+whole-check size true number place rest k h x e = h refl x e
+whole-check size false number place rest k h x e =
+    let same : refusal_at number place ≡ x = cc in
+    subst (λ (y : Refusal). y ≡ refusal_of size y.number) same k
+
+-- whatever the packet's size: the header says nothing of what stands at its end
+pub whole-header : (largest : ℕ) (p : List ℕ) (size : ℕ) → Whole size (header largest p)
+unfolding refusal_of
+whole-header largest p size = whole-check size _ 2 0 _ refl (λ _. whole-check size _ 3 4 _ refl (λ _. whole-check size _ 3 4 _ refl (λ _. whole-accepted size _)))
+
+whole-unframe : (largest : ℕ) (p : List ℕ) → Whole (length p) (unframe largest p)
+unfolding unframe refusal_of
+whole-unframe largest p =
+    let n = length p in
+    whole-check n _ 21 0 _ refl (λ _. whole-check n _ 1 0 _ refl
+    (λ _. whole-check n _ 2 0 _ refl (λ _. whole-check n _ 3 4 _ refl (λ _. whole-check n _ 3 4 _ refl
+    (λ _. whole-check n (eqb n (field_length p + 12)) 4 0 _ refl
+    (λ e. let long : n ≡ field_length p + 12 = eqb-true _ _ e in
+    let last : 8 + field_length p ≡ n - 4 = omega arith in
+    whole-check n _ 5 _ _ (ap (refusal_at 5) last) (λ _. whole-accepted n _)))))))
+
 framing-refused : (r : Answer (List ℕ)) {x : Refusal} → framing r ≡ Err x → r ≡ Err x
 unfolding framing
 framing-refused (Ok d) e = absurd (let z : ◌≡◌ {A = ℕ} 0 1 = cc in omega arith)
 framing-refused (Err y) {x} e = let same : y ≡ x = cc in ap Err same
 
-pub framing-unframed : (largest : ℕ) (p : List ℕ) {x : Refusal} → framing (unframe largest p) ≡ Err x → unframe largest p ≡ Err x
-framing-unframed largest p e = framing-refused (unframe largest p) e
+-- what is refused, and where: the number says the place
+pub framing-unframed : (largest : ℕ) (p : List ℕ) {x : Refusal} → framing (unframe largest p) ≡ Err x → (unframe largest p ≡ Err x) × (x ≡ refusal_of (length p) x.number)
+framing-unframed largest p {x} e =
+    let r = framing-refused (unframe largest p) e in
+    (r, whole-unframe largest p x r)

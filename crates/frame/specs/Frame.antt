@@ -57,6 +57,10 @@ unframe largest p =
     (check_at (eqb (number_at p (8 + field_length p) 4) (crc (field_of p))) 5 (8 + field_length p)
     (Ok (field_of p))))))
 
+-- the refusal with this number of a packet of `size` bytes: 3 is at the length field, 5 at the CRC field, which is last
+unfoldable pub refusal_of : ℕ → ℕ → Refusal
+refusal_of size number = refusal_at number (pick (eqb number 3) 4 (pick (eqb number 5) (size - 4) 0))
+
 -- ---- what two packets are compared by
 
 unfoldable pub last_four : List ℕ → List ℕ

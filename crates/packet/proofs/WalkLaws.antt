@@ -12,7 +12,7 @@ use Rattle.wire.specs.declared.Refusal.{Refusal}
 use Rattle.wire.specs.Numbers.{Bytes, digits, be}
 use Rattle.wire.specs.Answers.{refusal, from, on_accepted}
 use Rattle.wire.proofs.Accepting.{check-passed, check-failed, on_accepted-passed}
-use Rattle.frame.specs.Frame.{unframe, framing}
+use Rattle.frame.specs.Frame.{unframe, framing, refusal_of}
 use Rattle.frame.proofs.FramingLaws.{framing-field, framing-unframed}
 use Rattle.avl.specs.DataField.{read_data, data_result}
 use Rattle.walk.specs.declared.Span.{Span}
@@ -20,9 +20,11 @@ use Rattle.walk.proofs.TakenLaws.{TakenOf, taken-fits}
 use Rattle.packet.specs.DataPackets.{read_packet, answer_packet, acknowledged, tcp_acknowledgement}
 use Rattle.packet.proofs.PacketLaws.{packet-exact}
 
-pub unframed-refused : (limits : Limits) (p : List ℕ) {x : Refusal} → framing (unframe limits.largest p) ≡ Err x → read_packet limits p ≡ Err x
+pub unframed-refused : (limits : Limits) (p : List ℕ) {x : Refusal} → framing (unframe limits.largest p) ≡ Err x → (read_packet limits p ≡ Err x) × (x ≡ refusal_of (length p) x.number)
 unfolding read_packet on_accepted
-unframed-refused limits p e = ap (λ r. on_accepted r (λ d. from 8 (read_data limits.longest d))) (framing-unframed limits.largest p e)
+unframed-refused limits p e =
+    let u = framing-unframed limits.largest p e in
+    (ap (λ r. on_accepted r (λ d. from 8 (read_data limits.longest d))) u.0, u.1)
 
 module _ (limits : Limits) (p : List ℕ) (n : ℕ) (e : framing (unframe limits.largest p) ≡ Ok n) (b : Bytes p) where
   -- the data field lies in the packet

@@ -46,7 +46,7 @@ read_field-requires c =
 
 pub returns-in_err-size : goal.returns-in_err-size
 unfolding answer_command answered read_command on_accepted
-returns-in_err-size c = simp (given_back c.from_residual.ensures.1, framing-unframed _ _ (sym c.in_err-size.ensures))
+returns-in_err-size c = simp (given_back c.from_residual.ensures.1, (framing-unframed _ _ (sym c.in_err-size.ensures)).0)
 
 pub returns : goal.returns
 unfolding answer_command read_command answered on_accepted

@@ -8,7 +8,7 @@ use Rattle.packet.proofs.judge_packet.Goals as goal
 
 pub returns-in_err-size : goal.returns-in_err-size
 unfolding data_walk
-returns-in_err-size c = given_back c.from_residual.ensures.1 ∙ sym (ap (data_walk c.args.want) (unframed-refused c.args.limits c.args.p.now (sym c.in_err-size.ensures)))
+returns-in_err-size c = given_back c.from_residual.ensures.1 ∙ sym (ap (data_walk c.args.want) (unframed-refused c.args.limits c.args.p.now (sym c.in_err-size.ensures)).0)
 
 pub overflow_add-end : goal.overflow_add-end
 overflow_add-end c = omega (arith, field-inside c.args.limits c.args.p.now c.in_ok-size.size (sym c.in_ok-size.ensures) (get_d-bytes c.args.p.now (λ k. (c.type_inv.p k).fits)))
