@@ -39,7 +39,7 @@ fn contents_at(family: usize, udp: bool, p: &[u8], table: &mut [u64]) -> Result<
     }
 }
 
-// The records whose words stand behind the packet's two; how many they are.
+// The records whose words stand behind the packet's two; how many were said, counted where they are.
 fn say_rows(rt: &(impl Print + Eprint), codec: u8, p: &[u8], t: &[u64]) -> usize
     requires in_bounds { 1 ≤ length t.now }
     requires rows_ahead { RowsAhead p.now t.now 2 (title_result t.now).count }
@@ -47,10 +47,12 @@ fn say_rows(rt: &(impl Print + Eprint), codec: u8, p: &[u8], t: &[u64]) -> usize
 {
     let count = contents::record_count(t);
     let mut at: usize = 2;
+    let mut said: usize = 0;
     for n in 0..count {
         at = say_record(rt, codec, n, p, t, at);
+        said += 1;
     }
-    count
+    said
 }
 
 // The record whose words begin at `at`; where those of the next begin.
