@@ -89,7 +89,11 @@ pub fn acknowledge_datagram(family: usize, p: &[u8], out: &mut [u8]) -> Result<u
     ensures answer { result ≡ writing (udp_acknowledgement (limits_of family) p.now) out.old }
     ensures buffer { out.new ≡ leaving (udp_acknowledgement (limits_of family) p.now) out.old }
 {
-    let data = judge_datagram(family, p, 0)?;
+    // a match and no `?`, so that the edit of a refused datagram's answer changes a value and no form
+    let data = match judge_datagram(family, p, 0) {
+        Ok(data) => data,
+        Err(r) => return Err(r),
+    };
     if out.len() < 7 {
         return Err(Refusal::of(18));
     }

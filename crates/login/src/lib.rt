@@ -16,7 +16,11 @@ pub fn read_login(p: &[u8]) -> Result<u64, Refusal>
     if 17 < p.len() {
         return Err(Refusal::of(4));
     }
-    wire::read_imei(p, 0)
+    // a match, so that the edit of a wrong digit's place changes a value and no form
+    match wire::read_imei(p, 0) {
+        Ok(imei) => Ok(imei),
+        Err(x) => Err(x),
+    }
 }
 
 fn answer_byte(p: &[u8], known: bool) -> u8

@@ -201,7 +201,13 @@ fn same_form(limits: Limits, d: &[u8], f: &[u8], g: &mut [u8]) -> bool
     }
     match form::form_of_field(limits.longest, d, g) {
         Err(_) => false,
-        Ok(n) => &g[..n] == f,
+        // a test and no bare `==`, so that the edit of what other bytes are answered changes a value and no form
+        Ok(n) => {
+            if &g[..n] == f {
+                return true;
+            }
+            false
+        }
     }
 }
 

@@ -1,6 +1,11 @@
 -- The length, then the IMEI.
 use Rattle.login.specs.Login.{read_login}
-use Rattle.wire.specs.Answers.{check_at}
+use Prim.Native.Nat.{ℕ, ◌≤◌}
+use mathlib.Core.Path.{◌≡◌, sym, ◌∙◌}
+use mathlib.Core.List.{List}
+use lib.ListN.{length}
+use Rattle.wire.specs.Answers.{Answer, check_at, told}
+use Rattle.wire.specs.Imei.{read_imei}
 use borrow.Author.Tests.{le-leb, lt-leb}
 use Rattle.login.proofs.read_login.Goals as goal
 
@@ -12,6 +17,13 @@ pub returns-then-p-gt17 : goal.returns-then-p-gt17
 unfolding read_login check_at
 returns-then-p-gt17 c = simp (c.of-then-p-gt17.ensures, le-leb _ _ c.if-p-lt17.false, lt-leb _ _ c.if-p-gt17.true)
 
-pub returns : goal.returns
+-- the length fits: what is left is the IMEI
+read : (p : List ℕ) {r : Answer ℕ} → 17 ≤ length p → length p ≤ 17 → r ≡ told 0 (read_imei p 0) → r ≡ read_login p
 unfolding read_login check_at
-returns c = simp (c.read_imei.ensures, le-leb _ _ c.if-p-lt17.false, le-leb _ _ c.if-p-gt17.false)
+read p low high e = simp (e, le-leb _ _ low, le-leb _ _ high)
+
+pub returns-in-Ok : goal.returns-in-Ok
+returns-in-Ok c = sym c.in-Ok.is ∙ read c.args.p.now c.if-p-lt17.false c.if-p-gt17.false c.read_imei.ensures
+
+pub returns-in-Err : goal.returns-in-Err
+returns-in-Err c = sym c.in-Err.is ∙ read c.args.p.now c.if-p-lt17.false c.if-p-gt17.false c.read_imei.ensures

@@ -27,10 +27,20 @@ returns-in-Err c =
     form-refused args.limits.longest d _ args.f.now (get_d-bytes d (λ k. (c.type_inv.d k).fits)) c.requires.0 c.requires.2 (sym (c.in-Err.is) ∙ c.form_of_field.ensures.answer)
     ∙ sym (ap (λ r. has_form r args.f.now) (form-within args.limits d c.if-limits-d.false))
 
-pub returns-in-Ok : goal.returns-in-Ok
-returns-in-Ok c =
+pub returns-then-eq : goal.returns-then-eq
+returns-then-eq c =
     let args = c.args in
     let d = args.d.now in
-    c.eq.ensures
+    sym c.if-eq.true
+    ∙ c.eq.ensures
+    ∙ form-written (form_of_field args.limits.longest d) _ _ args.f.now (sym (c.in-Ok.is) ∙ c.form_of_field.ensures.answer) c.form_of_field.ensures.buffer
+    ∙ sym (ap (λ r. has_form r args.f.now) (form-within args.limits d c.if-limits-d.false))
+
+pub returns-else-eq : goal.returns-else-eq
+returns-else-eq c =
+    let args = c.args in
+    let d = args.d.now in
+    sym c.if-eq.false
+    ∙ c.eq.ensures
     ∙ form-written (form_of_field args.limits.longest d) _ _ args.f.now (sym (c.in-Ok.is) ∙ c.form_of_field.ensures.answer) c.form_of_field.ensures.buffer
     ∙ sym (ap (λ r. has_form r args.f.now) (form-within args.limits d c.if-limits-d.false))
