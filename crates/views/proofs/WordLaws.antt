@@ -1,19 +1,20 @@
 -- What a loop over a line has left to read.
-use Rattle.std.proofs.Common.{◌≡◌, ℕ, zero, suc, ◌+◌, ◌-◌, ◌<◌, ◌≤◌, Bool, true, false, eqb, ◌==◌, cond, count_by, List, [], ◌∷◌, length, get_or, take, drop, sym, refl, ap, ◌∙◌, arith, drop_of_length-le, eq-eqb, ne_eqb}
-use Rattle.std.proofs.lemmas.List.Recursion.{is_count_by}
+use Rattle.std.proofs.Common.{◌≡◌, ℕ, zero, suc, ◌+◌, ◌-◌, ◌<◌, ◌≤◌, Bool, true, false, eqb, List, [], ◌∷◌, length, get_or, take, drop, sym, refl, ap, ◌∙◌, arith, drop_of_length-le, eq-eqb, ne_eqb}
 use Rattle.wire.specs.Numbers.{pick}
 use Rattle.views.specs.Words.{spaces, first_word, behind_word, word_at}
 use Rattle.text.proofs.HexLaws.{next}
 
-pub spaces-count : (s : List ℕ) → spaces s ≡ count_by (λ c. c == 32) s
-unfolding spaces
-spaces-count = is_count_by spaces (λ c. c == 32) refl (λ c s. both (c == 32) (spaces s))
-  where
-    both : (t : Bool) (n : ℕ) → pick t (1 + n) n ≡ cond t (1 + n) n
-    both true n = refl
-    both false n = refl
-
 module _ (s : List ℕ) (i : ℕ) (inside : i < length s) where
+  -- ---- spaces
+
+  pub spaces-more : get_or s i 0 ≡ 32 → spaces (drop i s) ≡ 1 + spaces (drop (i + 1) s)
+  unfolding spaces
+  spaces-more e = rw (next s i inside) (simp (eq-eqb _ _ e))
+
+  pub spaces-same : (get_or s i 0 ≡ 32 → ⊥) → spaces (drop i s) ≡ spaces (drop (i + 1) s)
+  unfolding spaces
+  spaces-same e = rw (next s i inside) (simp (ne_eqb _ _ e))
+
   -- ---- the first word, and what is behind it
 
   first-space : get_or s i 0 ≡ 32 → first_word (drop i s) ≡ []
@@ -31,6 +32,10 @@ module _ (s : List ℕ) (i : ℕ) (inside : i < length s) where
   behind-on : (get_or s i 0 ≡ 32 → ⊥) → behind_word (drop i s) ≡ behind_word (drop (i + 1) s)
   unfolding behind_word
   behind-on e = rw (next s i inside) (simp (ne_eqb _ _ e))
+
+pub spaces-done : (s : List ℕ) (i : ℕ) → length s ≤ i → spaces (drop i s) ≡ 0
+unfolding spaces
+spaces-done s i h = rw (drop_of_length-le s {i = i} h) refl
 
 -- ---- the word that starts at `start`, read up to `i`, with so many words to come before the one that is wanted
 

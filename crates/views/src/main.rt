@@ -244,7 +244,10 @@ fn turn(
     }
     let end = at.held + more;
     let done = answer_lines(rt, &buf[..end], at.place, at.cut);
-    buf.copy_within(done.held..end, 0);
+    // what is in front already stays: `copy_within` would go over it byte by byte
+    if 0 < done.held {
+        buf.copy_within(done.held..end, 0);
+    }
     Some(Progress {
         held: end - done.held,
         place: done.place,

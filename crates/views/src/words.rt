@@ -7,7 +7,14 @@ ghost use Rattle.views.specs.Words.{spaces, word_at, Counted};
 pub fn count(line: &[u8]) -> usize
     ensures { result ≡ spaces line.now + 1 }
 {
-    line.iter().filter(|c| **c == b' ').count() + 1
+    // a loop and no `filter` and `count`, which take half as many steps again for a byte
+    let mut n: usize = 1;
+    for c in line {
+        if *c == b' ' {
+            n += 1;
+        }
+    }
+    n
 }
 
 // Word `k`, counted from 0; empty if there is none. By `split` and `nth` the proof did not close: the search does not
