@@ -12,7 +12,7 @@ use Rattle.wire.specs.Envelope.{enclosed}
 use Rattle.wire.specs.Answers.{Answer, on_accepted}
 use Rattle.wire.specs.Imei.{packed}
 use Rattle.wire.proofs.Placed.{Between, between_split, between-moved, between-bytes, between_is, between-whole}
-use Rattle.wire.proofs.Accepting.{on_accepted-accepted, on_accepted-passed}
+use Rattle.wire.proofs.Accepting.{on_accepted-accepted, on_accepted-passed, first-refused}
 use Rattle.frame.specs.Frame.{framed}
 use Rattle.command.specs.declared.Layout.{Layout}
 use Rattle.command.specs.declared.CommandFields.{CommandFields}
@@ -55,12 +55,6 @@ text-stands limits p f h e =
     let size : length c.text ≡ f.size = ap (λ (x : CommandFields). x.size) fields in
     let text = text-between l c p (k.whole ∙ ap (λ (m : Layout). framed (command_field m c)) same) in
     (c, read.1, ap₂ (λ (n at : ℕ). take n (drop at p)) (sym size) (sym offset) ∙ between_is text, omega (arith, text.inside))
-
--- a refusal of two steps of which the second never refuses is one of the first
-first-refused : {A B : Type 0} (r : Answer A) (f : A → Answer B) {x : Refusal} → ((a : A) → r ≡ Ok a → (b : B) × (f a ≡ Ok b)) → on_accepted r f ≡ Err x → r ≡ Err x
-unfolding on_accepted
-first-refused (Ok a) f h e = absurd (let k = h a refl in let z : ◌≡◌ {A = ℕ} 0 1 = cc in omega arith)
-first-refused (Err y) f h e = ap Err (cc)
 
 -- a refusal is the reader's own
 pub command-refused : (limits : Limits) (p : List ℕ) {x : Refusal} → Bytes p → answer_command limits p ≡ Err x → read_command limits p ≡ Err x

@@ -12,7 +12,7 @@ use borrow.Author.Tests.{le-leb, leb-true, eq-eqb, eqb-true}
 use Rattle.wire.specs.declared.Limits.{Limits}
 use Rattle.wire.specs.declared.Refusal.{Refusal}
 use Rattle.wire.specs.Answers.{Answer, refusal, check, check_at, on_accepted}
-use Rattle.wire.proofs.Accepting.{by_length, check-accepted, check-passed, on_accepted-passed, on_accepted-refused}
+use Rattle.wire.proofs.Accepting.{by_length, check-accepted, check-passed, on_accepted-passed, on_accepted-refused, first-refused}
 use Rattle.frame.specs.Frame.{header, field_length, refusal_of}
 use Rattle.frame.proofs.FramingLaws.{whole-header}
 use Rattle.stream.specs.Stream.{Phase, for_login, for_packet, Verdict, more, settled, needed, verdict}
@@ -22,17 +22,12 @@ use Rattle.connection.proofs.PaddedLaws.{is-padded}
 
 -- ---- where what is needed is refused: the number says the place
 
-header-refused : (r : Answer ℕ) {x : Refusal} → on_accepted r (λ n. Ok (n + 12)) ≡ Err x → r ≡ Err x
-unfolding on_accepted
-header-refused (Ok n) e = absurd (let z : ◌≡◌ {A = ℕ} 0 1 = cc in omega arith)
-header-refused (Err y) {x} e = let same : y ≡ x = cc in ap Err same
-
 pub needed-unframed : (limits : Limits) (phase : Phase) (s : List ℕ) (size : ℕ) {x : Refusal} → needed limits phase s ≡ Err x → x ≡ refusal_of size x.number
 unfolding needed
 needed-unframed limits for_login s size e = absurd (let z : ◌≡◌ {A = ℕ} 0 1 = cc in omega arith)
 needed-unframed limits for_packet s size {x} e =
     by_length 8 (length s)
-    (λ h. whole-header limits.largest s size x (header-refused (header limits.largest s) (sym (needed-long limits s h) ∙ e)))
+    (λ h. whole-header limits.largest s size x (first-refused (header limits.largest s) _ (λ n r. (_, refl)) (sym (needed-long limits s h) ∙ e)))
     (λ h. absurd (let wrong : ◌≡◌ {A = Answer ℕ} (Ok 8) (Err x) = sym (needed-short limits s h) ∙ e in let z : ◌≡◌ {A = ℕ} 0 1 = cc in omega arith))
 
 -- ---- the test

@@ -1,6 +1,4 @@
 -- What a caller reads of a table is what the look-ups give, for all records and values, and nothing else is in it.
-use Rattle.avl.specs.Narrow.{Narrow}
-use Rattle.walk.proofs.WalkLaws.{narrow}
 use Rattle.std.specs.Prelude.{Err, Ok}
 use Prim.Native.Nat.{ℕ, zero, suc, ◌+◌, ◌*◌, ◌^◌, ◌≤◌, ◌<◌}
 use native.Mathlib.Nat.{pow-le-pow_right, le_trans}
@@ -23,7 +21,9 @@ use Rattle.avl.specs.Records.{Element, AvlRecord, element_bytes, element_count, 
 use Rattle.avl.specs.DataField.{AvlData, data_result}
 use Rattle.avl.specs.declared.DataResult.{DataResult}
 use Rattle.avl.proofs.DataLaws.{codec-fits}
+use Rattle.avl.specs.Narrow.{Narrow}
 use Rattle.walk.proofs.KindLaws.{KindRange, kinds-range}
+use Rattle.walk.proofs.WalkLaws.{narrow}
 use Rattle.packet.specs.DataPackets.{read_packet, answer_packet, acknowledged, tcp_acknowledgement}
 use Rattle.packet.proofs.PacketLaws.{packet-exact}
 use Rattle.packet.proofs.FieldLaws.{packet-most}

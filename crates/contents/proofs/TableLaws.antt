@@ -1,5 +1,4 @@
 -- What is written along a data field is the table of its contents.
-use Rattle.walk.proofs.WalkLaws.{narrow}
 use Rattle.std.specs.Prelude.{Err, Ok}
 use Prim.Native.Nat.{ℕ, zero, suc, ◌+◌, ◌-◌, ◌*◌, ◌≤◌}
 use native.Mathlib.Nat.{add-zero}
@@ -17,7 +16,7 @@ use Rattle.wire.specs.Answers.{Answer, on_accepted}
 use Rattle.wire.proofs.Widths.{bytes_take, bytes_drop}
 use Rattle.wire.proofs.Storing.{sets-append}
 use Rattle.wire.proofs.Exactness.{Meets, meets-weaken, meets-pure}
-use Rattle.wire.proofs.Accepting.{on_accepted-accepted, on_accepted-passed, on_accepted-refused}
+use Rattle.wire.proofs.Accepting.{on_accepted-accepted, on_accepted-passed, on_accepted-refused, first-refused}
 use Rattle.avl.specs.declared.Widths.{Widths}
 use Rattle.avl.specs.Codecs.{widths_of, kinds}
 use Rattle.avl.specs.Records.{Element, AvlRecord, element_bytes, group_bytes, record_bytes}
@@ -27,6 +26,7 @@ use Rattle.avl.specs.declared.DataResult.{DataResult}
 use Rattle.avl.proofs.Inversion.{list_read}
 use Rattle.packet.specs.DataPackets.{read_packet}
 use Rattle.avl.proofs.FieldLaws.{FieldOf}
+use Rattle.walk.proofs.WalkLaws.{narrow}
 use Rattle.packet.proofs.FieldLaws.{packet-field, packet-long}
 use Rattle.datagram.specs.declared.Header.{Header}
 use Rattle.datagram.specs.Datagrams.{Datagram, read_datagram, answer_datagram}
@@ -134,11 +134,6 @@ title-stored l a b e is f = f ∙ ap (λ (o : List ℕ). set o 1 b) (e ∙ ap (s
 
 -- ---- a packet and a datagram
 
-untold : {A B : Type 0} (r : Answer A) (f : A → B) {x : Refusal} → Err x ≡ on_accepted r (λ a. Ok (f a)) → r ≡ Err x
-unfolding on_accepted
-untold (Ok a) f e = absurd (let z : ◌≡◌ {A = ℕ} 0 1 = cc in omega arith)
-untold (Err y) f e = ap Err (cc)
-
 module _ (limits : Limits) (p : List ℕ) where
   pub packet-written : {a : AvlData} → read_packet limits p ≡ Ok a → Bytes p → {before after : List ℕ} {r : Answer ℕ}
       → Writes (field_contents no_header 10) (take (length p - 4 - 8) (drop 8 p)) before after r → Answers (contents_of_packet limits p) before after r
@@ -160,7 +155,7 @@ module _ (limits : Limits) (p : List ℕ) where
 
   pub datagram-untold : {x : Refusal} → Err x ≡ answer_datagram limits p → read_datagram limits p ≡ Err x
   unfolding answer_datagram
-  datagram-untold e = untold (read_datagram limits p) _ e
+  datagram-untold e = first-refused (read_datagram limits p) _ (λ g r. (_, refl)) (sym e)
 
   pub datagram-written : {g : Datagram} {h : Header} → read_datagram limits p ≡ Ok g → g.header ≡ h → Bytes p → {before after : List ℕ} {r : Answer ℕ}
       → Writes (field_contents h 25) (take (length p - 23) (drop 23 p)) before after r → Answers (contents_of_datagram limits p) before after r

@@ -100,21 +100,24 @@ whole-check size false number place rest k h x e =
     let same : refusal_at number place ≡ x = cc in
     subst (λ (y : Refusal). y ≡ refusal_of size y.number) same k
 
--- whatever the packet's size: the header says nothing of what stands at its end
-pub whole-header : (largest : ℕ) (p : List ℕ) (size : ℕ) → Whole size (header largest p)
+-- whatever stands behind the header
+whole-headed : {A : Type 0} (largest : ℕ) (p : List ℕ) (size : ℕ) {rest : Answer A} → Whole size rest → Whole size (headed largest p rest)
 unfolding refusal_of
-whole-header largest p size = whole-check size _ 2 0 _ refl (λ _. whole-check size _ 3 4 _ refl (λ _. whole-check size _ 3 4 _ refl (λ _. whole-accepted size _)))
+whole-headed largest p size w = whole-check size _ 2 0 _ refl (λ _. whole-check size _ 3 4 _ refl (λ _. whole-check size _ 3 4 _ refl (λ _. w)))
+
+-- of the header alone, whatever the packet's size
+pub whole-header : (largest : ℕ) (p : List ℕ) (size : ℕ) → Whole size (header largest p)
+whole-header largest p size = whole-headed largest p size (whole-accepted size _)
 
 whole-unframe : (largest : ℕ) (p : List ℕ) → Whole (length p) (unframe largest p)
 unfolding unframe refusal_of
 whole-unframe largest p =
     let n = length p in
     whole-check n _ 21 0 _ refl (λ _. whole-check n _ 1 0 _ refl
-    (λ _. whole-check n _ 2 0 _ refl (λ _. whole-check n _ 3 4 _ refl (λ _. whole-check n _ 3 4 _ refl
-    (λ _. whole-check n (eqb n (field_length p + 12)) 4 0 _ refl
+    (λ _. whole-headed largest p n (whole-check n (eqb n (field_length p + 12)) 4 0 _ refl
     (λ e. let long : n ≡ field_length p + 12 = eqb-true _ _ e in
     let last : 8 + field_length p ≡ n - 4 = omega arith in
-    whole-check n _ 5 _ _ (ap (refusal_at 5) last) (λ _. whole-accepted n _)))))))
+    whole-check n _ 5 _ _ (ap (refusal_at 5) last) (λ _. whole-accepted n _)))))
 
 framing-refused : (r : Answer (List ℕ)) {x : Refusal} → framing r ≡ Err x → r ≡ Err x
 unfolding framing

@@ -1,5 +1,4 @@
 -- The line of a record keeps the rules of lines, so that a packet's line is read again; and what a line tells of a record.
-use Rattle.walk.proofs.WalkLaws.{narrow}
 use Rattle.std.specs.Prelude.{Err, Ok}
 use Prim.Native.Nat.{ℕ, ◌+◌, ◌^◌, ◌≤◌, ◌<◌}
 use native.Mathlib.Nat.{pow-le-pow_right, le_trans}
@@ -22,6 +21,7 @@ use Rattle.avl.specs.declared.Widths.{Widths}
 use Rattle.avl.specs.Codecs.{widths_of, kinds}
 use Rattle.avl.specs.Records.{Element, AvlRecord, element_bytes, group_bytes, ValueSize, ElementRules, GroupsRules, RecordRules}
 use Rattle.walk.proofs.KindLaws.{KindRange, kinds-range}
+use Rattle.walk.proofs.WalkLaws.{narrow}
 use Rattle.element.specs.Elements.{Located, locate_group, locate_groups, elements}
 use Rattle.lookup.specs.Places.{Placed}
 use Rattle.lookup.specs.Lookups.{Source, tcp_source, udp_source, placed_record, of_record}

@@ -1,6 +1,4 @@
 -- The last record of a packet, and the last known value.
-use Rattle.avl.specs.Narrow.{Narrow}
-use Rattle.walk.proofs.WalkLaws.{narrow}
 use Rattle.std.specs.Prelude.{Err, Ok}
 use Prim.Native.Nat.{ℕ, ◌+◌, ◌-◌, ◌%◌, ◌^◌, ◌≤◌, ◌<◌}
 use native.Mathlib.Nat.{lt_of_lt_of_le, pow-le-pow_right}
@@ -21,6 +19,8 @@ use Rattle.avl.specs.declared.Widths.{Widths}
 use Rattle.avl.specs.Codecs.{widths_of}
 use Rattle.avl.specs.Records.{AvlRecord, element_count, record_bytes, RecordRules}
 use Rattle.avl.specs.DataField.{data_bytes}
+use Rattle.avl.specs.Narrow.{Narrow}
+use Rattle.walk.proofs.WalkLaws.{narrow}
 use Rattle.frame.specs.Frame.{framed}
 use Rattle.frame.proofs.FrameLaws.{length-framed}
 use Rattle.packet.specs.DataPackets.{packet_bytes, read_packet}

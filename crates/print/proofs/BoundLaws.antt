@@ -1,6 +1,4 @@
 -- How long lines can be: four characters for each byte of the record, of the data field, of the packet.
-use Rattle.avl.specs.Narrow.{Narrow}
-use Rattle.walk.proofs.WalkLaws.{narrow}
 use Rattle.std.specs.Prelude.{Ok}
 use Prim.Native.Nat.{ℕ, zero, suc, ◌+◌, ◌-◌, ◌*◌, ◌≤◌}
 use native.Mathlib.Omega.{arith}
@@ -22,6 +20,8 @@ use Rattle.avl.specs.DataField.{AvlData, read_data}
 use Rattle.avl.proofs.Inversion.{record-read, plain_size}
 use Rattle.avl.proofs.RecordLaws.{groups-exact}
 use Rattle.avl.proofs.FieldLaws.{FieldOf}
+use Rattle.avl.specs.Narrow.{Narrow}
+use Rattle.walk.proofs.WalkLaws.{narrow}
 use Rattle.packet.specs.DataPackets.{read_packet}
 use Rattle.packet.proofs.FieldLaws.{packet-field}
 use Rattle.datagram.specs.Datagrams.{read_datagram}

@@ -1,5 +1,4 @@
 -- Writing lines: that of a record, and those of a packet or a datagram.
-use Rattle.walk.proofs.WalkLaws.{narrow}
 use Rattle.std.specs.Prelude.{Err, Ok}
 use Rattle.lookup.specs.declared.Part.{Part}
 use Prim.Native.Nat.{ℕ, ◌+◌, ◌-◌, ◌*◌, ◌^◌, ◌<◌}
@@ -22,6 +21,7 @@ use Rattle.avl.specs.Codecs.{widths_of}
 use Rattle.avl.specs.Records.{AvlRecord}
 use Rattle.avl.specs.RecordReader.{plain_record}
 use Rattle.avl.specs.DataField.{AvlData}
+use Rattle.walk.proofs.WalkLaws.{narrow}
 use Rattle.packet.specs.DataPackets.{read_packet}
 use Rattle.packet.proofs.FieldLaws.{packet-field, packet-most}
 use Rattle.datagram.specs.Datagrams.{Datagram, read_datagram}

@@ -188,6 +188,12 @@ form-written result before after f {n} e k =
     let left = k ∙ ap (λ r. leaving r before) g.1 ∙ leaving-done g.0 before (omega (arith, g.2, g.3)) in
     same-bytes (take n after) f ∙ ap (λ (x : List ℕ). same (take n x) f) left ∙ ap (λ (x : List ℕ). same x f) (take_at g.0 _ n (omega (arith, g.2))) ∙ sym (ap (λ r. has_form r f) g.1)
 
+-- the same of a data field within its limit
+pub form-compared : (limits : Limits) (d f before after : List ℕ) {n : ℕ} → length d + 12 ≤ limits.largest
+    → Ok n ≡ writing (form_of_field limits.longest d) before → after ≡ leaving (form_of_field limits.longest d) before
+    → bytes_eq (take n after) f ≡ has_form (form_within limits d) f
+form-compared limits d f before after h e k = form-written (form_of_field limits.longest d) before after f e k ∙ sym (ap (λ r. has_form r f) (form-within limits d h))
+
 -- ---- the answer
 
 pub answers-refused : {result : Answer (List ℕ)} {out : List ℕ} {r : Answer ℕ} {number : ℕ} → result ≡ Err (refusal number) → r ≡ Err (refusal number) → Answers result out out r

@@ -52,6 +52,12 @@ pub on_accepted-passed : {A B : Type 0} (r : Answer A) (f : A → Answer B) {a :
 unfolding on_accepted
 on_accepted-passed r f e = ap (λ x. on_accepted x f) e
 
+-- a refusal of two steps of which the second never refuses is one of the first
+pub first-refused : {A B : Type 0} (r : Answer A) (f : A → Answer B) {x : Refusal} → ((a : A) → r ≡ Ok a → (b : B) × (f a ≡ Ok b)) → on_accepted r f ≡ Err x → r ≡ Err x
+unfolding on_accepted
+first-refused (Ok a) f h e = absurd (let k = h a refl in let z : ◌≡◌ {A = ℕ} 0 1 = cc in omega arith)
+first-refused (Err y) f h e = ap Err (cc)
+
 pub told-accepted : {A : Type 0} (base : ℕ) (r : Read A) {a : A} → told base r ≡ Ok a → (n : ℕ) × (r ≡ got a n)
 unfolding told
 told-accepted base (got b n) e = (n, ap (λ x. got x n) (cc))

@@ -1,4 +1,4 @@
-use Rattle.rebuild.proofs.CandidateLaws.{form-over, form-within, form-refused, form-written}
+use Rattle.rebuild.proofs.CandidateLaws.{form-over, form-within, form-refused, form-compared}
 use Rattle.rebuild.specs.Candidates.{has_form}
 use Rattle.form.specs.Moves.{form_of_field}
 use Rattle.wire.proofs.Widths.{get_d-bytes}
@@ -30,17 +30,13 @@ returns-in-Err c =
 pub returns-then-eq : goal.returns-then-eq
 returns-then-eq c =
     let args = c.args in
-    let d = args.d.now in
     sym c.if-eq.true
     ∙ c.eq.ensures
-    ∙ form-written (form_of_field args.limits.longest d) _ _ args.f.now (sym (c.in-Ok.is) ∙ c.form_of_field.ensures.answer) c.form_of_field.ensures.buffer
-    ∙ sym (ap (λ r. has_form r args.f.now) (form-within args.limits d c.if-limits-d.false))
+    ∙ form-compared args.limits args.d.now args.f.now _ _ c.if-limits-d.false (sym (c.in-Ok.is) ∙ c.form_of_field.ensures.answer) c.form_of_field.ensures.buffer
 
 pub returns-else-eq : goal.returns-else-eq
 returns-else-eq c =
     let args = c.args in
-    let d = args.d.now in
     sym c.if-eq.false
     ∙ c.eq.ensures
-    ∙ form-written (form_of_field args.limits.longest d) _ _ args.f.now (sym (c.in-Ok.is) ∙ c.form_of_field.ensures.answer) c.form_of_field.ensures.buffer
-    ∙ sym (ap (λ r. has_form r args.f.now) (form-within args.limits d c.if-limits-d.false))
+    ∙ form-compared args.limits args.d.now args.f.now _ _ c.if-limits-d.false (sym (c.in-Ok.is) ∙ c.form_of_field.ensures.answer) c.form_of_field.ensures.buffer
